@@ -3,6 +3,7 @@ mod Faults
 mod Files
 mod Joined
 mod Origins
+mod Counted
 mod Within
 mod Seen
 mod Once

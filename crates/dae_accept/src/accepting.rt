@@ -9,8 +9,9 @@ ghost use Rattle.dae_accept.specs.Checked.{Checks};
 ghost use Rattle.dae_accept.specs.Origins.{IsOfFiles};
 
 use crate::error::CompileError;
-use crate::read_files;
+use crate::{read_are_within, read_files};
 use dae_program::Program;
+use dae_sizes::functions_are_counted;
 use dae_tree::File;
 use dae_types::check;
 use dae_types_kinds::CheckError;
@@ -57,6 +58,8 @@ pub fn accept(alloc: Global, texts: &[Vec<u8>], memory: u32) -> Result<Program, 
     ensures files { IfOk result (IsOfFiles (texts_in texts.now)) }
     ensures refused { IfErr result (IsRefusedFor (texts_in texts.now) memory) }
 {
+    read_are_within();
+    functions_are_counted();
     let files = read_files(alloc, texts)?;
     see_files(files.as_slice());
     let typed = check_files(alloc, files.as_slice())?;

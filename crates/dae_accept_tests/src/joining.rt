@@ -4,7 +4,7 @@ use dae_accept::{CompileError, accept};
 use dae_base::Place;
 use dae_program::Program;
 use dae_unit::JoinError;
-use std::alloc::Global;
+use std::alloc::{AllocError, Global};
 
 /// The longest text.
 const LONGEST: usize = 1_048_576;
@@ -18,14 +18,19 @@ fn at(file: u16, line: u32, col: u32) -> Place {
 }
 
 /// What two files come to in a memory of 1,048,576 bytes.
-fn both(alloc: Global, first: &[u8], second: &[u8]) -> Result<Program, CompileError> {
+fn both(alloc: Global, first: &[u8], second: &[u8]) -> Result<Box<Program>, CompileError> {
     if first.len() > LONGEST || second.len() > LONGEST {
         return Err(CompileError::Memory);
     }
     let mut texts = Vec::new(alloc);
     texts.push(Vec::from_slice(alloc, first)?)?;
     texts.push(Vec::from_slice(alloc, second)?)?;
-    accept(alloc, texts.as_slice(), 1_048_576)
+    let program = accept(alloc, texts.as_slice(), 1_048_576)?;
+    Ok(boxed(alloc, program)?)
+}
+
+fn boxed(alloc: Global, program: Program) -> Result<Box<Program>, AllocError> {
+    Ok(Box::new(alloc, program)?)
 }
 
 /// Whether two files don't join, for this cause.

@@ -4,11 +4,11 @@
 use dae_base::Place;
 use dae_lex::tokens;
 use dae_parse::parse;
-use dae_tree::Room;
+use dae_tree::{File, Room};
 use dae_types::{align_of, check, member, size_of};
 use dae_types_kinds::{CheckError, Rule};
 use dae_types_typed::TypedFile;
-use std::alloc::Global;
+use std::alloc::{AllocError, Global};
 use std::process::Abort;
 
 /// A text, the rule that it breaks, and the line and column where.
@@ -655,18 +655,35 @@ fn whole_room() -> Room {
     }
 }
 
-/// What the check of a text's types answers; none where it has no tokens, or they have no tree.
-fn check_text(alloc: Global, text: &[u8]) -> Option<Result<TypedFile, CheckError>> {
+/// The value in a box, so that a function that holds it lets it go by one call.
+fn boxed<T: Drop>(alloc: Global, value: T) -> Result<Box<T>, AllocError> {
+    Ok(Box::new(alloc, value)?)
+}
+
+/// The tree of a text, if it has one.
+fn tree_of(alloc: Global, text: &[u8]) -> Option<Box<File>> {
     if text.len() > 1_048_576 {
         return None;
     }
     let Ok(tokens) = tokens(alloc, 0, text, &mut whole_room()) else {
         return None;
     };
-    let Ok(file) = parse(alloc, &tokens) else {
-        return None;
-    };
-    Some(check(alloc, &file))
+    match parse(alloc, &tokens) {
+        Ok(file) => boxed(alloc, file).ok(),
+        Err(_) => None,
+    }
+}
+
+/// What the check of a text's types answers; none where it has no tokens, or they have no tree.
+fn check_text(alloc: Global, text: &[u8]) -> Option<Result<Box<TypedFile>, CheckError>> {
+    let file = tree_of(alloc, text)?;
+    match check(alloc, &file) {
+        Ok(typed) => match boxed(alloc, typed) {
+            Ok(typed) => Some(Ok(typed)),
+            Err(_) => None,
+        },
+        Err(error) => Some(Err(error)),
+    }
 }
 
 /// Whether it is told that a text breaks this rule here.
@@ -740,23 +757,29 @@ fn near_misses_are_taken(rt: HostRuntime) {
     check_unbroken(&rt, rt.alloc(), unbroken());
 }
 
+/// A structure of a char, an int and a short is laid out so. Names are numbered as they come in the text.
+fn check_layout(rt: &impl Abort, file: &TypedFile, type_id: usize) {
+    assert_eq!(rt; size_of(file, type_id), Some(12));
+    assert_eq!(rt; align_of(file, type_id), Some(4));
+    assert_eq!(rt; offset_of(file, type_id, 1), Some(0));
+    assert_eq!(rt; offset_of(file, type_id, 2), Some(4));
+    assert_eq!(rt; offset_of(file, type_id, 3), Some(8));
+    assert_eq!(rt; offset_of(file, type_id, 4), None);
+}
+
+/// The only object of the file has that structure's type.
+fn check_layouts(rt: &impl Abort, file: &TypedFile) {
+    assert_eq!(rt; file.parts().objects.len(), 1);
+    for object in file.parts().objects.as_slice() {
+        check_layout(rt, file, object.type_id);
+    }
+}
+
 #[test]
 fn a_structure_has_room_between_its_members_and_at_its_end(rt: HostRuntime) {
     let text = b"struct s{char c;int n;short h;}x;";
     match check_text(rt.alloc(), text) {
-        Some(Ok(file)) => {
-            assert_eq!(rt; file.parts().objects.len(), 1);
-            for object in file.parts().objects.as_slice() {
-                let type_id = object.type_id;
-                assert_eq!(rt; size_of(&file, type_id), Some(12));
-                assert_eq!(rt; align_of(&file, type_id), Some(4));
-                // names are numbered as they come in the text
-                assert_eq!(rt; offset_of(&file, type_id, 1), Some(0));
-                assert_eq!(rt; offset_of(&file, type_id, 2), Some(4));
-                assert_eq!(rt; offset_of(&file, type_id, 3), Some(8));
-                assert_eq!(rt; offset_of(&file, type_id, 4), None);
-            }
-        }
+        Some(Ok(file)) => check_layouts(&rt, &file),
         _ => assert!(rt; false),
     }
 }

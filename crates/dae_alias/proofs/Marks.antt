@@ -30,6 +30,7 @@ use Rattle.dae_alias.specs.Reuse.{held_in, still_held, is_load, loads_in, known_
 use Rattle.dae_alias.specs.Turning.{held_after, Passes}
 use Rattle.dae_alias.specs.Marking.{marked, IsAt, repeated_from, Marks, MarksAll}
 use Rattle.dae_alias.proofs.Facts.{if_some, eq_refl}
+use Rattle.dae_alias.proofs.Sets.{begun_once, met_once, passed_once}
 use Rattle.dae_alias.proofs.Turns.{drop_one, loads_behind}
 
 -- ---- lists of marks
@@ -128,6 +129,7 @@ pass_marks place item old new marks no' p at = record {
     count = at.count ∙ sym p.loads;
     met = rw (p.loads, p.held) (met_after old.loads (known_in old) (held_by old) item at.met);
   };
+  once = passed_once (known_in old) (known_in new) item p.known;
 }
 
 -- ---- a load
@@ -163,6 +165,7 @@ module _ (place : Place) (v : ℕ) (kind : LoadKind) (x : Operand) (old new : Wa
       count = (let a = at.count in let b = m.loads in omega (arith, a, b, longer));
       met = rw (one_more, m.held) (met_behind given);
     };
+    once = met_once (known_in old) (known_in new) v given m.known;
   }
 
   -- it repeats none
@@ -218,6 +221,7 @@ module _ (old new : Walk) (marks marks' marks'' : List Bool) (ps qs : List State
     told = λ i k. told i k ∙ ap (λ (r : Bool). marked marks i || r) (sym (is i k));
     loads = (let a = total in omega (arith, a, sum));
     at = at_end;
+    once = begun_once (known_in old) (known_in new) known;
   }
 
 pub if_marks : (old new : Walk) (marks marks' marks'' : List Bool) (taken other : Vec Statement Global) → MarksAll taken.items marks marks' → MarksAll other.items marks' marks''

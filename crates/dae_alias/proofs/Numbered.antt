@@ -1,5 +1,6 @@
 -- Variables for the loads that are marked.
-use Rattle.std.proofs.Common.{◌≡◌, ℕ, zero, suc, ◌+◌, ◌<◌, ◌≤◌, Bool, true, false, List, [], ◌∷◌, ◌++◌, length, take, get_or, Option, Some, None, refl, ap, sym, ◌∙◌, arith}
+use Rattle.std.proofs.Common.{◌≡◌, ℕ, zero, suc, ◌+◌, ◌^◌, ◌<◌, ◌≤◌, Bool, true, false, List, [], ◌∷◌, ◌++◌, length, take, get_or, Option, Some, None, refl, ap, sym, ◌∙◌, arith}
+use Rattle.std.proofs.lemmas.List.{length-take-le}
 use Rattle.dae_alias.specs.Laws.{sum_from, one}
 use Rattle.dae_alias.specs.Marking.{marked}
 use Rattle.dae_alias.specs.Reuse.{bit}
@@ -40,6 +41,15 @@ numbered_next n xs i d x hs hs' v v' lt is so_far longer more =
       holders_are = longer ∙ rw (so_far.holders_are, so_far.variables_are, split) (sym (numbered_end n (take i xs) x));
       variables_are = more ∙ rw (so_far.variables_are, split, marks_end (take i xs) x) (omega arith);
     }
+
+few_marks : (xs : List Bool) → marks_in xs ≤ length xs
+few_marks [] = omega arith
+few_marks (true ∷ xs) = let h = few_marks xs in omega (arith, h)
+few_marks (false ∷ xs) = let h = few_marks xs in omega (arith, h)
+
+pub room_for_one : (n : ℕ) (xs : List Bool) (i v : ℕ) → i < length xs → v ≡ n + marks_in (take i xs) → n + length xs < 2 ^ 32 → v + 1 < 2 ^ 32
+room_for_one n xs i v lt is room =
+    let few = few_marks (take i xs) in let l = length-take-le i xs (omega (arith, lt)) in omega (arith, lt, is, room, few, l)
 
 -- ---- what the table has
 

@@ -431,7 +431,7 @@ module _ (functions : List Function) (old new : ℕ → VariableSet) (own : ℕ 
 
 -- ---- smaller sets
 
-bit_within : (b c : Bool) → (b ≡ true → c ≡ true) → bit b ≤ bit c
+pub bit_within : (b c : Bool) → (b ≡ true → c ≡ true) → bit b ≤ bit c
 bit_within true c h = rw (h refl) (omega arith)
 bit_within false c h = omega arith
 
@@ -440,10 +440,10 @@ module _ (c d : VariableSet) (inside : IsWithin c d) where
   has_within (Variable v) h = inside v h
   has_within (Number k) h = refl
 
-  test_within : (t : Test) → is_by_a c t ≡ true → is_by_a d t ≡ true
+  pub test_within : (t : Test) → is_by_a c t ≡ true → is_by_a d t ≡ true
   test_within t h = let p = and_parts (has c t.left) (has c t.right) h in and_both _ _ (has_within t.left p.0) (has_within t.right p.1)
 
-  load_within : (item : Item) → is_load_into c item ≡ true → is_load_into d item ≡ true
+  pub load_within : (item : Item) → is_load_into c item ≡ true → is_load_into d item ≡ true
   load_within (Assign v x) h = h
   load_within (Load v kind x) h = inside v h
   load_within (Store width x y) h = h
@@ -455,7 +455,7 @@ module _ (c d : VariableSet) (inside : IsWithin c d) where
   load_within (Return x) h = h
   load_within (Halt x) h = h
 
-tally_within : (a b : Item → ℕ) (c d : Test → ℕ) → ((item : Item) → a item ≤ b item) → ((t : Test) → c t ≤ d t) → (code : Form) → tally a c code ≤ tally b d code
+pub tally_within : (a b : Item → ℕ) (c d : Test → ℕ) → ((item : Item) → a item ≤ b item) → ((t : Test) → c t ≤ d t) → (code : Form) → tally a c code ≤ tally b d code
 tally_within a b c d h k Done = omega arith
 tally_within a b c d h k (Do place item code) = let x = h item in let y = tally_within a b c d h k code in omega (arith, x, y)
 tally_within a b c d h k (If place t p q code) =

@@ -1,5 +1,5 @@
 -- Statements are turned one after the other.
-use Rattle.std.proofs.Common.{◌≡◌, ℕ, zero, suc, ◌+◌, ◌<◌, ◌≤◌, List, [], ◌∷◌, ◌++◌, length, drop, get_or, refl, ap, sym, ◌∙◌, arith}
+use Rattle.std.proofs.Common.{◌≡◌, ℕ, zero, suc, ◌+◌, ◌^◌, ◌<◌, ◌≤◌, List, [], ◌∷◌, ◌++◌, length, drop, get_or, refl, ap, sym, ◌∙◌, arith}
 use Rattle.std.specs.Prelude.{Vec}
 use Rattle.std.specs.declared.alloc.Global.{Global}
 use Rattle.dae_base.specs.declared.Place.{Place}
@@ -101,3 +101,20 @@ turns_behind h s old new out xs out' e t = record {
   written = λ k. ap (λ (ys : List Statement). onto ys (reused_from h new k)) e ∙ onto_both out xs (reused_from h new k) ∙ ap (λ (c : Form). onto out c) (t.written k);
   loads = t.loads;
 }
+
+-- ---- room for the loads
+
+-- where there is room for all loads there is room for those of a statement, behind those before it
+pub room_for_turn : (h : Holders) (l : ℕ) (ss : List Statement) (i : ℕ) (s : Statement) (w : Walk) (out : List Statement) → i < length ss → s ≡ get_or ss i s → Turned h l ss i w out
+    → l + loads_in (form_of ss) < 2 ^ 64 → w.loads + loads_in (before s Done) < 2 ^ 64
+room_for_turn h l ss i s w out lt is so_far room =
+    let split : form_of (drop i ss) ≡ before s (form_of (drop (i + 1) ss)) = ap form_of (drop_one ss i s lt) ∙ ap (λ (z : Statement). before z (form_of (drop (i + 1) ss))) (sym is) in
+    let b = so_far.count in let c = ap loads_in split in let d = loads_behind s (form_of (drop (i + 1) ss)) in omega (arith, room, b, c, d)
+
+pub loads_of_if : (place : Place) (test : Test) (yes no' : Vec Statement Global) → loads_in (before (statement.If place test yes no') Done) ≡ loads_in (form_of yes.items) + loads_in (form_of no'.items)
+loads_of_if place test yes no' =
+    let e : loads_in (before (statement.If place test yes no') Done) ≡ loads_in (If place test (form_of yes.items) (form_of no'.items) Done) = ap loads_in (before_if place test yes no' Done) in omega (arith, e)
+
+pub loads_of_loop : (place : Place) (body step : Vec Statement Global) → loads_in (before (statement.Loop place body step) Done) ≡ loads_in (form_of body.items) + loads_in (form_of step.items)
+loads_of_loop place body step =
+    let e : loads_in (before (statement.Loop place body step) Done) ≡ loads_in (Loop place (form_of body.items) (form_of step.items) Done) = ap loads_in (before_loop place body step Done) in omega (arith, e)

@@ -1,5 +1,7 @@
 -- Whole functions and forms whose loads are reused.
-use Rattle.std.proofs.Common.{◌≡◌, ℕ, ◌+◌, Bool, List, [], ◌∷◌, ◌++◌, Option, refl, ap, sym, ◌∙◌, arith}
+use Rattle.std.proofs.Common.{◌≡◌, ℕ, ◌+◌, Bool, false, ◌&&◌, List, [], ◌∷◌, ◌++◌, Option, refl, ap, sym, ◌∙◌, arith}
+use Rattle.std.specs.List.{list_all}
+use Rattle.dae_base.proofs.Laws.{and_false}
 use Rattle.dae_ir.specs.Form.{form_of}
 use Rattle.dae_ir.specs.declared.form.Statement.{Statement}
 use Rattle.dae_ir.specs.declared.form.Function.{Function}
@@ -8,7 +10,7 @@ use Rattle.dae_alias.specs.declared.turning.Part.{Part}
 use Rattle.dae_alias.specs.Stretches.{nothing}
 use Rattle.dae_alias.specs.Reuse.{reused}
 use Rattle.dae_alias.specs.Laws.{sum_from, one}
-use Rattle.dae_alias.specs.Forms.{IsReusedFunction, AreReused}
+use Rattle.dae_alias.specs.Forms.{IsReusedFunction, AreReused, is_reusable}
 use Rattle.dae_alias.specs.Turning.{holders_of, IsTurned}
 use Rattle.dae_alias.specs.Marking.{AreRepeated}
 use Rattle.dae_alias.specs.Tables.{numbered, IsTable}
@@ -39,3 +41,12 @@ reused_push [] [] f g a r = (r, tt)
 reused_push [] (y ∷ ys) f g a r = absurd a
 reused_push (x ∷ xs) [] f g a r = absurd a
 reused_push (x ∷ xs) (y ∷ ys) f g a r = (a.0, reused_push xs ys f g a.1 r)
+
+-- ---- a function with too many variables among those that are left
+
+pub many_first : (fs gs : List Function) (f : Function) → fs ≡ f ∷ gs → is_reusable f ≡ false → list_all is_reusable fs ≡ false
+many_first fs gs f is none = ap (λ (xs : List Function). list_all is_reusable xs) is ∙ ap (λ (b : Bool). b && list_all is_reusable gs) none
+
+pub many_later : (fs gs : List Function) (f : Function) → fs ≡ f ∷ gs → list_all is_reusable gs ≡ false → list_all is_reusable fs ≡ false
+many_later fs gs f is none =
+    ap (λ (xs : List Function). list_all is_reusable xs) is ∙ ap (λ (b : Bool). is_reusable f && b) none ∙ and_false (is_reusable f)

@@ -1,5 +1,5 @@
 -- Whole forms whose loads are reused: what `reuse` gives.
-use Rattle.std.specs.Prelude.{◌≡◌, ℕ, ◌+◌, ◌^◌, ◌≤◌, List, [], ◌∷◌, length, slice_get, Some}
+use Rattle.std.specs.Prelude.{◌≡◌, ℕ, ◌+◌, ◌^◌, ◌≤◌, Bool, nat_lt, List, [], ◌∷◌, length, slice_get, Some}
 use Rattle.std.specs.List.{AllByRecursion}
 use Rattle.dae_meaning.specs.Alike.{Alike}
 use Rattle.dae_ir.specs.Form.{form_of}
@@ -12,7 +12,7 @@ use Rattle.dae_ir.specs.declared.form.Function.{Function}
 use Rattle.dae_ir.specs.declared.form.Ir.{Ir}
 use Rattle.dae_ir.specs.declared.stream.Class.{Class}
 use Rattle.dae_alias.specs.Stretches.{nothing, HasNoSecond}
-use Rattle.dae_alias.specs.Reuse.{Holders, reused}
+use Rattle.dae_alias.specs.Reuse.{Holders, loads_in, reused}
 use Rattle.dae_alias.specs.Laws.{Cheaper, SameResult, AreWithin, HasRepeated, HasOnlyRepeated, own_variables}
 
 -- g is f with its loads reused: just the loads that are repeated have variables of their own, which are new
@@ -27,6 +27,10 @@ pub record IsReusedFunction (f g : Function) : Type 0 where
   pub apart : (i j u : ℕ) → holders i ≡ Some u → holders j ≡ Some u → i ≡ j
   pub repeated : HasRepeated holders (form_of f.body)
   pub only : HasOnlyRepeated holders (form_of f.body)
+
+-- words number the variables of a function, and one more for each load
+abbrev pub is_reusable : Function → Bool
+is_reusable f = nat_lt (f.variables + loads_in (form_of f.body)) (2 ^ 32)
 
 abbrev pub AreReused : List Function → List Function → Type 0
 AreReused [] [] = Unit {0}

@@ -7,7 +7,7 @@ use Rattle.dae_ir.specs.declared.form.Statement.{Statement}
 use Rattle.dae_alias.specs.declared.held.Held.{Held}
 use Rattle.dae_alias.specs.declared.walking.Walk.{Walk}
 use Rattle.dae_alias.specs.Meeting.{known_in, held_by}
-use Rattle.dae_alias.specs.Stretches.{nothing}
+use Rattle.dae_alias.specs.Stretches.{nothing, IsSetOnceMore}
 use Rattle.dae_alias.specs.Reuse.{loads_in, is_repeated}
 
 -- whether load number i is marked
@@ -30,6 +30,7 @@ pub record Marks (s : Statement) (old new : Walk) (marks marks' : List Bool) : T
       ≡ (marked marks i || repeated_from i old (before s k))
   pub loads : new.loads ≡ old.loads + loads_in (before s Done)
   pub at : IsAt new marks'
+  pub once : IsSetOnceMore (known_in old) (known_in new)
 
 -- a list of statements is met, which begins and ends a stretch
 pub record MarksAll (ss : List Statement) (marks marks' : List Bool) : Type 0 where

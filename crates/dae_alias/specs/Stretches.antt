@@ -2,7 +2,7 @@
 -- one list of statements. In it the symbolic address of an operand follows, back to the stretch's start, the assignments that
 -- copy, that add or subtract a number, or that give an address in the frame. It ends at a number, at the frame, or at a variable
 -- with the number of times that it was set since that start.
-use Rattle.std.specs.Prelude.{◌≡◌, ℕ, ◌+◌, ◌-◌, ◌^◌, Bool, false, ◌&&◌, ◌||◌, nat_eq, if◌then◌else◌, Option, Some, None}
+use Rattle.std.specs.Prelude.{◌≡◌, ℕ, ◌+◌, ◌-◌, ◌^◌, ◌≤◌, ◌<◌, Bool, false, ◌&&◌, ◌||◌, nat_eq, if◌then◌else◌, Option, Some, None}
 use Rattle.dae_base.specs.Words.{plus, width_of}
 use Rattle.dae_base.specs.declared.LoadKind.{LoadKind}
 use Rattle.dae_ir.specs.Code.{Done, Do, If, Loop}
@@ -56,6 +56,14 @@ set s v x = record {
   value = λ u. if nat_eq u v then given s v x else s.value u;
   times = λ u. if nat_eq u v then s.times u + 1 else s.times u;
 }
+
+-- a count of 64 bits has room for one more set of each variable
+abbrev pub IsSetSeldom : Known → Type 0
+IsSetSeldom s = (v : ℕ) → s.times v + 1 < 2 ^ 64
+
+-- each variable was set at most once more
+abbrev pub IsSetOnceMore : Known → Known → Type 0
+IsSetOnceMore s t = (v : ℕ) → t.times v ≤ s.times v + 1
 
 -- behind an item; one that stands in no stretch ends it
 abbrev pub after : Known → Item → Known

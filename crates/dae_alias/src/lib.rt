@@ -4,6 +4,7 @@
 #![tactic(auto)]
 
 pub use addresses::{Base, Relation, SymAddr};
+pub use errors::ReuseError;
 pub use relations::relation;
 pub use reusing::reuse;
 pub use theorems::{
@@ -12,6 +13,7 @@ pub use theorems::{
 };
 
 mod addresses;
+mod errors;
 mod held;
 mod marking;
 mod relations;

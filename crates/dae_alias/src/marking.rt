@@ -3,6 +3,8 @@
 ghost use Rattle.std.specs.Prelude.{OnOk, IfOk};
 ghost use Rattle.dae_base.specs.declared.Place.{Place};
 ghost use Rattle.dae_alias.specs.Marking.{IsAt, Marks, MarksAll, AreRepeated};
+ghost use Rattle.dae_alias.specs.Meeting.{known_in};
+ghost use Rattle.dae_alias.specs.Stretches.{IsSetSeldom};
 ghost use Rattle.dae_ir.specs.declared.form.Statement.TheVariants.{Simple};
 ghost use Rattle.dae_ir.specs.declared.form.Item.TheVariants as item;
 
@@ -19,7 +21,8 @@ fn mark_load(
     kind: LoadKind,
     x: Operand,
 ) -> Result<(), AllocError>
-    requires { IsAt walk.old marks.old.items }
+    requires at { IsAt walk.old marks.old.items }
+    requires seldom { IsSetSeldom (known_in walk.old) }
     ensures { OnOk result
         ((place : Place)
         → Marks (Simple place (item.Load variable kind x)) walk.old walk.new marks.old.items
@@ -39,7 +42,8 @@ fn mark_item(
     walk: &mut Walk,
     item: &Item,
 ) -> Result<(), AllocError>
-    requires { IsAt walk.old marks.old.items }
+    requires at { IsAt walk.old marks.old.items }
+    requires seldom { IsSetSeldom (known_in walk.old) }
     ensures { OnOk result
         ((place : Place)
         → Marks (Simple place item.now) walk.old walk.new marks.old.items marks.new.items) }
@@ -74,7 +78,8 @@ fn mark_statement(
     walk: &mut Walk,
     statement: &Statement,
 ) -> Result<(), AllocError>
-    requires { IsAt walk.old marks.old.items }
+    requires at { IsAt walk.old marks.old.items }
+    requires seldom { IsSetSeldom (known_in walk.old) }
     ensures { OnOk result
         (Marks statement.now walk.old walk.new marks.old.items marks.new.items) }
 {

@@ -1,19 +1,26 @@
 // Whole forms whose loads are reused.
 
-ghost use Rattle.std.specs.Prelude.{◌≡◌, IfOk, OnOk};
-ghost use Rattle.dae_alias.specs.Forms.{AreReused, IsReusedFunction, IsReuseOf};
+ghost use Rattle.std.specs.Prelude.{◌≡◌, IfErr, IfOk, OnOk, false};
+ghost use Rattle.std.specs.List.{list_all};
+ghost use Rattle.dae_alias.specs.Forms.{AreReused, IsReusedFunction, IsReuseOf, is_reusable};
+ghost use Rattle.dae_alias.specs.declared.errors.ReuseError.TheVariants as errors;
 
+use crate::errors::ReuseError;
 use crate::marking::mark_repeated;
 use crate::tables::number_marked;
 use crate::turning::turn_statements;
 use dae_base::Items;
 use dae_ir::{Function, Ir};
-use std::alloc::{AllocError, Global};
+use std::alloc::Global;
 
-fn reuse_in_function(alloc: Global, function: Function) -> Result<Function, AllocError>
-    ensures { IfOk result (IsReusedFunction function) }
+fn reuse_in_function(alloc: Global, function: Function) -> Result<Function, ReuseError>
+    ensures reused { IfOk result (IsReusedFunction function) }
+    ensures many { IfErr result (λ e. e ≡ errors.Variables → is_reusable function ≡ false) }
 {
     let marks = mark_repeated(alloc, function.body.as_slice())?;
+    if marks.len() > (u32::MAX - function.variables) as usize {
+        return Err(ReuseError::Variables);
+    }
     let table = number_marked(alloc, &marks, function.variables)?;
     let part = turn_statements(alloc, &table.holders, 0, function.body.as_slice())?;
     Ok(Function {
@@ -25,11 +32,13 @@ fn reuse_in_function(alloc: Global, function: Function) -> Result<Function, Allo
     })
 }
 
-/// The form in which a load that repeats an earlier one of its stretch is a copy. The form is given up, also where
-/// memory is wanting.
+/// The form in which a load that repeats an earlier one of its stretch is a copy. The form is given up, also where it
+/// fails: words don't number the variables of a function and one more for each of its loads, or memory is wanting.
 #[tactic(auto, using(crate::proofs::Whole::reused_push))]
-pub fn reuse(alloc: Global, ir: Ir) -> Result<Ir, AllocError>
-    ensures { IfOk result (IsReuseOf ir) }
+pub fn reuse(alloc: Global, ir: Ir) -> Result<Ir, ReuseError>
+    ensures reused { IfOk result (IsReuseOf ir) }
+    ensures many { IfErr result
+        (λ e. e ≡ errors.Variables → list_all is_reusable ir.functions ≡ false) }
 {
     let mut functions = Vec::new(alloc);
     for function in ir.functions.into_vec() {

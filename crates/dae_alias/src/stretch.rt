@@ -1,6 +1,6 @@
 // What is known in a stretch.
 
-ghost use Rattle.std.specs.Prelude.{◌≡◌, ◌+◌, ◌-◌, ◌^◌, OnOk, IfOk};
+ghost use Rattle.std.specs.Prelude.{◌≡◌, ◌+◌, ◌-◌, ◌^◌, ◌<◌, OnOk};
 ghost use Rattle.dae_alias.specs.Listed.{known_of};
 ghost use Rattle.dae_alias.specs.Stretches as spec;
 
@@ -14,7 +14,7 @@ use std::alloc::AllocError;
 #[derive(Clone, Copy)]
 pub struct Latest {
     pub value: SymAddr,
-    pub times: u32,
+    pub times: usize,
 }
 
 /// The symbolic address of a variable, behind these sets.
@@ -30,16 +30,8 @@ fn value_of(sets: &IndexMap<u32, Latest>, variable: u32) -> SymAddr
     }
 }
 
-/// The next number, where there is one.
-pub fn one_more(times: u32) -> Result<u32, AllocError>
-    ensures { IfOk result (λ n. n ≡ times + 1) }
-{
-    let next = times.checked_add(1).ok_or(AllocError)?;
-    Ok(next)
-}
-
 /// How often it was set by them.
-fn times_of(sets: &IndexMap<u32, Latest>, variable: u32) -> u32
+fn times_of(sets: &IndexMap<u32, Latest>, variable: u32) -> usize
     ensures { result ≡ (known_of sets.now).times variable }
 {
     match sets.get(&variable) {
@@ -99,14 +91,14 @@ fn follow(sets: &IndexMap<u32, Latest>, x: Value) -> Option<SymAddr>
 }
 
 /// What a variable gets that can't be followed.
-pub fn new_base(sets: &IndexMap<u32, Latest>, variable: u32) -> Result<SymAddr, AllocError>
-    ensures { IfOk result (λ x. x ≡ spec.renewed (known_of sets.now) variable) }
+pub fn new_base(sets: &IndexMap<u32, Latest>, variable: u32) -> SymAddr
+    requires { (known_of sets.now).times variable + 1 < 2 ^ 64 }
+    ensures { result ≡ spec.renewed (known_of sets.now) variable }
 {
-    let next = one_more(times_of(sets, variable))?;
-    Ok(SymAddr {
-        base: Base::Variable(variable, next),
+    SymAddr {
+        base: Base::Variable(variable, times_of(sets, variable) + 1),
         offset: 0,
-    })
+    }
 }
 
 /// The variable is set, to what may be followed.
@@ -115,19 +107,21 @@ pub fn set(
     variable: u32,
     x: Option<SymAddr>,
 ) -> Result<(), AllocError>
+    requires { (known_of sets.old).times variable + 1 < 2 ^ 64 }
     ensures { OnOk result (known_of sets.new ≡ spec.set (known_of sets.old) variable x) }
 {
     let value = match x {
         Some(value) => value,
-        None => new_base(sets, variable)?,
+        None => new_base(sets, variable),
     };
-    let times = one_more(times_of(sets, variable))?;
+    let times = times_of(sets, variable) + 1;
     sets.insert(variable, Latest { value, times })?;
     Ok(())
 }
 
 /// It is set by an assignment.
 pub fn assign(sets: &mut IndexMap<u32, Latest>, variable: u32, x: Value) -> Result<(), AllocError>
+    requires { (known_of sets.old).times variable + 1 < 2 ^ 64 }
     ensures { OnOk result
         (known_of sets.new
         ≡ spec.set (known_of sets.old) variable (spec.followed (known_of sets.old) x)) }

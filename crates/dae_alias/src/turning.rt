@@ -1,10 +1,13 @@
 // What a load is turned into.
 
-ghost use Rattle.std.specs.Prelude.{◌≡◌, [], OnOk, IfOk};
-ghost use Rattle.dae_alias.specs.Reuse.{copy, number_of, turned};
+ghost use Rattle.std.specs.Prelude.{◌≡◌, ◌+◌, ◌^◌, ◌<◌, [], OnOk, IfOk};
+ghost use Rattle.dae_alias.specs.Meeting.{known_in};
+ghost use Rattle.dae_alias.specs.Reuse.{copy, loads_in, number_of, turned};
+ghost use Rattle.dae_alias.specs.Stretches.{IsSetOnceMore, IsSetSeldom};
 ghost use Rattle.dae_alias.specs.Turning.{IsTurned, Turns, Writes, holders_of};
 ghost use Rattle.dae_ir.specs.declared.form.Statement.TheVariants.{Simple};
-ghost use Rattle.dae_ir.specs.Code.{Do};
+ghost use Rattle.dae_ir.specs.Code.{Do, Done};
+ghost use Rattle.dae_ir.specs.Form.{before, form_of};
 ghost use Rattle.dae_ir.specs.declared.form.Item.TheVariants as item;
 
 use crate::held::Held;
@@ -136,10 +139,13 @@ fn turn_load(
     out: &mut Vec<Statement>,
     load: FoundLoad,
 ) -> Result<(), AllocError>
-    ensures { OnOk result
+    requires loads { walk.old.loads + 1 < 2 ^ 64 }
+    requires seldom { IsSetSeldom (known_in walk.old) }
+    ensures turns { OnOk result
         (Turns (holders_of table.now)
         (Simple load.place (item.Load load.variable load.kind load.address)) walk.old walk.new
         out.old.items out.new.items) }
+    ensures once { OnOk result (IsSetOnceMore (known_in walk.old) (known_in walk.new)) }
 {
     let own = walk.loads;
     let given = meet(alloc, walk, load.variable, load.kind, load.address)?;
@@ -155,9 +161,12 @@ fn turn_item(
     place: Place,
     item: &Item,
 ) -> Result<(), AllocError>
-    ensures { OnOk result
+    requires loads { walk.old.loads + loads_in (Do place item.now Done) < 2 ^ 64 }
+    requires seldom { IsSetSeldom (known_in walk.old) }
+    ensures turns { OnOk result
         (Turns (holders_of table.now) (Simple place item.now) walk.old walk.new out.old.items
         out.new.items) }
+    ensures once { OnOk result (IsSetOnceMore (known_in walk.old) (known_in walk.new)) }
 {
     if let Item::Load(variable, kind, address) = item {
         let load = FoundLoad {
@@ -181,6 +190,7 @@ pub fn turn_statements(
     loads: usize,
     statements: &[Statement],
 ) -> Result<Part, AllocError>
+    requires { loads + loads_in (form_of statements.now) < 2 ^ 64 }
     ensures { IfOk result (IsTurned (holders_of table.now) statements.now loads) }
 {
     let mut walk = start(alloc, loads);
@@ -202,8 +212,11 @@ fn turn_statement(
     walk: &mut Walk,
     statement: &Statement,
 ) -> Result<Vec<Statement>, AllocError>
-    ensures { IfOk result
+    requires loads { walk.old.loads + loads_in (before statement.now Done) < 2 ^ 64 }
+    requires seldom { IsSetSeldom (known_in walk.old) }
+    ensures turns { IfOk result
         (λ xs. Turns (holders_of table.now) statement.now walk.old walk.new [] xs.items) }
+    ensures once { OnOk result (IsSetOnceMore (known_in walk.old) (known_in walk.new)) }
 {
     match statement {
         Statement::Simple(place, item) => {

@@ -1,6 +1,6 @@
 // The walk along a stretch.
 
-ghost use Rattle.std.specs.Prelude.{◌≡◌, ◌+◌, [], ◌∷◌, false, Some, None, OnOk, IfOk};
+ghost use Rattle.std.specs.Prelude.{◌≡◌, ◌+◌, ◌^◌, ◌<◌, [], ◌∷◌, false, Some, None, OnOk, IfOk};
 ghost use Rattle.dae_alias.specs.Meeting.{Meets, known_in, held_by};
 ghost use Rattle.dae_alias.specs.Stretches as spec;
 ghost use Rattle.dae_alias.specs.Reuse.{is_load};
@@ -49,13 +49,15 @@ fn hold(alloc: Global, held: &mut Vec<Held>, x: Held) -> Result<(), AllocError>
 
 // A load that repeats one that is held.
 fn meet_again(walk: &mut Walk, variable: u32, value: SymAddr) -> Result<(), AllocError>
+    requires times { (known_in walk.old).times variable + 1 < 2 ^ 64 }
+    requires loads { walk.old.loads + 1 < 2 ^ 64 }
     ensures known { OnOk result
         (known_in walk.new ≡ spec.set (known_in walk.old) variable (Some value)) }
     ensures held { OnOk result (held_by walk.new ≡ held_by walk.old) }
     ensures loads { OnOk result (walk.new.loads ≡ walk.old.loads + 1) }
 {
     set(&mut walk.sets, variable, Some(value))?;
-    walk.loads = walk.loads.checked_add(1).ok_or(AllocError)?;
+    walk.loads += 1;
     Ok(())
 }
 
@@ -67,6 +69,8 @@ fn meet_first(
     kind: LoadKind,
     at: SymAddr,
 ) -> Result<(), AllocError>
+    requires times { (known_in walk.old).times variable + 1 < 2 ^ 64 }
+    requires loads { walk.old.loads + 1 < 2 ^ 64 }
     ensures known { OnOk result
         (known_in walk.new ≡ spec.set (known_in walk.old) variable None) }
     ensures held { OnOk result
@@ -80,7 +84,7 @@ fn meet_first(
         ∷ held_by walk.old) }
     ensures loads { OnOk result (walk.new.loads ≡ walk.old.loads + 1) }
 {
-    let value = new_base(&walk.sets, variable)?;
+    let value = new_base(&walk.sets, variable);
     let number = walk.loads;
     hold(
         alloc,
@@ -93,7 +97,7 @@ fn meet_first(
         },
     )?;
     set(&mut walk.sets, variable, Some(value))?;
-    walk.loads = number.checked_add(1).ok_or(AllocError)?;
+    walk.loads = number + 1;
     Ok(())
 }
 
@@ -105,6 +109,8 @@ pub fn meet(
     kind: LoadKind,
     x: Operand,
 ) -> Result<Option<Held>, AllocError>
+    requires times { (known_in walk.old).times variable + 1 < 2 ^ 64 }
+    requires loads { walk.old.loads + 1 < 2 ^ 64 }
     ensures { IfOk result (Meets variable kind x walk.old walk.new) }
 {
     let at = symbol(&walk.sets, x);
@@ -129,7 +135,8 @@ pub fn begin_again(walk: &mut Walk)
 
 /// An item that is no load is met.
 pub fn pass(alloc: Global, walk: &mut Walk, item: &Item) -> Result<(), AllocError>
-    requires { is_load item.now ≡ false }
+    requires load { is_load item.now ≡ false }
+    requires seldom { spec.IsSetSeldom (known_in walk.old) }
     ensures { OnOk result (Passes item.now walk.old walk.new) }
 {
     match item {

@@ -12,7 +12,7 @@ const PLACE: Place = Place {
 };
 
 /// A statement. A loop and an `If` are known by what they are alone.
-#[derive(Clone, Copy, PartialEq, Eq, Debug)]
+#[derive(Clone, Copy, PartialEq, Eq)]
 pub enum Step {
     Copy(u32, Operand),
     Add(u32, Operand, Operand),

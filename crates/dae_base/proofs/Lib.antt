@@ -6,4 +6,5 @@ mod Budgets
 mod Bytes
 mod Keys
 mod Tests
+mod Sums
 pub mod Laws

@@ -1,5 +1,6 @@
 -- What tests say of their parts, and tests of numbers that follow one another.
 use Rattle.std.proofs.Common.{◌≡◌, ℕ, suc, ◌<◌, ◌^◌, Bool, true, false, not, ◌&&◌, ◌||◌, refl, arith, ◌+◌, zero, ◌≤◌, ◌*◌}
+use Rattle.std.specs.Bool.{beq}
 use Rattle.std.specs.Prelude.{nat_eq, if◌then◌else◌}
 use Rattle.std.proofs.lemmas.Bool.{and_parts, false≢true}
 use Rattle.std.proofs.lemmas.Bool.Decides.{nat_tests}
@@ -46,6 +47,12 @@ same_tests true true h k = refl
 same_tests true false h k = no_true (h refl)
 same_tests false true h k = no_true (k refl)
 same_tests false false h k = refl
+
+pub beq_same : (x y : Bool) → beq x y ≡ true → x ≡ y
+beq_same true true h = refl
+beq_same false false h = refl
+beq_same true false h = absurd (false≢true h)
+beq_same false true h = absurd (false≢true h)
 
 pub same_number : (n : ℕ) → nat_eq n n ≡ true
 same_number n = grind (arith, nat_tests)

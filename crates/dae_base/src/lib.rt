@@ -62,14 +62,14 @@ pub enum LoadKind {
 }
 
 /// Whether a word stands for a signed number or for an unsigned one.
-#[derive(Clone, Copy, PartialEq, Eq, Debug)]
+#[derive(Clone, Copy, PartialEq, Eq)]
 pub enum Signedness {
     Signed,
     Unsigned,
 }
 
 /// How many items each queue can hold, or how many a program needs it to hold.
-#[derive(Clone, Copy, PartialEq, Eq, Debug)]
+#[derive(Clone, Copy, PartialEq, Eq)]
 pub struct Depths {
     pub ld: u16,
     pub al: u16,

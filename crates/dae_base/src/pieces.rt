@@ -10,7 +10,7 @@ use std::marker::Model;
 
 /// How a word is printed: not at all, as its low byte, in decimal as a signed or an unsigned number, or in lower-case
 /// hexadecimal.
-#[derive(Clone, Copy, PartialEq, Eq, Debug)]
+#[derive(Clone, Copy, PartialEq, Eq)]
 pub enum Spelling {
     Nothing,
     Byte,

@@ -1,16 +1,37 @@
 //! Images and traces of which an end is cut off or a byte is changed.
 
-use crate::answers::{NOTHING, answer_over, bytes_of};
+use crate::answers::{answer_over, bytes_of, empty_shelf};
 use crate::changed::CHANGED;
 use crate::images::TRACE;
 use crate::runs::{PRINTS, STORES_BESIDE, STORES_THERE};
 use dae_io::MemShelf;
 use std::alloc::{AllocError, Global};
 use std::process::Abort;
-use std::test::Fail;
 
 /// Words of each job over an image, which lies under the name `p`.
 const JOBS: &str = "exec p;trace p;time p;dis p;check p t;debug p t;guard p t";
+
+/// A shelf with an image and a text under the names `p` and `t`.
+fn shelf_with(alloc: Global, image: &[u8], text: &[u8]) -> Result<Box<MemShelf>, AllocError> {
+    let mut shelf = empty_shelf(alloc, 0)?;
+    shelf.hold(alloc, "p", image)?;
+    shelf.hold(alloc, "t", text)?;
+    Ok(shelf)
+}
+
+/// The words are answered over the shelf with this status, output and note.
+fn check_shelf(
+    rt: &impl Abort,
+    alloc: Global,
+    line: &str,
+    shelf: &mut MemShelf,
+    due: (u8, &[u8], &[u8]),
+) -> Result<(), AllocError> {
+    let answer = answer_over(alloc, line, shelf, (0, 0))?;
+    let is_due = (answer.status, answer.put(), answer.noted()) == due;
+    assert!(rt; is_due, "{line}");
+    Ok(())
+}
 
 /// The words are answered with this status, output and note where `p` and `t` hold these texts.
 fn check_files(
@@ -19,14 +40,9 @@ fn check_files(
     line: &str,
     (image, text): (&[u8], &[u8]),
     due: (u8, &[u8], &[u8]),
-) -> Result<(), Fail> {
-    let mut shelf = MemShelf::new(alloc, &[])?;
-    shelf.hold(alloc, "p", image)?;
-    shelf.hold(alloc, "t", text)?;
-    let (status, out, note) = answer_over(alloc, line, &mut shelf, NOTHING)?;
-    let is_due = (status, out.as_slice(), note.as_slice()) == due;
-    assert!(rt; is_due, "{line}");
-    Ok(())
+) -> Result<(), AllocError> {
+    let mut shelf = shelf_with(alloc, image, text)?;
+    check_shelf(rt, alloc, line, &mut shelf, due)
 }
 
 /// The first bytes of an image, so many, are refused by the job.
@@ -36,7 +52,7 @@ fn refuse_start(
     line: &str,
     image: &[u8],
     length: usize,
-) -> Result<(), Fail> {
+) -> Result<(), AllocError> {
     let note = format!(in alloc; "image short {length}\n")?;
     let start = image.get(..length).unwrap_or(image);
     let due: (u8, &[u8], &[u8]) = (8, b"", note.as_bytes());
@@ -44,20 +60,29 @@ fn refuse_start(
 }
 
 /// Each start of an image is refused by the job.
-fn refuse_starts(rt: &impl Abort, alloc: Global, line: &str, image: &[u8]) -> Result<(), Fail> {
+fn refuse_starts(
+    rt: &impl Abort,
+    alloc: Global,
+    line: &str,
+    image: &[u8],
+) -> Result<(), AllocError> {
     for length in 0..image.len() {
         refuse_start(rt, alloc, line, image, length)?;
     }
     Ok(())
 }
 
-#[test]
-fn each_job_refuses_each_start_of_an_image(rt: HostRuntime) -> Result<(), Fail> {
-    let image = bytes_of(rt.alloc(), STORES_BESIDE)?;
+fn refuse_by_each(rt: &impl Abort, alloc: Global, image: &[u8]) -> Result<(), AllocError> {
     for line in JOBS.split(';') {
-        refuse_starts(&rt, rt.alloc(), line, image.as_slice())?;
+        refuse_starts(rt, alloc, line, image)?;
     }
     Ok(())
+}
+
+#[test]
+fn each_job_refuses_each_start_of_an_image(rt: HostRuntime) -> Result<(), AllocError> {
+    let image = bytes_of(rt.alloc(), STORES_BESIDE)?;
+    refuse_by_each(&rt, rt.alloc(), image.as_slice())
 }
 
 /// The text with the lowest bit of one byte turned.
@@ -72,10 +97,15 @@ fn with_bit_turned(alloc: Global, text: &[u8], place: usize) -> Result<Vec<u8>, 
 /// The bytes of a line, with line feeds for its slashes.
 fn with_line_feeds(alloc: Global, text: &str) -> Result<Vec<u8>, AllocError> {
     let mut lines = Vec::new(alloc);
+    add_with_line_feeds(&mut lines, text)?;
+    Ok(lines)
+}
+
+fn add_with_line_feeds(lines: &mut Vec<u8>, text: &str) -> Result<(), AllocError> {
     for byte in text.as_bytes() {
         lines.push(if *byte == b'/' { b'\n' } else { *byte })?;
     }
-    Ok(lines)
+    Ok(())
 }
 
 /// The image of a name in the table.
@@ -88,40 +118,79 @@ fn image_of(alloc: Global, name: &str) -> Result<Vec<u8>, AllocError> {
     bytes_of(alloc, hexadecimal)
 }
 
-/// The answers of a line of the table.
-fn check_changes(rt: &impl Abort, alloc: Global, line: &str) -> Result<(), Fail> {
-    let mut parts = line.split(';');
-    let image = image_of(alloc, parts.next().unwrap_or(""))?;
-    let first = parts.next().unwrap_or("").parse::<usize>().unwrap_or(0);
-    let last = parts.next().unwrap_or("").parse::<usize>().unwrap_or(0);
-    let status = parts.next().unwrap_or("").parse::<u8>().unwrap_or(255);
-    let out = with_line_feeds(alloc, parts.next().unwrap_or(""))?;
-    let note = with_line_feeds(alloc, parts.next().unwrap_or(""))?;
+/// The image with the lowest bit of the byte at a place turned is answered so.
+fn check_change(
+    rt: &impl Abort,
+    alloc: Global,
+    image: &[u8],
+    place: usize,
+    due: (u8, &[u8], &[u8]),
+) -> Result<(), AllocError> {
+    let changed = with_bit_turned(alloc, image, place)?;
+    let files: (&[u8], &[u8]) = (changed.as_slice(), b"");
+    check_files(rt, alloc, "exec --steps=400 p", files, due)
+}
+
+/// The image is answered so with each of these places changed.
+fn check_places(
+    rt: &impl Abort,
+    alloc: Global,
+    image: &[u8],
+    (first, last): (usize, usize),
+    due: (u8, &[u8], &[u8]),
+) -> Result<(), AllocError> {
     for place in first..=last {
-        let changed = with_bit_turned(alloc, image.as_slice(), place)?;
-        let due: (u8, &[u8], &[u8]) = (status, out.as_slice(), note.as_slice());
-        check_files(
-            rt,
-            alloc,
-            "exec --steps=400 p",
-            (changed.as_slice(), b""),
-            due,
-        )?;
+        check_change(rt, alloc, image, place, due)?;
+    }
+    Ok(())
+}
+
+/// The part of a line at this place, or nothing.
+fn part(line: &str, at: usize) -> &str {
+    line.split(';').nth(at).unwrap_or("")
+}
+
+/// The number that a part spells.
+fn number_in(line: &str, at: usize) -> usize {
+    part(line, at).parse::<usize>().unwrap_or(0)
+}
+
+/// The status that a part spells.
+fn status_in(line: &str, at: usize) -> u8 {
+    part(line, at).parse::<u8>().unwrap_or(255)
+}
+
+/// The answers of a line of the table.
+fn check_changes(rt: &impl Abort, alloc: Global, line: &str) -> Result<(), AllocError> {
+    let image = image_of(alloc, part(line, 0))?;
+    let out = with_line_feeds(alloc, part(line, 4))?;
+    let note = with_line_feeds(alloc, part(line, 5))?;
+    let places = (number_in(line, 1), number_in(line, 2));
+    let due = (status_in(line, 3), out.as_slice(), note.as_slice());
+    check_places(rt, alloc, image.as_slice(), places, due)
+}
+
+fn check_table(rt: &impl Abort, alloc: Global, lines: &str) -> Result<(), AllocError> {
+    for line in lines.lines() {
+        check_changes(rt, alloc, line)?;
     }
     Ok(())
 }
 
 #[test]
-fn each_byte_of_an_image_counts(rt: HostRuntime) -> Result<(), Fail> {
-    for line in CHANGED.lines() {
-        check_changes(&rt, rt.alloc(), line)?;
-    }
-    Ok(())
+fn each_byte_of_an_image_counts(rt: HostRuntime) -> Result<(), AllocError> {
+    check_table(&rt, rt.alloc(), CHANGED)
 }
 
 /// How many line feeds stand in the first bytes of a text, so many.
 fn lines_before(text: &[u8], length: usize) -> usize {
-    text.iter().take(length).filter(|b| **b == b'\n').count()
+    let mut lines: usize = 0;
+    for byte in text.iter().take(length) {
+        if *byte == b'\n' {
+            lines = lines.saturating_add(1);
+        }
+    }
+    lines
 }
 
 /// The note of a check of which this is the line behind the budget's.
@@ -130,39 +199,61 @@ fn note_of_check(alloc: Global, line: &str) -> Result<String, AllocError> {
 }
 
 /// The trace with one byte changed: its line isn't that of an enabled step.
-fn check_turned(rt: &impl Abort, alloc: Global, image: &[u8], place: usize) -> Result<(), Fail> {
+fn check_turned(
+    rt: &impl Abort,
+    alloc: Global,
+    image: &[u8],
+    place: usize,
+) -> Result<(), AllocError> {
     let text = TRACE.as_bytes();
     let number = lines_before(text, place).saturating_add(1);
     let line = format!(in alloc; "not-a-run {number}")?;
-    let note = note_of_check(alloc, line.as_str())?;
     let changed = with_bit_turned(alloc, text, place)?;
-    let due: (u8, &[u8], &[u8]) = (10, b"", note.as_bytes());
-    check_files(rt, alloc, "check p t", (image, changed.as_slice()), due)
+    check_part(rt, alloc, (image, changed.as_slice()), 10, line.as_str())
+}
+
+/// The first bytes of the trace are checked with this status and line.
+fn check_part(
+    rt: &impl Abort,
+    alloc: Global,
+    files: (&[u8], &[u8]),
+    status: u8,
+    line: &str,
+) -> Result<(), AllocError> {
+    let note = note_of_check(alloc, line)?;
+    let due: (u8, &[u8], &[u8]) = (status, b"", note.as_bytes());
+    check_files(rt, alloc, "check p t", files, due)
 }
 
 /// The first bytes of the trace: whole lines are a run, and a part of a line is none.
-fn check_start(rt: &impl Abort, alloc: Global, image: &[u8], length: usize) -> Result<(), Fail> {
+fn check_start(
+    rt: &impl Abort,
+    alloc: Global,
+    image: &[u8],
+    length: usize,
+) -> Result<(), AllocError> {
     let text = TRACE.as_bytes();
     let start = text.get(..length).unwrap_or(text);
+    if start.is_empty() || start.ends_with(b"\n") {
+        return check_part(rt, alloc, (image, start), 3, "running");
+    }
     let number = lines_before(text, length).saturating_add(1);
-    let (status, line) = if start.is_empty() || start.ends_with(b"\n") {
-        (3, String::from_str(alloc, "running")?)
-    } else {
-        (10, format!(in alloc; "not-a-run {number}")?)
-    };
-    let note = note_of_check(alloc, line.as_str())?;
-    let due: (u8, &[u8], &[u8]) = (status, b"", note.as_bytes());
-    check_files(rt, alloc, "check p t", (image, start), due)
+    let line = format!(in alloc; "not-a-run {number}")?;
+    check_part(rt, alloc, (image, start), 10, line.as_str())
+}
+
+fn check_bytes_of_trace(rt: &impl Abort, alloc: Global, image: &[u8]) -> Result<(), AllocError> {
+    for place in 0..TRACE.len() {
+        check_turned(rt, alloc, image, place)?;
+        check_start(rt, alloc, image, place)?;
+    }
+    Ok(())
 }
 
 #[test]
-fn each_byte_of_a_trace_counts(rt: HostRuntime) -> Result<(), Fail> {
+fn each_byte_of_a_trace_counts(rt: HostRuntime) -> Result<(), AllocError> {
     let image = bytes_of(rt.alloc(), STORES_BESIDE)?;
-    for place in 0..TRACE.len() {
-        check_turned(&rt, rt.alloc(), image.as_slice(), place)?;
-        check_start(&rt, rt.alloc(), image.as_slice(), place)?;
-    }
-    Ok(())
+    check_bytes_of_trace(&rt, rt.alloc(), image.as_slice())
 }
 
 /// Lines with `;` between: words, how many bytes `x` are under the name `t`, the status, and what is put out and noted with `/` for
@@ -174,23 +265,24 @@ const LENGTHS: &str = "\
     guard p t;1048577;2;;refused certificate-too-long/";
 
 /// The answer of a line on lengths.
-fn check_length(rt: &impl Abort, alloc: Global, line: &str) -> Result<(), Fail> {
-    let mut parts = line.split(';');
-    let words = parts.next().unwrap_or("");
-    let length = parts.next().unwrap_or("").parse::<usize>().unwrap_or(0);
-    let status = parts.next().unwrap_or("").parse::<u8>().unwrap_or(255);
-    let out = with_line_feeds(alloc, parts.next().unwrap_or(""))?;
-    let note = with_line_feeds(alloc, parts.next().unwrap_or(""))?;
-    let due: (u8, &[u8], &[u8]) = (status, out.as_slice(), note.as_slice());
-    let long = vec![in alloc; b'x'; length]?;
+fn check_length(rt: &impl Abort, alloc: Global, line: &str) -> Result<(), AllocError> {
+    let out = with_line_feeds(alloc, part(line, 3))?;
+    let note = with_line_feeds(alloc, part(line, 4))?;
+    let long = vec![in alloc; b'x'; number_in(line, 1)]?;
     let image = bytes_of(alloc, STORES_BESIDE)?;
-    check_files(rt, alloc, words, (image.as_slice(), long.as_slice()), due)
+    let due = (status_in(line, 2), out.as_slice(), note.as_slice());
+    let files = (image.as_slice(), long.as_slice());
+    check_files(rt, alloc, part(line, 0), files, due)
+}
+
+fn check_lengths(rt: &impl Abort, alloc: Global, lines: &str) -> Result<(), AllocError> {
+    for line in lines.lines() {
+        check_length(rt, alloc, line)?;
+    }
+    Ok(())
 }
 
 #[test]
-fn texts_have_a_most_length(rt: HostRuntime) -> Result<(), Fail> {
-    for line in LENGTHS.lines() {
-        check_length(&rt, rt.alloc(), line)?;
-    }
-    Ok(())
+fn texts_have_a_most_length(rt: HostRuntime) -> Result<(), AllocError> {
+    check_lengths(&rt, rt.alloc(), LENGTHS)
 }

@@ -1,40 +1,18 @@
-//! Each call of the table, where nothing fails, and where each put, each fetch and the keep fails in turn: it ends there.
+//! Each call of the tables, where nothing fails, and where each put, each fetch and the keep fails in turn: it ends there.
 
-use crate::answers::{Failing, NOTHING, answer_over, bytes_of};
-use crate::compilations::calls_of_compilations;
-use crate::images::calls_over_images;
-use crate::programs::{Call, calls_of_programs};
-use crate::runs::calls_of_runs;
-use crate::traces::calls_of_traces;
-use dae_io::{FailingCall, MemShelf};
+use crate::answers::answer_over;
+use crate::calls::{add, add_pieces, number_in, part, pieces_in, shelf_of, status_in, told};
+use crate::compilations::COMPILATIONS;
+use crate::images::IMAGES;
+use crate::programs::PROGRAMS;
+use crate::runs::RUNS;
+use crate::traces::TRACES;
+use dae_io::MemShelf;
 use std::alloc::{AllocError, Global};
 use std::process::Abort;
-use std::test::Fail;
 
 /// The first bytes of an image.
 const IMAGE: &[u8] = b"DAE1\x02\0\0\0";
-
-/// What is due: the status, the bytes on out and on note, and the first bytes of what is kept.
-#[derive(Clone, Copy)]
-struct Due<'d> {
-    status: u8,
-    out: &'d [u8],
-    note: &'d [u8],
-    kept: Option<&'d [u8]>,
-}
-
-/// A shelf with a call's files, and room for one keep.
-fn shelf_of(alloc: Global, call: &Call, failing: &[FailingCall]) -> Result<MemShelf, AllocError> {
-    let mut shelf = MemShelf::new(alloc, failing)?;
-    if let Some(image) = call.image {
-        shelf.hold(alloc, "p", bytes_of(alloc, image)?.as_slice())?;
-    }
-    for (name, text) in call.texts {
-        shelf.hold(alloc, name, text.as_bytes())?;
-    }
-    shelf.make_room(alloc, 1, 4096)?;
-    Ok(shelf)
-}
 
 /// Whether a note is as due, where the number of steps may be left to the compiler.
 fn is_noted(note: &[u8], due: &[u8]) -> bool {
@@ -50,205 +28,231 @@ fn is_begun(text: Option<&[u8]>, due: Option<&[u8]>) -> bool {
     }
 }
 
-/// The shelf holds a call's files as before, and this under the name of its image.
-fn check_shelf(rt: &impl Abort, shelf: &MemShelf, call: &Call, kept: Option<&[u8]>) {
-    let line = call.words;
-    for (name, text) in call.texts {
-        assert_eq!(rt; shelf.text_of(name), Some(text.as_bytes()), "{line}");
-    }
-    assert!(rt; is_begun(shelf.text_of("q"), kept), "{line}");
-}
-
-/// The call is answered as due.
-fn check_answer(
+/// The shelf holds this text of a row as before, if it has a name.
+fn check_text(
     rt: &impl Abort,
     alloc: Global,
-    call: &Call,
-    failing: Failing<'_>,
-    due: Due<'_>,
-) -> Result<(), Fail> {
-    let line = call.words;
-    let mut shelf = shelf_of(alloc, call, failing.shelf)?;
-    let (status, out, note) = answer_over(alloc, line, &mut shelf, failing)?;
-    let is_due = (status, out.as_slice()) == (due.status, due.out);
-    assert!(rt; is_due, "{line}");
-    assert!(rt; is_noted(note.as_slice(), due.note), "{line}");
-    check_shelf(rt, &shelf, call, due.kept);
+    shelf: &MemShelf,
+    row: &str,
+    at: usize,
+) -> Result<(), AllocError> {
+    let name = part(row, at);
+    if name.is_empty() {
+        return Ok(());
+    }
+    let text = told(alloc, part(row, at.saturating_add(1)))?;
+    assert_eq!(rt; shelf.text_of(name), Some(text.as_slice()), "{row}");
     Ok(())
 }
 
+/// The shelf holds a row's texts as before, and this under the name of its image.
+fn check_shelf(
+    rt: &impl Abort,
+    alloc: Global,
+    shelf: &MemShelf,
+    row: &str,
+    kept: Option<&[u8]>,
+) -> Result<(), AllocError> {
+    check_text(rt, alloc, shelf, row, 7)?;
+    check_text(rt, alloc, shelf, row, 9)?;
+    check_text(rt, alloc, shelf, row, 11)?;
+    assert!(rt; is_begun(shelf.text_of("q"), kept), "{row}");
+    Ok(())
+}
+
+/// The row is answered as due over the shelf, where the puts with these numbers fail.
+fn check_puts(
+    rt: &impl Abort,
+    alloc: Global,
+    row: &str,
+    shelf: &mut MemShelf,
+    failing: (u64, u64),
+    due: (u8, &[u8], &[u8]),
+) -> Result<(), AllocError> {
+    let answer = answer_over(alloc, part(row, 0), shelf, failing)?;
+    assert!(rt; answer.status == due.0 && answer.put() == due.1, "{row}");
+    assert!(rt; is_noted(answer.noted(), due.2), "{row}");
+    Ok(())
+}
+
+/// The row is answered as due, where the calls of the shelf and the puts on out and on note with these numbers fail.
+fn check_answer(
+    rt: &impl Abort,
+    alloc: Global,
+    row: &str,
+    failing: (u64, u64, u64),
+    due: (u8, &[u8], &[u8]),
+    kept: Option<&[u8]>,
+) -> Result<(), AllocError> {
+    let mut shelf = shelf_of(alloc, row, failing.0)?;
+    check_puts(rt, alloc, row, &mut shelf, (failing.1, failing.2), due)?;
+    check_shelf(rt, alloc, &shelf, row, kept)
+}
+
 /// So many pieces, one behind the other.
-fn first_of(alloc: Global, pieces: &[&str], count: usize) -> Result<Vec<u8>, AllocError> {
+fn first_of(alloc: Global, pieces: &str, count: usize) -> Result<Vec<u8>, AllocError> {
     let mut bytes = Vec::new(alloc);
-    for piece in pieces.iter().take(count) {
-        bytes.extend_from_slice(piece.as_bytes())?;
-    }
+    add_pieces(&mut bytes, pieces, count)?;
     Ok(bytes)
 }
 
 /// So many pieces, and the first byte of the next.
-fn cut_behind(alloc: Global, pieces: &[&str], count: usize) -> Result<Vec<u8>, AllocError> {
-    let mut bytes = first_of(alloc, pieces, count)?;
-    if let Some(piece) = pieces.get(count) {
-        bytes.extend_from_slice(piece.as_bytes().get(..1).unwrap_or(b""))?;
-    }
+fn cut_behind(alloc: Global, pieces: &str, count: usize) -> Result<Vec<u8>, AllocError> {
+    let mut bytes = Vec::new(alloc);
+    add_pieces(&mut bytes, pieces, count)?;
+    let whole = bytes.len();
+    add(&mut bytes, pieces.split('^').nth(count).unwrap_or(""))?;
+    bytes.truncate(whole.saturating_add(1));
     Ok(bytes)
 }
 
-/// The call behind so many others, which takes one byte and fails.
-fn call_behind(count: usize) -> FailingCall {
-    FailingCall {
-        call: (count as u64).saturating_add(1),
-        taken: 1,
+/// The number of the call behind so many others.
+fn call_behind(count: usize) -> u64 {
+    (count as u64).saturating_add(1)
+}
+
+/// The first bytes of what a row keeps.
+fn kept_by(row: &str) -> Option<&'static [u8]> {
+    if part(row, 4).is_empty() {
+        None
+    } else {
+        Some(IMAGE)
     }
 }
 
 /// Nothing fails.
-fn answer_whole(rt: &impl Abort, alloc: Global, call: &Call) -> Result<(), Fail> {
-    let out = first_of(alloc, call.out, call.out.len())?;
-    let note = first_of(alloc, call.note, call.note.len())?;
-    let due = Due {
-        status: call.status,
-        out: out.as_slice(),
-        note: note.as_slice(),
-        kept: call.kept.then_some(IMAGE),
-    };
-    check_answer(rt, alloc, call, NOTHING, due)
+fn answer_whole(rt: &impl Abort, alloc: Global, row: &str) -> Result<(), AllocError> {
+    let out = first_of(alloc, part(row, 5), pieces_in(row, 5))?;
+    let note = first_of(alloc, part(row, 6), pieces_in(row, 6))?;
+    let due = (status_in(row), out.as_slice(), note.as_slice());
+    check_answer(rt, alloc, row, (0, 0, 0), due, kept_by(row))
 }
 
 /// The put on out behind so many others fails.
-fn fail_out(rt: &impl Abort, alloc: Global, call: &Call, count: usize) -> Result<(), Fail> {
-    let out = cut_behind(alloc, call.out, count)?;
-    let note = first_of(alloc, call.note, call.early)?;
-    let due = Due {
-        status: 6,
-        out: out.as_slice(),
-        note: note.as_slice(),
-        kept: None,
-    };
-    let failing = Failing {
-        out: &[call_behind(count)],
-        ..NOTHING
-    };
-    check_answer(rt, alloc, call, failing, due)
+fn fail_out(rt: &impl Abort, alloc: Global, row: &str, count: usize) -> Result<(), AllocError> {
+    let out = cut_behind(alloc, part(row, 5), count)?;
+    let note = first_of(alloc, part(row, 6), number_in(row, 3))?;
+    let due = (6, out.as_slice(), note.as_slice());
+    check_answer(rt, alloc, row, (0, call_behind(count), 0), due, None)
 }
 
 /// The put on note behind so many others fails. What is due on out and on the shelf is there exactly where it came before.
-fn fail_note(rt: &impl Abort, alloc: Global, call: &Call, count: usize) -> Result<(), Fail> {
-    let late = count >= call.early;
-    let out = first_of(alloc, call.out, if late { call.out.len() } else { 0 })?;
-    let note = cut_behind(alloc, call.note, count)?;
-    let due = Due {
-        status: 6,
-        out: out.as_slice(),
-        note: note.as_slice(),
-        kept: (call.kept && late).then_some(IMAGE),
-    };
-    let failing = Failing {
-        note: &[call_behind(count)],
-        ..NOTHING
-    };
-    check_answer(rt, alloc, call, failing, due)
+fn fail_note(rt: &impl Abort, alloc: Global, row: &str, count: usize) -> Result<(), AllocError> {
+    let late = count >= number_in(row, 3);
+    let out = first_of(
+        alloc,
+        part(row, 5),
+        if late { pieces_in(row, 5) } else { 0 },
+    )?;
+    let note = cut_behind(alloc, part(row, 6), count)?;
+    let due = (6, out.as_slice(), note.as_slice());
+    let kept = if late { kept_by(row) } else { None };
+    check_answer(rt, alloc, row, (0, 0, call_behind(count)), due, kept)
 }
 
 /// The fetch behind so many others fails; and then the put of its line too.
 fn fail_fetch(
     rt: &impl Abort,
     alloc: Global,
-    call: &Call,
+    row: &str,
     name: &str,
     count: usize,
-) -> Result<(), Fail> {
+) -> Result<(), AllocError> {
     let line = format!(in alloc; "read {name}\n")?;
-    let due = Due {
-        status: 5,
-        out: b"",
-        note: line.as_bytes(),
-        kept: None,
-    };
-    let failing = Failing {
-        shelf: &[call_behind(count)],
-        ..NOTHING
-    };
-    check_answer(rt, alloc, call, failing, due)?;
-    let untold = Due {
-        status: 6,
-        note: b"r",
-        ..due
-    };
-    let failing = Failing {
-        note: &[call_behind(0)],
-        ..failing
-    };
-    check_answer(rt, alloc, call, failing, untold)
+    let call = call_behind(count);
+    let due: (u8, &[u8], &[u8]) = (5, b"", line.as_bytes());
+    check_answer(rt, alloc, row, (call, 0, 0), due, None)?;
+    let due: (u8, &[u8], &[u8]) = (6, b"", b"r");
+    check_answer(rt, alloc, row, (call, 0, 1), due, None)
 }
 
-/// The keep fails, behind the fetches, and leaves the first byte of an image.
-fn fail_keep(rt: &impl Abort, alloc: Global, call: &Call) -> Result<(), Fail> {
-    let note = first_of(alloc, call.note, call.early)?;
-    let due = Due {
-        status: 6,
-        out: b"",
-        note: note.as_slice(),
-        kept: Some(b"D"),
-    };
-    let failing = Failing {
-        shelf: &[call_behind(call.texts.len())],
-        ..NOTHING
-    };
-    check_answer(rt, alloc, call, failing, due)
+/// The fetch of a text fails, if it has a name, behind so many others.
+fn fail_text(
+    rt: &impl Abort,
+    alloc: Global,
+    row: &str,
+    name: &str,
+    count: usize,
+) -> Result<(), AllocError> {
+    if name.is_empty() {
+        return Ok(());
+    }
+    fail_fetch(rt, alloc, row, name, count)
+}
+
+/// The fetch of the image fails, if there is one, and that of each text.
+fn fail_fetches(rt: &impl Abort, alloc: Global, row: &str) -> Result<(), AllocError> {
+    let mut before: usize = 0;
+    if !part(row, 1).is_empty() {
+        fail_fetch(rt, alloc, row, "p", 0)?;
+        before = 1;
+    }
+    fail_text(rt, alloc, row, part(row, 7), before)?;
+    fail_text(rt, alloc, row, part(row, 9), before.saturating_add(1))?;
+    fail_text(rt, alloc, row, part(row, 11), before.saturating_add(2))
+}
+
+/// The keep fails, behind the fetch of a text, and leaves the first byte of an image.
+fn fail_keep(rt: &impl Abort, alloc: Global, row: &str) -> Result<(), AllocError> {
+    let note = first_of(alloc, part(row, 6), number_in(row, 3))?;
+    let due: (u8, &[u8], &[u8]) = (6, b"", note.as_slice());
+    check_answer(rt, alloc, row, (2, 0, 0), due, Some(b"D"))
+}
+
+fn fail_outs(rt: &impl Abort, alloc: Global, row: &str) -> Result<(), AllocError> {
+    for count in 0..pieces_in(row, 5) {
+        fail_out(rt, alloc, row, count)?;
+    }
+    Ok(())
+}
+
+fn fail_notes(rt: &impl Abort, alloc: Global, row: &str) -> Result<(), AllocError> {
+    for count in 0..pieces_in(row, 6) {
+        fail_note(rt, alloc, row, count)?;
+    }
+    Ok(())
 }
 
 /// Nothing fails, and then each put, each fetch and the keep in turn.
-fn fail_in_turn(rt: &impl Abort, alloc: Global, call: &Call) -> Result<(), Fail> {
-    answer_whole(rt, alloc, call)?;
-    for count in 0..call.out.len() {
-        fail_out(rt, alloc, call, count)?;
+fn fail_in_turn(rt: &impl Abort, alloc: Global, row: &str) -> Result<(), AllocError> {
+    answer_whole(rt, alloc, row)?;
+    fail_outs(rt, alloc, row)?;
+    fail_notes(rt, alloc, row)?;
+    fail_fetches(rt, alloc, row)?;
+    if part(row, 4).is_empty() {
+        return Ok(());
     }
-    for count in 0..call.note.len() {
-        fail_note(rt, alloc, call, count)?;
-    }
-    let images = usize::from(call.image.is_some());
-    if images == 1 {
-        fail_fetch(rt, alloc, call, "p", 0)?;
-    }
-    for (count, (name, _)) in call.texts.iter().enumerate() {
-        fail_fetch(rt, alloc, call, name, count.saturating_add(images))?;
-    }
-    if call.kept {
-        fail_keep(rt, alloc, call)?;
-    }
-    Ok(())
+    fail_keep(rt, alloc, row)
 }
 
-fn fail_each(rt: &impl Abort, alloc: Global, calls: &[Call]) -> Result<(), Fail> {
-    for call in calls {
-        fail_in_turn(rt, alloc, call)?;
+fn fail_each(rt: &impl Abort, alloc: Global, rows: &str) -> Result<(), AllocError> {
+    for row in rows.lines() {
+        fail_in_turn(rt, alloc, row)?;
     }
     Ok(())
 }
 
 #[test]
-fn programs_end_where_a_call_fails(rt: HostRuntime) -> Result<(), Fail> {
-    fail_each(&rt, rt.alloc(), calls_of_programs())
+fn programs_end_where_a_call_fails(rt: HostRuntime) -> Result<(), AllocError> {
+    fail_each(&rt, rt.alloc(), PROGRAMS)
 }
 
 #[test]
-fn compilations_end_where_a_call_fails(rt: HostRuntime) -> Result<(), Fail> {
-    fail_each(&rt, rt.alloc(), calls_of_compilations())
+fn compilations_end_where_a_call_fails(rt: HostRuntime) -> Result<(), AllocError> {
+    fail_each(&rt, rt.alloc(), COMPILATIONS)
 }
 
 #[test]
-fn runs_end_where_a_call_fails(rt: HostRuntime) -> Result<(), Fail> {
-    fail_each(&rt, rt.alloc(), calls_of_runs())
+fn runs_end_where_a_call_fails(rt: HostRuntime) -> Result<(), AllocError> {
+    fail_each(&rt, rt.alloc(), RUNS)
 }
 
 #[test]
-fn traces_and_sessions_end_where_a_call_fails(rt: HostRuntime) -> Result<(), Fail> {
-    fail_each(&rt, rt.alloc(), calls_of_traces())
+fn traces_and_sessions_end_where_a_call_fails(rt: HostRuntime) -> Result<(), AllocError> {
+    fail_each(&rt, rt.alloc(), TRACES)
 }
 
 #[test]
-fn other_jobs_over_images_end_where_a_call_fails(rt: HostRuntime) -> Result<(), Fail> {
-    fail_each(&rt, rt.alloc(), calls_over_images())
+fn other_jobs_over_images_end_where_a_call_fails(rt: HostRuntime) -> Result<(), AllocError> {
+    fail_each(&rt, rt.alloc(), IMAGES)
 }

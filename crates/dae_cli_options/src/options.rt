@@ -111,7 +111,7 @@ impl Shown {
 
 /// What is set of a run: the depths of the queues; who is preferred in each turn; at most how many steps are taken; and
 /// what is shown at the end.
-#[derive(Clone, Copy, PartialEq, Eq, Debug)]
+#[derive(Clone, Copy, PartialEq, Eq)]
 pub struct OptionValues {
     pub depths: Depths,
     pub schedule: Schedule,

@@ -1,10 +1,10 @@
 //! The run of images: worked images under every schedule, damaged ones, and random ones.
 
-use crate::calls::{answer_over, schedules, shelf_of};
+use crate::calls::{check_answer, schedules, shelf_of};
 use crate::images::IMAGES;
+use dae_io::MemShelf;
 use std::alloc::{AllocError, Global};
 use std::process::Abort;
-use std::test::Fail;
 
 /// The access processor halts, and the execute processor waits for a load that never comes.
 const HALTS: &[u8] =
@@ -22,239 +22,218 @@ const STORES_THERE: &[u8] =
 const COPIES: &[u8] =
     b"DAE1\x02\0\0\0\0\0\0\0\0\0\0\0\0\0\0\0\0\0\0\0\0\0\0\0\0\0\0\0\x01\0\0\0@\0\0\0\x01\0\0\0\0\0\0\0\0\0\0\0\0\0\0\0\0\0\0\0\x02\0\0\0\x02\0\0\0\0\0\0\0\0\0\0\0\0\0\0\0\x13\x0e\x90\0s\0\0\0\x13\x05\x0e\0s\0\0\0";
 
-const NO_BUDGET: &str = "budget ld 0 al 0 sa 0 sd 0 ab 0 eb 0 cq 0\n";
-
-const STORE_BUDGET: &str = "budget ld 1 al 0 sa 1 sd 1 ab 0 eb 0 cq 0\n";
-
-/// The words that run the image under a schedule.
-fn exec_words(alloc: Global, schedule: &str, options: &[&str]) -> Result<String, AllocError> {
-    let mut words = format!(in alloc; "exec {schedule}")?;
-    for option in options {
-        words.push_str(" ")?;
-        words.push_str(option)?;
+/// The image with this name in the tables.
+fn image_named(name: &str) -> &'static [u8] {
+    match name {
+        "halts" => HALTS,
+        "beside" => STORES_BESIDE,
+        "there" => STORES_THERE,
+        _ => COPIES,
     }
-    words.push_str(" p")?;
-    Ok(words)
 }
 
-/// What is answered for an image under a schedule and options.
-fn answers_image(
+/// The part of a row at this place, or nothing.
+fn part(row: &str, at: usize) -> &str {
+    row.split('|').nth(at).unwrap_or("")
+}
+
+/// What a part notes, with ` for each line feed.
+fn noted(alloc: Global, part: &str) -> Result<Vec<u8>, AllocError> {
+    let mut note = Vec::new(alloc);
+    add_note(&mut note, part)?;
+    Ok(note)
+}
+
+fn add_note(note: &mut Vec<u8>, part: &str) -> Result<(), AllocError> {
+    for byte in part.as_bytes() {
+        note.push(if *byte == b'`' { b'\n' } else { *byte })?;
+    }
+    Ok(())
+}
+
+/// What is answered for the image on the shelf under a schedule, with options behind it.
+fn check_exec(
     rt: &impl Abort,
     alloc: Global,
-    image: &[u8],
-    schedule: &str,
-    options: &[&str],
+    shelf: &mut MemShelf,
+    options: (&str, &str),
     due: (u8, &[u8], &[u8]),
-) -> Result<(), Fail> {
-    let files = [("p", image)];
-    let mut shelf = shelf_of(alloc, &files, &[])?;
-    let words = exec_words(alloc, schedule, options)?;
-    let (status, out, note) = answer_over(alloc, words.as_str(), &mut shelf, (&[], &[]))?;
-    assert_eq!(rt; status, due.0);
-    assert_eq!(rt; out.as_slice(), due.1);
-    assert_eq!(rt; note.as_slice(), due.2);
-    Ok(())
+) -> Result<(), AllocError> {
+    let (schedule, others) = options;
+    let words = format!(in alloc; "exec {schedule} {others} p")?;
+    check_answer(rt, alloc, words.as_str(), shelf, due)
 }
 
-/// The bytes with four of them changed.
-fn with_number(alloc: Global, bytes: &[u8], at: usize, number: u32) -> Result<Vec<u8>, Fail> {
-    let mut changed = Vec::from_slice(alloc, bytes)?;
-    for (place, byte) in changed
-        .as_mut_slice()
-        .iter_mut()
-        .skip(at)
-        .zip(number.to_le_bytes())
-    {
-        *place = byte;
-    }
-    Ok(changed)
-}
-
-/// An image with its options, the status, the line of its budget and the lines behind it.
-type Worked = (
-    &'static [u8],
-    &'static [&'static str],
-    u8,
-    &'static str,
-    &'static str,
-);
-
-static WORKED: [Worked; 5] = [
-    (
-        HALTS,
-        &[],
-        9,
-        NO_BUDGET,
-        "stuck A halted, E waits ld\nsteps 1\n",
-    ),
-    (
-        STORES_BESIDE,
-        &["--show=16,8"],
-        0,
-        STORE_BUDGET,
-        "ended 7\nsteps 8\nmemory 16: 08 00 00 00 07 00 00 00\n",
-    ),
-    (
-        STORES_BESIDE,
-        &[
-            "--steps=1000000000000",
-            "--ld=1",
-            "--al=1",
-            "--sa=1",
-            "--sd=1",
-        ],
-        0,
-        STORE_BUDGET,
-        "ended 7\nsteps 8\n",
-    ),
-    (
-        STORES_THERE,
-        &[],
-        9,
-        STORE_BUDGET,
-        "stuck A halted, E waits ld\nsteps 3\n",
-    ),
-    (
-        COPIES,
-        &[],
-        0,
-        "budget ld 0 al 0 sa 0 sd 0 ab 0 eb 0 cq 1\n",
-        "ended 9\nsteps 4\n",
-    ),
-];
-
-fn worked_images() -> &'static [Worked] {
-    WORKED.as_slice()
-}
+/// Images with their options, the status and what is noted.
+const WORKED: &str = "\
+halts||9|budget ld 0 al 0 sa 0 sd 0 ab 0 eb 0 cq 0`stuck A halted, E waits ld`steps 1`\n\
+beside|--show=16,8|0|budget ld 1 al 0 sa 1 sd 1 ab 0 eb 0 cq 0`ended 7`steps 8`memory 16: 08 00 00 00 07 00 00 00`\n\
+beside|--steps=1000000000000 --ld=1 --al=1 --sa=1 --sd=1|0|budget ld 1 al 0 sa 1 sd 1 ab 0 eb 0 cq 0`ended 7`steps 8`\n\
+there||9|budget ld 1 al 0 sa 1 sd 1 ab 0 eb 0 cq 0`stuck A halted, E waits ld`steps 3`\n\
+copies||0|budget ld 0 al 0 sa 0 sd 0 ab 0 eb 0 cq 1`ended 9`steps 4`";
 
 /// The row's answer under each schedule.
-fn answers_worked(rt: &impl Abort, alloc: Global, row: &Worked) -> Result<(), Fail> {
-    let (image, options, status, budget, lines) = row;
-    let mut note = Vec::from_slice(alloc, budget.as_bytes())?;
-    note.extend_from_slice(lines.as_bytes())?;
+fn check_schedules(
+    rt: &impl Abort,
+    alloc: Global,
+    shelf: &mut MemShelf,
+    options: &str,
+    due: (u8, &[u8], &[u8]),
+) -> Result<(), AllocError> {
     for schedule in schedules() {
-        let due: (u8, &[u8], &[u8]) = (*status, b"", note.as_slice());
-        answers_image(rt, alloc, image, schedule, options, due)?;
+        check_exec(rt, alloc, shelf, (*schedule, options), due)?;
     }
     Ok(())
 }
 
-fn answer_worked(rt: &impl Abort, alloc: Global, rows: &[Worked]) -> Result<(), Fail> {
-    for row in rows {
-        answers_worked(rt, alloc, row)?;
-    }
-    Ok(())
+fn check_worked(rt: &impl Abort, alloc: Global, row: &str) -> Result<(), AllocError> {
+    let mut shelf = shelf_of(alloc, "p", image_named(part(row, 0)))?;
+    let note = noted(alloc, part(row, 3))?;
+    let status = part(row, 2).parse::<u8>().unwrap_or(255);
+    let due: (u8, &[u8], &[u8]) = (status, b"", note.as_slice());
+    check_schedules(rt, alloc, &mut shelf, part(row, 1), due)
 }
 
-#[test]
-fn worked_images_answer_alike_under_every_schedule(rt: HostRuntime) -> Result<(), Fail> {
-    answer_worked(&rt, rt.alloc(), worked_images())
-}
-
-/// An image, a place in it, the number that is put there, and the status and the note that are due.
-type Changed = (&'static [u8], usize, u32, u8, &'static str);
-
-static CHANGED: [Changed; 9] = [
-    (STORES_BESIDE, 0, 0x3145_4100, 8, "image field magic 0\n"),
-    (STORES_BESIDE, 4, 3, 8, "image field version 4\n"),
-    (STORES_BESIDE, 32, 65, 8, "image field memory 32\n"),
-    (STORES_BESIDE, 48, 2, 8, "image field entry-a 48\n"),
-    (STORES_BESIDE, 56, 0, 8, "image field words-a 56\n"),
-    (STORES_BESIDE, 68, 300_000, 8, "image field line-count 68\n"),
-    (
-        HALTS,
-        80,
-        0xFFFF_FFFF,
-        9,
-        "budget ld 0 al 0 sa 0 sd 0 ab 0 eb 0 cq 0\nstuck A halted, E fault illegal\nsteps 1\n",
-    ),
-    (
-        COPIES,
-        32,
-        0,
-        9,
-        "budget ld 0 al 0 sa 0 sd 0 ab 0 eb 0 cq 0\nstuck A fault illegal, E fault illegal\nsteps 0\n",
-    ),
-    (
-        STORES_BESIDE,
-        8,
-        9,
-        4,
-        "budget ld 9 al 0 sa 1 sd 1 ab 0 eb 0 cq 0\ndepth ld needs 9 has 8\n",
-    ),
-];
-
-fn changed_images() -> &'static [Changed] {
-    CHANGED.as_slice()
-}
-
-fn answer_changed(rt: &impl Abort, alloc: Global, rows: &[Changed]) -> Result<(), Fail> {
-    for (image, at, number, status, note) in rows {
-        let bytes = with_number(alloc, image, *at, *number)?;
-        let due: (u8, &[u8], &[u8]) = (*status, b"", note.as_bytes());
-        answers_image(rt, alloc, bytes.as_slice(), "--schedule=round", &[], due)?;
+fn check_all_worked(rt: &impl Abort, alloc: Global, rows: &str) -> Result<(), AllocError> {
+    for row in rows.lines() {
+        check_worked(rt, alloc, row)?;
     }
     Ok(())
 }
 
 #[test]
-fn changed_images_are_refused_or_stuck(rt: HostRuntime) -> Result<(), Fail> {
-    answer_changed(&rt, rt.alloc(), changed_images())
+fn worked_images_answer_alike_under_every_schedule(rt: HostRuntime) -> Result<(), AllocError> {
+    check_all_worked(&rt, rt.alloc(), WORKED)
+}
+
+/// The bytes of an image under the name `p` are answered by this status and note.
+fn check_bytes(
+    rt: &impl Abort,
+    alloc: Global,
+    bytes: &[u8],
+    status: u8,
+    note: &[u8],
+) -> Result<(), AllocError> {
+    let mut shelf = shelf_of(alloc, "p", bytes)?;
+    check_exec(
+        rt,
+        alloc,
+        &mut shelf,
+        ("--schedule=round", ""),
+        (status, b"", note),
+    )
+}
+
+/// Images, a place in each, the number of four bytes that is put there, and the status and the note that are due.
+const CHANGED: &str = "\
+beside|0|826622208|8|image field magic 0`\n\
+beside|4|3|8|image field version 4`\n\
+beside|32|65|8|image field memory 32`\n\
+beside|48|2|8|image field entry-a 48`\n\
+beside|56|0|8|image field words-a 56`\n\
+beside|68|300000|8|image field line-count 68`\n\
+halts|80|4294967295|9|budget ld 0 al 0 sa 0 sd 0 ab 0 eb 0 cq 0`stuck A halted, E fault illegal`steps 1`\n\
+copies|32|0|9|budget ld 0 al 0 sa 0 sd 0 ab 0 eb 0 cq 0`stuck A fault illegal, E fault illegal`steps 0`\n\
+beside|8|9|4|budget ld 9 al 0 sa 1 sd 1 ab 0 eb 0 cq 0`depth ld needs 9 has 8`";
+
+/// Puts the number into four bytes of the image.
+fn put_number(bytes: &mut [u8], at: usize, number: u32) {
+    for (place, byte) in bytes.iter_mut().skip(at).zip(number.to_le_bytes()) {
+        *place = byte;
+    }
+}
+
+/// The image of a row with its number put in its place.
+fn changed(alloc: Global, row: &str) -> Result<Vec<u8>, AllocError> {
+    let mut bytes = Vec::from_slice(alloc, image_named(part(row, 0)))?;
+    let at = part(row, 1).parse::<usize>().unwrap_or(0);
+    let number = part(row, 2).parse::<u32>().unwrap_or(0);
+    put_number(bytes.as_mut_slice(), at, number);
+    Ok(bytes)
+}
+
+fn check_changed(rt: &impl Abort, alloc: Global, row: &str) -> Result<(), AllocError> {
+    let bytes = changed(alloc, row)?;
+    let note = noted(alloc, part(row, 4))?;
+    let status = part(row, 3).parse::<u8>().unwrap_or(255);
+    check_bytes(rt, alloc, bytes.as_slice(), status, note.as_slice())
+}
+
+fn check_all_changed(rt: &impl Abort, alloc: Global, rows: &str) -> Result<(), AllocError> {
+    for row in rows.lines() {
+        check_changed(rt, alloc, row)?;
+    }
+    Ok(())
 }
 
 #[test]
-fn a_run_of_three_steps_goes_on(rt: HostRuntime) -> Result<(), Fail> {
+fn changed_images_are_refused_or_stuck(rt: HostRuntime) -> Result<(), AllocError> {
+    check_all_changed(&rt, rt.alloc(), CHANGED)
+}
+
+#[test]
+fn a_run_of_three_steps_goes_on(rt: HostRuntime) -> Result<(), AllocError> {
+    let mut shelf = shelf_of(rt.alloc(), "p", STORES_BESIDE)?;
     let due: (u8, &[u8], &[u8]) = (
         3,
         b"",
         b"budget ld 1 al 0 sa 1 sd 1 ab 0 eb 0 cq 0\nrunning\nsteps 3\n",
     );
-    answers_image(
+    check_exec(
         &rt,
         rt.alloc(),
-        STORES_BESIDE,
-        "--schedule=a",
-        &["--steps=3"],
+        &mut shelf,
+        ("--schedule=a", "--steps=3"),
         due,
     )
 }
 
-/// Images, and their lengths.
-static WHOLE: [(&[u8], usize); 3] = [(HALTS, 84), (STORES_BESIDE, 108), (COPIES, 96)];
-
-fn whole_images() -> &'static [(&'static [u8], usize)] {
-    WHOLE.as_slice()
+/// The image is too short with this length.
+fn check_length(
+    rt: &impl Abort,
+    alloc: Global,
+    image: &[u8],
+    length: usize,
+) -> Result<(), AllocError> {
+    let note = format!(in alloc; "image short {length}\n")?;
+    let bytes = image.get(..length).unwrap_or(image);
+    check_bytes(rt, alloc, bytes, 8, note.as_bytes())
 }
 
-/// The bytes are answered by status 8 and this note.
-fn is_refused(rt: &impl Abort, alloc: Global, bytes: &[u8], note: &str) -> Result<(), Fail> {
-    let due: (u8, &[u8], &[u8]) = (8, b"", note.as_bytes());
-    answers_image(rt, alloc, bytes, "--schedule=round", &[], due)
-}
-
-/// Each part of the image that begins it is too short, and with a byte more it is too long.
-fn refuses_lengths(rt: &impl Abort, alloc: Global, image: &[u8], whole: usize) -> Result<(), Fail> {
+/// Each part of the image that begins it is too short.
+fn check_lengths(
+    rt: &impl Abort,
+    alloc: Global,
+    image: &[u8],
+    whole: usize,
+) -> Result<(), AllocError> {
     for length in 0..whole {
-        let note = format!(in alloc; "image short {length}\n")?;
-        let bytes = image.get(..length).unwrap_or(image);
-        is_refused(rt, alloc, bytes, note.as_str())?;
-    }
-    let mut longer = Vec::from_slice(alloc, image)?;
-    longer.push(0)?;
-    let note = format!(in alloc; "image trailing {whole}\n")?;
-    is_refused(rt, alloc, longer.as_slice(), note.as_str())
-}
-
-fn refuse_lengths(rt: &impl Abort, alloc: Global, rows: &[(&[u8], usize)]) -> Result<(), Fail> {
-    for (image, length) in rows {
-        refuses_lengths(rt, alloc, image, *length)?;
+        check_length(rt, alloc, image, length)?;
     }
     Ok(())
 }
 
+/// With a byte more the image, of so many bytes, is too long.
+fn check_longer(
+    rt: &impl Abort,
+    alloc: Global,
+    image: &[u8],
+    whole: usize,
+) -> Result<(), AllocError> {
+    let note = format!(in alloc; "image trailing {whole}\n")?;
+    let mut longer = Vec::from_slice(alloc, image)?;
+    longer.push(0)?;
+    check_bytes(rt, alloc, longer.as_slice(), 8, note.as_bytes())
+}
+
 #[test]
-fn images_of_other_lengths_are_refused(rt: HostRuntime) -> Result<(), Fail> {
-    refuse_lengths(&rt, rt.alloc(), whole_images())
+fn images_of_other_lengths_are_refused(rt: HostRuntime) -> Result<(), AllocError> {
+    check_lengths(&rt, rt.alloc(), HALTS, 84)?;
+    check_longer(&rt, rt.alloc(), HALTS, 84)?;
+    check_lengths(&rt, rt.alloc(), STORES_BESIDE, 108)?;
+    check_longer(&rt, rt.alloc(), STORES_BESIDE, 108)?;
+    check_lengths(&rt, rt.alloc(), COPIES, 96)?;
+    check_longer(&rt, rt.alloc(), COPIES, 96)
 }
 
 /// The bytes that a text spells in hexadecimal.
@@ -265,53 +244,65 @@ fn decoded(rt: &impl Abort, alloc: Global, text: &str) -> Vec<u8> {
     }
 }
 
-/// The status, the output and the note of an answer in the table.
-fn due_of(rt: &impl Abort, alloc: Global, text: &str) -> (u8, Vec<u8>, Vec<u8>) {
-    let mut parts = text.split(' ');
+/// The answer of a line for this schedule, or else for all: a status, the output and the note.
+fn answer_in(line: &str, at: usize) -> &str {
+    match line.split(';').nth(at) {
+        Some(answer) => answer,
+        None => line.split(';').nth(1).unwrap_or(""),
+    }
+}
+
+/// The image on the shelf is answered so under a schedule.
+fn check_told(
+    rt: &impl Abort,
+    alloc: Global,
+    shelf: &mut MemShelf,
+    options: (&str, &str),
+    answer: &str,
+) -> Result<(), AllocError> {
+    let mut parts = answer.split(' ');
     let status = parts.next().unwrap_or("").parse::<u8>().unwrap_or(255);
     let out = decoded(rt, alloc, parts.next().unwrap_or(""));
     let note = decoded(rt, alloc, parts.next().unwrap_or(""));
-    (status, out, note)
+    check_exec(
+        rt,
+        alloc,
+        shelf,
+        options,
+        (status, out.as_slice(), note.as_slice()),
+    )
 }
 
-/// Answers as a line of the table says.
-fn answers_line(rt: &impl Abort, alloc: Global, line: &str) -> Result<(), Fail> {
-    let mut parts = line.split(';');
-    let mut head = parts.next().unwrap_or("").split(' ');
-    let image = decoded(rt, alloc, head.next().unwrap_or(""));
-    let mut options = Vec::new(alloc);
-    for option in head {
-        options.push(option)?;
-    }
-    let mut due = Vec::new(alloc);
-    for part in parts {
-        due.push(due_of(rt, alloc, part))?;
-    }
-    for (at, schedule) in schedules().iter().enumerate() {
-        let each = due.as_slice().get(at);
-        if let Some((status, out, note)) = each.or(due.as_slice().first()) {
-            let due: (u8, &[u8], &[u8]) = (*status, out.as_slice(), note.as_slice());
-            answers_image(
-                rt,
-                alloc,
-                image.as_slice(),
-                schedule,
-                options.as_slice(),
-                due,
-            )?;
-        }
+/// The image on the shelf, with these options, is answered as a line of the table says.
+fn check_image(
+    rt: &impl Abort,
+    alloc: Global,
+    shelf: &mut MemShelf,
+    options: &str,
+    line: &str,
+) -> Result<(), AllocError> {
+    for (schedule, at) in schedules().iter().zip(1..8) {
+        check_told(rt, alloc, shelf, (*schedule, options), answer_in(line, at))?;
     }
     Ok(())
 }
 
-fn answers_lines(rt: &impl Abort, alloc: Global, text: &str) -> Result<(), Fail> {
-    for line in text.lines() {
-        answers_line(rt, alloc, line)?;
+fn check_line(rt: &impl Abort, alloc: Global, line: &str) -> Result<(), AllocError> {
+    let head = line.split(';').next().unwrap_or("");
+    let (image, options) = head.split_once(' ').unwrap_or((head, ""));
+    let bytes = decoded(rt, alloc, image);
+    let mut shelf = shelf_of(alloc, "p", bytes.as_slice())?;
+    check_image(rt, alloc, &mut shelf, options, line)
+}
+
+fn check_all_lines(rt: &impl Abort, alloc: Global, lines: &str) -> Result<(), AllocError> {
+    for line in lines.lines() {
+        check_line(rt, alloc, line)?;
     }
     Ok(())
 }
 
 #[test]
-fn random_images_answer_as_elsewhere(rt: HostRuntime) -> Result<(), Fail> {
-    answers_lines(&rt, rt.alloc(), IMAGES)
+fn random_images_answer_as_elsewhere(rt: HostRuntime) -> Result<(), AllocError> {
+    check_all_lines(&rt, rt.alloc(), IMAGES)
 }

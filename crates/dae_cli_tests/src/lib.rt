@@ -7,8 +7,6 @@ mod calls;
 #[cfg(test)]
 mod exec_tests;
 #[cfg(test)]
-mod files;
-#[cfg(test)]
 mod images;
 #[cfg(test)]
 mod jobs;

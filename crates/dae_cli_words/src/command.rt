@@ -4,7 +4,7 @@ ghost use Rattle.dae_cli_words.specs.declared.command.Command.{Command};
 ghost use Rattle.dae_cli_words.specs.Words.{names_of, word_of};
 
 /// What the first word asks for.
-#[derive(Clone, Copy, PartialEq, Eq, Debug)]
+#[derive(Clone, Copy, PartialEq, Eq)]
 pub enum Command {
     Run,
     Big,

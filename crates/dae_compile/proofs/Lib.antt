@@ -1,8 +1,10 @@
 mod Accesses
 mod Fitting
 mod Passes
+mod Prepared
 mod Small
 mod Names
 mod Own
 mod Private
 mod Calls
+mod Counting

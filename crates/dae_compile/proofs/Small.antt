@@ -1,5 +1,5 @@
 -- The image of texts is small, and their program has one where memory isn't wanting.
-use Rattle.std.proofs.Common.{◌≡◌, ◌⊎◌, ℕ, zero, suc, ◌+◌, ◌-◌, ◌*◌, ◌^◌, ◌<◌, ◌≤◌, true, ◌&&◌, List, [], ◌∷◌, length, None, inl, inr, refl, ap, sym, subst, arith}
+use Rattle.std.proofs.Common.{◌≡◌, ◌⊎◌, ℕ, zero, suc, ◌+◌, ◌-◌, ◌*◌, ◌^◌, ◌<◌, ◌≤◌, true, ◌&&◌, List, [], ◌∷◌, ◌++◌, length, None, inl, inr, refl, ap, subst, arith, length-append}
 use Rattle.std.proofs.lemmas.Bool.{false≢true, and_parts}
 use Rattle.std.specs.Prelude.{slice_get, IfOk, Result, Ok, Err}
 use Rattle.std.specs.List.{AllByRecursion, list_all}
@@ -10,129 +10,23 @@ use Rattle.dae_tree.specs.Files.{Contents}
 use Rattle.dae_program.specs.declared.program.Function.{Function}
 use Rattle.dae_program.specs.declared.program.Program.{Program}
 use Rattle.dae_program.specs.Lawful.{is_lawful, is_lawful_in, is_lawful_memory, is_main, is_ready, is_well_placed, spares}
-use Rattle.dae_ir.specs.Code.{Done, Do, If, Loop}
-use Rattle.dae_ir.specs.Form.{Form, form_of}
-use Rattle.dae_ir.specs.Sizes.{bit, form_size, is_load_into, item_weight}
+use Rattle.dae_ir.specs.Form.{form_of}
 use Rattle.dae_ir.specs.declared.form.Function.{Function as FormFunction}
 use Rattle.dae_ir.specs.declared.form.Ir.{Ir}
-use Rattle.dae_ir.specs.declared.form.Item.{Item}
-use Rattle.dae_ir.specs.declared.form.Item.TheVariants.{Assign, Load, Store, Print, Expect, Break, Continue, Call, Return, Halt}
 use Rattle.dae_select_walks.specs.Homes.{frame_words}
-use Rattle.dae_compile.specs.Generated.{calls_of_form, is_call, words_of_form, words_of_functions, HasFramesWithin, HaveAtMost, IsShort, NeedsTooMuch}
+use Rattle.dae_compile.specs.Generated.{words_of_form, words_of_functions, HasFramesWithin, HaveAtMost, IsShort, NeedsTooMuch}
 use Rattle.dae_lower_formed.specs.Formed.{AreFormsOf, IsFormOf, IsLowered}
-use Rattle.dae_ir_pair.specs.Sizes.{burden, item_burden}
-use Rattle.dae_sizes.specs.Promise.{burdens_of, DefinitionsAreShort, FormsAreWithin, FramesAreWithin, HasFrameWithin, IsForm}
-use Rattle.dae_sizes.specs.Sources.{AreUpTo, bytes_in, tokens_in}
+use Rattle.dae_sizes.specs.Promise.{burdens_of, DefinitionsAreShort, FormsAreWithin, FramesAreWithin, FunctionsAreCounted, HasFrameWithin, IsForm}
+use Rattle.dae_sizes.specs.Sources.{ArePlanned, AreTypedAs, AreUpTo, bytes_in, count_functions, start_by, tokens_in}
+use Rattle.dae_types_typed.specs.declared.files.FileParts.{FileParts}
+use Rattle.dae_types_typed.specs.declared.files.TypedFunction.{TypedFunction}
+use Rattle.dae_unit.specs.Meanings.{function_of, functions_from, functions_in}
 use Rattle.dae_accept.specs.Origins.{IsOfFiles, ReadAreWithin}
-use Rattle.dae_alias.specs.Forms.{AreReused, IsReusedFunction}
-use Rattle.dae_alias.specs.Laws.{ReuseStaysSmall}
-use Rattle.dae_alias.specs.Reuse.{loads_in as reuse_loads, reused}
-use Rattle.dae_alias.specs.Stretches.{nothing}
-use Rattle.dae_webs.specs.Current.{own_webs}
-use Rattle.dae_webs.specs.Renamed.{renamed_code}
-use Rattle.dae_webs.specs.Forms.{IsRenamedOrSame, AreRenamedFunctions}
-use Rattle.dae_webs.specs.Laws.{IsBlind, RenamingKeepsSizes}
-use Rattle.dae_lower_formed.specs.Code.{loaded_burden, loads_in}
-use Rattle.dae_compile.specs.Compiled.{IsCompiledFrom, IsFinalForm, HasTooMuchPrivate, HasTooMuchCode}
+use Rattle.dae_lower_formed.specs.Code.{loads_in}
+use Rattle.dae_compile.specs.Compiled.{IsCompiledFrom, IsFinalForm, HasFewVariables, HasTooMuchPrivate, HasTooMuchCode, LeavesNumbers}
 use Rattle.dae_compile.specs.Sizes.{private_beside, words_beside, AreSmallBy, IsSmallBy, IsSmallBeside}
 
 -- ---- words of code
-
-item_weighs : (x : Item) → 28 * item_weight x + 42 * bit (is_call x) ≡ 14 * item_burden x
-item_weighs (Call v f xs) = omega arith
-item_weighs x = omega arith
-
-weighs : (code : Form) → 28 * form_size code + 42 * calls_of_form code ≡ 14 * burden code
-weighs Done = refl
-weighs (Do mark x k) = let h = item_weighs x in let g = weighs k in omega (arith, h, g)
-weighs (If mark test p q k) = let h = weighs p in let g = weighs q in let f = weighs k in omega (arith, h, g, f)
-weighs (Loop mark body step k) = let h = weighs body in let g = weighs step in let f = weighs k in omega (arith, h, g, f)
-
--- the loads of code, counted in two ways
-same_loads : (code : Form) → reuse_loads code ≡ loads_in code
-same_loads Done = refl
-same_loads (Do mark (Load v kind x) k) = let h = same_loads k in omega (arith, h)
-same_loads (Do mark item k) = let h = same_loads k in omega (arith, h)
-same_loads (If mark test p q k) = let h = same_loads p in let g = same_loads q in let f = same_loads k in omega (arith, h, g, f)
-same_loads (Loop mark body step k) = let h = same_loads body in let g = same_loads step in let f = same_loads k in omega (arith, h, g, f)
-
-call_blind : IsBlind (λ item. bit (is_call item))
-call_blind o m (Assign v x) = refl
-call_blind o m (Load v kind x) = refl
-call_blind o m (Store width x y) = refl
-call_blind o m (Print spelling x) = refl
-call_blind o m (Expect check) = refl
-call_blind o m Break = refl
-call_blind o m Continue = refl
-call_blind o m (Call v g xs) = refl
-call_blind o m (Return x) = refl
-call_blind o m (Halt x) = refl
-
-load_blind : IsBlind (λ item. bit (is_load_into (λ v. true) item))
-load_blind o m (Assign v x) = refl
-load_blind o m (Load v kind x) = refl
-load_blind o m (Store width x y) = refl
-load_blind o m (Print spelling x) = refl
-load_blind o m (Expect check) = refl
-load_blind o m Break = refl
-load_blind o m Continue = refl
-load_blind o m (Call v g xs) = refl
-load_blind o m (Return x) = refl
-load_blind o m (Halt x) = refl
-
--- code that is as large, and has as many calls and loads, weighs the same
-same_weight : (c d : Form) → form_size c ≡ form_size d → calls_of_form c ≡ calls_of_form d → loads_in c ≡ loads_in d → loaded_burden c ≡ loaded_burden d
-same_weight c d size calls loads = let w = weighs c in let z = weighs d in omega (arith, size, calls, loads, w, z)
-
--- a function whose variables are renamed weighs the same, and has as many loads
-renamed_weighs : RenamingKeepsSizes → (f g : FormFunction) → IsRenamedOrSame f g
-    → (loaded_burden (form_of g.body) ≡ loaded_burden (form_of f.body)) × (loads_in (form_of g.body) ≡ loads_in (form_of f.body))
-renamed_weighs sizes f g (inl same) = (ap (λ (h : FormFunction). loaded_burden (form_of h.body)) same, ap (λ (h : FormFunction). loads_in (form_of h.body)) same)
-renamed_weighs sizes f g (inr r) =
-    let s = sizes r.starts 0 (own_webs 0 f.variables) (form_of f.body) in
-    let calls = s.tallies (λ item. bit (is_call item)) (λ t. 0) call_blind (λ m t. refl) in
-    let loads = s.tallies (λ item. bit (is_load_into (λ v. true) item)) (λ t. 0) load_blind (λ m t. refl) in
-    let weight = same_weight (renamed_code r.starts 0 (own_webs 0 f.variables) (form_of f.body)) (form_of f.body) s.size calls loads in
-    (subst (λ (c : Form). loaded_burden c ≡ loaded_burden (form_of f.body)) (sym r.body) weight, subst (λ (c : Form). loads_in c ≡ loads_in (form_of f.body)) (sym r.body) loads)
-
--- and at most every second variable beyond 9 more
-renamed_variables : (f g : FormFunction) → IsRenamedOrSame f g → 2 * g.variables ≤ 2 * f.variables + (f.variables - 9)
-renamed_variables f g (inl same) = let e : g.variables ≡ f.variables = ap (λ (h : FormFunction). h.variables) same in omega (arith, e)
-renamed_variables f g (inr r) = r.most
-
--- a function whose loads are then reused has an item and a variable more for at most every second load
-reused_small : ReuseStaysSmall → (f g : FormFunction) → IsReusedFunction f g
-    → (28 * form_size (form_of g.body) + 42 * calls_of_form (form_of g.body) ≤ 14 * loaded_burden (form_of f.body)) × (2 * g.variables ≤ 2 * f.variables + loads_in (form_of f.body))
-reused_small small f g is =
-    let s = small is.holders (form_of f.body) in
-    let size = s.size in
-    let half = s.half is.only in
-    let calls : calls_of_form (reused is.holders nothing [] 0 (form_of f.body)) ≡ calls_of_form (form_of f.body) = s.others (λ item. bit (is_call item)) (λ t. 0) (λ v kind x. refl) (λ v u. refl) in
-    let w = weighs (form_of f.body) in
-    let l = same_loads (form_of f.body) in
-    let more = is.variables in (
-      subst (λ (c : Form). 28 * form_size c + 42 * calls_of_form c ≤ 14 * loaded_burden (form_of f.body)) (sym is.body) (omega (arith, size, half, calls, w, l)),
-      omega (arith, half, l, more),
-    )
-
-final_small : RenamingKeepsSizes → ReuseStaysSmall → (f h g : FormFunction) → IsRenamedOrSame f h → IsReusedFunction h g → IsSmallBy f g
-final_small sizes small f h g named is =
-    let weight = renamed_weighs sizes f h named in
-    let more = renamed_variables f h named in
-    let by = reused_small small h g is in
-    let words = by.0 in
-    let variables = by.1 in
-    let burdens = weight.0 in
-    let loads = weight.1 in
-    record { words = omega (arith, words, burdens); variables = omega (arith, more, variables, loads) }
-
-pub functions_small : RenamingKeepsSizes → ReuseStaysSmall → (fs hs gs : List FormFunction) → AreRenamedFunctions fs hs → AreReused hs gs → AreSmallBy fs gs
-functions_small sizes small [] [] [] named is = tt
-functions_small sizes small [] [] (g ∷ gs) named is = absurd is
-functions_small sizes small [] (h ∷ hs) gs named is = absurd named
-functions_small sizes small (f ∷ fs) [] gs named is = absurd named
-functions_small sizes small (f ∷ fs) (h ∷ hs) [] named is = absurd is
-functions_small sizes small (f ∷ fs) (h ∷ hs) (g ∷ gs) named is = (final_small sizes small f h g named.0 is.0, functions_small sizes small fs hs gs named.1 is.1)
 
 words_weigh : (fs gs : List FormFunction) → AreSmallBy fs gs → words_of_functions gs ≤ 14 * burdens_of fs
 words_weigh [] [] is = omega arith
@@ -241,3 +135,39 @@ never_deep short frames texts p calls few o h =
     let lowered = of.lowered in
     let all = later_frames greatest_length first.functions ir.functions of.small (frames o.files first greatest_length (form_in texts p first o lowered.form) (short o.files o.typed o.from)) in
     not_large calls few (subst (λ c. (2 ^ 26 ≤ 65536) ⊎ (2 ^ 28 < c * 65536)) of.depth (h.needs (8 * greatest_length - 19) (have_at_most greatest_length ir all)))
+
+-- ---- words number variables
+
+leaves_numbers : (v l : ℕ) → 38 + (2 * v + (v - 9) + l) ≤ 131073 → 2 * v + (v - 9) + 2 * l < 2 ^ 33
+leaves_numbers v l h = omega (arith, h)
+
+all_leave : (gs : List FormFunction) → AllByRecursion (HasFrameWithin greatest_length) gs → AllByRecursion LeavesNumbers gs
+all_leave gs all = all_more (HasFrameWithin greatest_length) LeavesNumbers (λ g frame. leaves_numbers g.variables (loads_in (form_of g.body)) frame) gs all
+
+pub few_variables : DefinitionsAreShort → FramesAreWithin → (texts : List (List ℕ)) (p : Program) → IsOfFiles texts p → HasFewVariables p
+few_variables short frames texts p o first lowered =
+    all_leave first.functions (frames o.files first greatest_length (form_in texts p first o lowered.form) (short o.files o.typed o.from))
+
+-- ---- words number functions
+
+functions_long : (done : List Function) (k : ℕ) (fs : List TypedFunction) → length (functions_in done k fs) ≡ length done + length fs
+functions_long done k [] = omega arith
+functions_long done k (f ∷ fs) = let h = functions_long (done ++ function_of k f ∷ []) k fs in let l = length-append done (function_of k f ∷ []) in omega (arith, h, l)
+
+all_long : (done : List Function) (k : ℕ) (ts : List FileParts) → length (functions_from done k ts) ≡ length done + count_functions ts
+all_long done k [] = omega arith
+all_long done k (t ∷ ts) = let h = all_long (functions_in done k t.functions) (suc k) ts in let l = functions_long done k t.functions in omega (arith, h, l)
+
+planned : (cs : List Contents) (ts : List FileParts) → AreTypedAs cs ts → ArePlanned cs ts
+planned [] [] h = tt
+planned [] (t ∷ ts) h = absurd h
+planned (c ∷ cs) [] h = absurd h
+planned (c ∷ cs) (t ∷ ts) h = let one = h.0 in ((start_by c one.numbers, one.typed), planned cs ts h.1)
+
+pub few_functions : FunctionsAreCounted → ReadAreWithin → (texts : List (List ℕ)) (p : Program) → IsOfFiles texts p → length p.functions < 2 ^ 32
+few_functions counted read texts p o =
+    let long = all_long [] 0 o.typed in
+    let same = ap (λ (fs : List Function). length fs) o.functions in
+    let half = counted o.files o.typed (planned o.files o.typed o.from) in
+    let few = read texts o.files o.read in
+    let most : tokens_in o.files ≤ 65536 = few.0 in omega (arith, long, same, half, most)

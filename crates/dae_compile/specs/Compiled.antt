@@ -1,5 +1,5 @@
 -- What an image is that is compiled from a program, and what a program is that has none.
-use Rattle.std.specs.Prelude.{◌≡◌, ℕ, ◌^◌, ◌<◌}
+use Rattle.std.specs.Prelude.{◌≡◌, ℕ, ◌+◌, ◌-◌, ◌*◌, ◌^◌, ◌<◌}
 use Rattle.std.specs.List.{AllByRecursion}
 use Rattle.dae_alias.specs.Stretches.{HasNoSecond}
 use Rattle.dae_image.specs.declared.Image.{Image}
@@ -8,6 +8,7 @@ use Rattle.dae_ir.specs.declared.form.Function.{Function}
 use Rattle.dae_ir.specs.declared.form.Ir.{Ir}
 use Rattle.dae_machine_rounds.specs.Promises.{DoesForm}
 use Rattle.dae_program.specs.declared.program.Program.{Program}
+use Rattle.dae_lower_formed.specs.Code.{loads_in}
 use Rattle.dae_lower_formed.specs.Formed.{IsLowered}
 use Rattle.dae_link.specs.Linked.{IsCompiledOf}
 use Rattle.dae_report.specs.Reports.{IsReportOf}
@@ -15,6 +16,15 @@ use Rattle.dae_compile_promise.specs.Promises.{IsLaterForm}
 use Rattle.dae_compile.specs.Generated.{HasFramesWithin, IsShort, NeedsTooMuch, words_of_form}
 use Rattle.dae_compile.specs.declared.generating.Compiled.{Compiled}
 use Rattle.dae_compile.specs.Sizes.{AreSmallBy}
+
+-- words number the variables of a function, one more for every second one beyond 9, and one for each load
+abbrev pub LeavesNumbers : Function → Type 0
+LeavesNumbers f =
+    2 * f.variables + (f.variables - 9) + 2 * loads_in (form_of f.body) < 2 ^ 33
+
+-- and so those of each function of its lowered form
+abbrev pub HasFewVariables : Program → Type 0
+HasFewVariables p = (first : Ir) → IsLowered p first → AllByRecursion LeavesNumbers first.functions
 
 -- A form of a program, under a limit on calls: it is the lowered form, or one that passes made of it. It means what the lowered
 -- form means, and is little larger. No stretch of it holds two loads of one kind from one symbolic address, where each store

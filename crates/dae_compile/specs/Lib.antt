@@ -3,3 +3,4 @@ pub mod Compiled
 pub mod Images
 pub mod Sizes
 pub mod Generated
+pub mod Passes

@@ -16,8 +16,8 @@ use dae_compile_promise::later_forms_do_programs;
 use dae_link::CodeError;
 use dae_lower_bounds::sets_bounded;
 use dae_sizes::{
-    definitions_are_short, forms_are_within, frames_are_within, functions_initialise_constants,
-    functions_test_values,
+    definitions_are_short, forms_are_within, frames_are_within, functions_are_counted,
+    functions_initialise_constants, functions_test_values,
 };
 use std::alloc::Global;
 
@@ -45,6 +45,7 @@ pub fn compile(
     definitions_are_short();
     forms_are_within();
     frames_are_within();
+    functions_are_counted();
     functions_initialise_constants();
     functions_test_values();
     sets_bounded();

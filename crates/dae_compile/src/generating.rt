@@ -13,7 +13,7 @@ use dae_base::{Items, Text};
 use dae_image::Image;
 use dae_ir::Ir;
 use dae_link::{CodeError, link};
-use dae_report::{Report, count};
+use dae_report::{Report, can_count, count};
 use dae_split_pair::decouple;
 use std::alloc::Global;
 
@@ -25,8 +25,8 @@ pub struct Compiled {
 }
 
 /// The image of a form with these data and file names, and the form's report, where a group holds at most `cap` loads for E and as many copies, from
-/// 1 to 64. A code is too long only where what bounds it by the form's size and calls is, and a private memory too large only
-/// where frames for all variables of the functions are.
+/// 1 to 64. A code is too long only where what bounds it by the form's size and calls is, as where 32 bits can't count what the
+/// report counts, and a private memory too large only where frames for all variables of the functions are.
 pub fn generate(
     alloc: Global,
     ir: &Ir,
@@ -49,6 +49,9 @@ pub fn generate(
     ensures err { IfErr result (λ e. e ≡ errors.Code → 2 ^ 25 < words_of_form ir.now) }
     ensures deep { IfErr result (λ e. e ≡ errors.Private → NeedsTooMuch ir.now) }
 {
+    if !can_count(ir) {
+        return Err(CodeError::Code);
+    }
     let decoupled = decouple(alloc, ir, cap)?;
     let report = count(alloc, ir, decoupled.classes.as_slice())?;
     let image = link(alloc, &decoupled.pair, decoupled.budget, content, names)?;

@@ -12,4 +12,5 @@ pub use programs::compile_program;
 
 mod compiling;
 mod generating;
+mod passing;
 mod programs;

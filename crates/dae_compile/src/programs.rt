@@ -1,6 +1,6 @@
 // The image of a typed program, and its report.
 
-ghost use Rattle.std.specs.Prelude.{◌≡◌, ◌<◌, ◌≤◌, ◌%◌, length, IfErr, IfOk, IsTrue};
+ghost use Rattle.std.specs.Prelude.{◌≡◌, ◌<◌, ◌≤◌, ◌%◌, ◌^◌, length, IfErr, IfOk, IsTrue};
 ghost use Rattle.std.specs.List.{All, AllByRecursion, list_all};
 ghost use Rattle.dae_image.specs.Contents.{is_name};
 ghost use Rattle.dae_ir_pair.specs.Budget.{IsWithinCap};
@@ -9,12 +9,15 @@ ghost use Rattle.dae_link.specs.declared.error.CodeError.TheVariants as errors;
 ghost use Rattle.dae_ir.specs.Scope.{IsScoped};
 ghost use Rattle.dae_ir.specs.SetFirst.{IsFunctionSetFirst};
 ghost use Rattle.dae_lower_programs.specs.Lowered.{HasRoom};
-ghost use Rattle.dae_compile.specs.Compiled.{AreCompiledFrom, HasTooMuchPrivate, HasTooMuchCode, IsFinalForm};
+ghost use Rattle.dae_compile.specs.Compiled.{AreCompiledFrom, HasFewVariables, HasTooMuchPrivate, HasTooMuchCode, IsFinalForm};
 
+use crate::passing::{reuse_loads, without_commons, without_known_checks};
 use crate::{Compiled, generate};
-use dae_alias::{forms_are_reused, reuse, reuse_stays_small};
+use dae_alias::{forms_are_reused, reuse_stays_small};
 use dae_base::{Items, Text};
+use dae_commons::{commoning_keeps_counts, forms_are_commoned};
 use dae_compile_promise::image_keeps_meaning;
+use dae_elide::{checks_are_elided, elision_keeps_sizes};
 use dae_ir::Ir;
 use dae_link::CodeError;
 use dae_lower_programs::lower;
@@ -28,9 +31,11 @@ fn see_bytes(bytes: &[u8])
 {}
 
 /// A final form of a program, with at most so many calls inside one another: the lowered form with its variables renamed by webs,
-/// and then with its loads reused. It is well made, sets each variable before it reads it, and has room in its memory. An error is
-/// want of memory.
+/// then without its common subexpressions, then without the checks that are known to pass, and then with its loads reused. It is well
+/// made, sets each variable before it reads it, and has room in its memory. An error is want of memory.
 fn final_form(alloc: Global, program: &Program, calls: u16) -> Result<Ir, AllocError>
+    requires functions { length program.now.functions < 2 ^ 32 }
+    requires variables { HasFewVariables program.now }
     ensures made { IfOk result (IsFinalForm program.now calls) }
     ensures scoped { IfOk result IsScoped }
     ensures first { IfOk result (λ ir. AllByRecursion IsFunctionSetFirst ir.functions) }
@@ -38,17 +43,23 @@ fn final_form(alloc: Global, program: &Program, calls: u16) -> Result<Ir, AllocE
 {
     forms_are_renamed();
     renaming_keeps_sizes();
+    forms_are_commoned();
+    commoning_keeps_counts();
+    checks_are_elided();
+    elision_keeps_sizes();
     forms_are_reused();
     reuse_stays_small();
     let lowered = lower(alloc, program, calls)?;
     let renamed = rename_webs(alloc, lowered)?;
-    let ir = reuse(alloc, renamed)?;
+    let common = without_commons(alloc, renamed)?;
+    let bare = without_known_checks(alloc, common)?;
+    let ir = reuse_loads(alloc, bare)?;
     Ok(ir)
 }
 
 /// The image of a program and the report of its form, with at most so many calls inside one another, where a group holds at most `cap` loads
 /// for E and as many copies, from 1 to 64; the names are those of its files. In every order of steps it does what
-/// the program means.
+/// the program means. Words must number its functions, and the variables of each.
 ///
 /// # Errors
 ///
@@ -61,6 +72,8 @@ pub fn compile_program(
     cap: u8,
     names: Items<Text>,
 ) -> Result<Compiled, CodeError>
+    requires functions { length program.functions < 2 ^ 32 }
+    requires variables { HasFewVariables program }
     requires least { 64 ≤ program.memory }
     requires aligned { program.memory % 16 ≡ 0 }
     requires called { 1 ≤ calls }

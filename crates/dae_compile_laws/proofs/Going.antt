@@ -67,6 +67,9 @@ module _ (p : Program) (depth : ℕ) (ir later : Ir) (image : Image) (lowered : 
       let form = subst (λ (q : Result Env). IsKept (turns_of p (suc depth) n) q) (sym (same_outcome p ir lowered scoped (suc depth) (sym made.calls ∙ calls) n)) k in
       subst (λ (m : List ℕ). IsKept (turns_of p (suc depth) n) (outcome ir n m)) (sym opened_memory) form
 
+  sized : length (opened image).memory ≡ ir.memory
+  sized = let r = rules p (suc depth) lowered.lawful in let f = lowered.form in ap length opened_memory ∙ (r.memory ∙ sym f.memory)
+
   small : length (opened image).memory ≤ 2 ^ 32
   small =
       let r = rules p (suc depth) lowered.lawful in
@@ -75,7 +78,7 @@ module _ (p : Program) (depth : ℕ) (ir later : Ir) (image : Image) (lowered : 
       let most = memory_most p lowered.lawful in omega (arith, e, size, most)
 
   alike : (n : ℕ) → Alike SameResult Cheaper (outcome ir n (opened image).memory) (outcome later n (opened image).memory)
-  alike n = let k = made.keeps in k.meaning n (opened image).memory small
+  alike n = let k = made.keeps in k.meaning n (opened image).memory sized small
 
   short : (steps most items loads work : ℕ) → steps ≤ 14 * (8 * most + 26) → most ≤ items + loads → items + loads ≤ 9 * work → steps ≤ 4096 * (work / 4 + 1)
   short steps most items loads work h l k = omega (arith, h, l, k)

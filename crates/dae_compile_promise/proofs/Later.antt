@@ -75,6 +75,7 @@ later_forms_do_programs rules same p old new lowered later depth calls =
     let size : length memory ≡ p.memory = (let r = rules p (suc depth) lowered.lawful in r.memory) in
     let most = memory_most p lowered.lawful in
     let few : length memory ≤ 2 ^ 32 = omega (arith, size, most) in
+    let f = lowered.form in
     let k = later.keeps in
     does_by_fewer (meaning_of p (suc depth)) (λ n. outcome old n memory) (λ n. outcome new n memory)
-    (same p old lowered depth (sym later.calls ∙ calls)) (λ n. k.meaning n memory few)
+    (same p old lowered depth (sym later.calls ∙ calls)) (λ n. k.meaning n memory (size ∙ sym f.memory) few)

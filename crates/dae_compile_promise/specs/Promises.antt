@@ -1,6 +1,7 @@
 -- What an image promises of a typed program: in every order of steps, and at all depths that reach the image's budget, it
 -- does what the program means.
-use Rattle.std.specs.Prelude.{◌≡◌, ℕ, suc, ◌+◌, ◌*◌, ◌/◌, ◌≤◌, List, length, Some}
+use Rattle.std.specs.Prelude.{◌≡◌, ℕ, suc, ◌+◌, ◌*◌, ◌/◌, ◌^◌, ◌≤◌, List, length, slice_get, Some}
+use Rattle.std.specs.List.{AllByRecursion}
 use Rattle.dae_base.specs.declared.Depths.{Depths}
 use Rattle.dae_base.specs.Budgets.{Reaches}
 use Rattle.dae_encode.specs.declared.Halt.{Halt}
@@ -12,10 +13,18 @@ use Rattle.dae_machine.specs.Opened.{setup_of, opened}
 use Rattle.dae_machine.specs.Ends.{CanOnlyEnd, GoesOn as RunsGoOn}
 use Rattle.dae_meaning.specs.Worlds.{World}
 use Rattle.dae_meaning.specs.Results.{End, Halted, Trapped, Going, Astray}
-use Rattle.dae_ir.specs.Programs.{outcome}
+use Rattle.dae_meaning.specs.Alike.{Alike}
+use Rattle.dae_ir.specs.Form.{form_of}
+use Rattle.dae_ir.specs.Classes.{Classes, AreAddressesClosed, classes_of}
+use Rattle.dae_ir.specs.Programs.{AreClassesOf, outcome, program_of}
+use Rattle.dae_ir.specs.Scope.{IsScoped}
+use Rattle.dae_ir.specs.SetFirst.{IsFunctionSetFirst}
+use Rattle.dae_ir.specs.Sizes.{own_loads, conditions_a}
+use Rattle.dae_ir.specs.declared.form.Function.{Function}
 use Rattle.dae_ir.specs.declared.form.Ir.{Ir}
+use Rattle.dae_ir.specs.declared.stream.Class.{Class}
 use Rattle.dae_program.specs.Outcomes.{Outcome, last_world}
-use Rattle.dae_alias.specs.Forms.{KeepsForm}
+use Rattle.dae_alias.specs.Laws.{Cheaper, SameResult}
 use Rattle.dae_program.specs.Programs.{meaning_of, program_end, start, GoesOn}
 use Rattle.dae_program.specs.declared.program.Program.{Program}
 use Rattle.dae_lower_formed.specs.Formed.{IsLowered}
@@ -68,13 +77,30 @@ pub record KeepsMeaning (p : Program) (limit : ℕ) (image : Image) : Type 0 whe
 
 -- ---- from a program to an image that does its form
 
+-- In a memory as large as the form's it ends as the form does, under each bound on turns, with the same output, memory and status,
+-- the same number of stores and no more loads, and at most one item more for each load. It is as well made, and sets each variable
+-- before it reads it. By its least classes no function has more loads into variables that lead to addresses, nor more conditions
+-- that A decides, than by any sets of the form before that keep what leads to addresses.
+pub record KeepsLowered (ir later : Ir) : Type 0 where
+  pub meaning : (n : ℕ) (memory : List ℕ) → length memory ≡ ir.memory → length memory ≤ 2 ^ 32
+      → Alike SameResult Cheaper (outcome ir n memory) (outcome later n memory)
+  pub scoped : IsScoped later
+  pub first : AllByRecursion IsFunctionSetFirst ir.functions
+      → AllByRecursion IsFunctionSetFirst later.functions
+  pub access : (of : ℕ → Classes) → AreAddressesClosed (program_of ir) (λ k. (of k).s)
+      → (tables : List (List Class)) → AreClassesOf later tables → (k : ℕ) (f g : Function)
+      → slice_get ir.functions k ≡ Some f → slice_get later.functions k ≡ Some g
+      → (own_loads (classes_of tables k) (form_of g.body) ≤ own_loads (of k) (form_of f.body))
+      × (conditions_a (classes_of tables k) (form_of g.body)
+      ≤ conditions_a (of k) (form_of f.body))
+
 -- A form that passes from form to form may make of another one: it has that one's memory, frames and limit on calls; it ends as
 -- that one does under each bound, with no more loads, and is as well made; and its access side loads and decides no more.
 pub record IsLaterForm (ir later : Ir) : Type 0 where
   pub memory : later.memory ≡ ir.memory
   pub frames : later.frames ≡ ir.frames
   pub calls : later.calls ≡ ir.calls
-  pub keeps : KeepsForm ir later
+  pub keeps : KeepsLowered ir later
 
 -- a later form of a program does what the program does, with no more loads than the program reads
 abbrev pub LaterFormsDoPrograms : Type 0

@@ -1,5 +1,5 @@
 // The words of instructions that blocks are made of, as binutils and LLVM assemble them; behind each its disassembly.
-use dae_encode::{Inst, decode};
+use dae_encode::{Inst, decode, encode, is_in_range};
 use std::process::Abort;
 
 static WORDS: [(u32, Inst); 115] = [
@@ -124,9 +124,20 @@ fn words() -> &'static [(u32, Inst)] {
     WORDS.as_slice()
 }
 
+/// The word of an instruction, if its fields are in range.
+fn word_of(inst: Inst) -> Option<u32> {
+    if is_in_range(&inst) {
+        Some(encode(inst))
+    } else {
+        None
+    }
+}
+
+/// Each word is that of its instruction, and of the one that it is decoded to.
 fn check_words(rt: &impl Abort, rows: &[(u32, Inst)]) {
     for (word, inst) in rows {
-        assert_eq!(rt; decode(*word), Some(*inst));
+        assert_eq!(rt; word_of(*inst), Some(*word));
+        assert_eq!(rt; decode(*word).and_then(word_of), Some(*word));
     }
 }
 

@@ -134,7 +134,8 @@ fn printed_call(
     argument: u32,
     calls: u16,
 ) -> Result<Ir, AllocError> {
-    let body = [expect_room(0), call(alloc, 1, number(argument))?];
+    let call = call(alloc, 1, number(argument))?;
+    let body = [expect_room(0), call];
     let mut body = Vec::from_array(alloc, body)?;
     print_and_halt(&mut body, variable(1))?;
     let main = function(alloc, "main", 0, 2, body)?;
@@ -177,20 +178,14 @@ pub fn steps_to_one(alloc: Global) -> Result<Ir, AllocError> {
         add(5, variable(4), number(1)),
         copy(1, variable(5)),
     ];
-    let even = [
-        binary(4, Operator::DivideSigned, variable(1), number(2)),
-        copy(1, variable(4)),
-    ];
+    let odd = Vec::from_array(alloc, odd)?;
+    let half = binary(4, Operator::DivideSigned, variable(1), number(2));
+    let even = Vec::from_array(alloc, [half, copy(1, variable(4))])?;
     let is_odd = test(variable(3), Comparison::NotEqual, number(0));
     let turn = [
         go_on(alloc, test(variable(1), Comparison::NotEqual, number(1)))?,
         binary(3, Operator::RemainderSigned, variable(1), number(2)),
-        Statement::If(
-            PLACE,
-            is_odd,
-            Vec::from_array(alloc, odd)?,
-            Vec::from_array(alloc, even)?,
-        ),
+        Statement::If(PLACE, is_odd, odd, even),
         add(4, variable(2), number(1)),
         copy(2, variable(4)),
     ];
@@ -261,10 +256,11 @@ pub fn letters(alloc: Global) -> Result<Ir, AllocError> {
 
 /// `int f(int n) { return n ? 1 + f(n - 1) : 0; }` and in main `printf("%d\n", f(depth));`, where calls may stand so deep.
 pub fn counted_calls(alloc: Global, calls: u16, depth: u32) -> Result<Ir, AllocError> {
+    let called = call(alloc, 3, variable(2))?;
     let deeper = [
         binary(2, Operator::Subtract, variable(1), number(1)),
         expect_room(0),
-        call(alloc, 3, variable(2))?,
+        called,
         add(4, number(1), variable(3)),
         copy(5, variable(4)),
     ];

@@ -8,13 +8,14 @@ ghost use Rattle.dae_core.specs.Held.{CanHold};
 use crate::forms;
 use dae_base::{Depths, Items, Side, Text};
 use dae_image::{Image, LineMark};
-use dae_ir::Ir;
-use dae_link::link;
+use dae_ir::{Ir, Pair, Stream};
+use dae_link::{CodeError, link};
 use dae_machine::{End, Machine, Rest, Schedule, Turn, Words};
-use dae_regalloc::allocate;
+use dae_regalloc::{allocate, can_number};
 use dae_select_walks::Home;
 use dae_split_pair::{decouple, is_scoped};
 use std::alloc::{AllocError, Global};
+use std::process::Abort;
 use std::test::Fail;
 
 static SCHEDULES: [Schedule; 6] = [
@@ -63,27 +64,38 @@ fn names_of(alloc: Global) -> Result<Items<Text>, AllocError>
     Ok(Items::from_vec(Vec::from_array(alloc, [name])?))
 }
 
+fn boxed<T: Drop>(alloc: Global, value: T) -> Result<Box<T>, AllocError> {
+    Ok(Box::new(alloc, value)?)
+}
+
+fn boxed_image(
+    alloc: Global,
+    linked: Result<Image, CodeError>,
+) -> Result<Option<Box<Image>>, Fail> {
+    let image = linked?;
+    Ok(Some(boxed(alloc, image)?))
+}
+
 // The image of a form that is well made, where a group has at most four loads for E and as many copies.
-fn image_of(alloc: Global, ir: &Ir, content: &[u8]) -> Result<Option<Image>, Fail> {
+fn image_of(alloc: Global, ir: &Ir, content: &[u8]) -> Result<Option<Box<Image>>, Fail> {
     if !is_scoped(ir) || !fits_machine(ir) || content.len() > 64 {
         return Ok(None);
     }
-    let made = decouple(alloc, ir, 4)?;
     let content = Items::from_vec(Vec::from_slice(alloc, content)?);
     let names = names_of(alloc)?;
-    Ok(Some(link(alloc, &made.pair, made.budget, content, names)?))
+    let made = decouple(alloc, ir, 4)?;
+    let linked = link(alloc, &made.pair, made.budget, content, names);
+    boxed_image(alloc, linked)
 }
 
-// At most so many turns under a schedule: how the machine rests then, and what it printed.
-fn run(
-    alloc: Global,
-    image: &Image,
+// Up to so many turns, whose prints are added.
+fn make_turns(
+    machine: &mut Machine,
     schedule: Schedule,
     turns: u32,
-) -> Result<(Option<Rest>, Vec<u8>), Fail> {
-    let mut machine = Machine::open(alloc, image, depths_of(image.budget))?;
+    out: &mut Vec<u8>,
+) -> Result<(), AllocError> {
     let mut words = Words::of(schedule);
-    let mut out = Vec::new(alloc);
     for _ in 0..turns {
         if machine.taken() >= 1_000_000_000_000 {
             break;
@@ -93,7 +105,21 @@ fn run(
             Turn::Final(_) | Turn::Stuck => break,
         }
     }
-    Ok((machine.rest(), out))
+    Ok(())
+}
+
+// How a run of the image rests after so many turns, whose prints are added.
+fn run(
+    alloc: Global,
+    image: &Image,
+    schedule: Schedule,
+    turns: u32,
+    out: &mut Vec<u8>,
+) -> Result<Option<Rest>, Fail> {
+    let machine = Machine::open(alloc, image, depths_of(image.budget))?;
+    let mut machine = boxed(alloc, machine)?;
+    make_turns(&mut machine, schedule, turns, out)?;
+    Ok(machine.rest())
 }
 
 // The seven numbers of a budget: loads for E and A's own, addresses and data of stores, messages of A and of E, and copies.
@@ -109,44 +135,95 @@ fn depths([ld, al, sa, sd, ab, eb, cq]: [u16; 7]) -> Depths {
     }
 }
 
+// Whether a run of the image under a schedule ends so and prints these bytes.
+fn ends_under(
+    alloc: Global,
+    image: &Image,
+    schedule: Schedule,
+    (end, printed): (End, &[u8]),
+) -> Result<bool, Fail> {
+    let mut out = Vec::new(alloc);
+    let rest = run(alloc, image, schedule, 1_000_000, &mut out)?;
+    Ok(rest == Some(Rest::Final(end)) && out.as_slice() == printed)
+}
+
+fn ends_alike(alloc: Global, image: &Image, due: (End, &[u8])) -> Result<bool, Fail> {
+    for schedule in schedules() {
+        if !ends_under(alloc, image, *schedule, due)? {
+            return Ok(false);
+        }
+    }
+    Ok(true)
+}
+
 // Whether the program has this budget, and under every schedule ends so and prints these bytes.
 fn ends(
     alloc: Global,
     ir: &Ir,
     content: &[u8],
     budget: [u16; 7],
-    end: End,
-    printed: &[u8],
+    due: (End, &[u8]),
 ) -> Result<bool, Fail> {
-    let Some(image) = image_of(alloc, ir, content)? else {
-        return Ok(false);
-    };
-    for schedule in schedules() {
-        let (rest, out) = run(alloc, &image, *schedule, 1_000_000)?;
-        if rest != Some(Rest::Final(end)) || out.as_slice() != printed {
-            return Ok(false);
-        }
+    match image_of(alloc, ir, content)? {
+        Some(image) => Ok(image.budget == depths(budget) && ends_alike(alloc, &image, due)?),
+        None => Ok(false),
     }
-    Ok(image.budget == depths(budget))
 }
 
-// Whether the program is still going after a thousand turns of any schedule, and has printed this letter alone, if any.
-fn goes_on(alloc: Global, ir: &Ir, letter: Option<u8>) -> Result<bool, Fail> {
-    let Some(image) = image_of(alloc, ir, &[])? else {
-        return Ok(false);
-    };
-    for schedule in schedules() {
-        let (rest, out) = run(alloc, &image, *schedule, 1000)?;
-        if rest.is_some() || out.is_empty() != letter.is_none() {
-            return Ok(false);
+fn check_ends(
+    rt: &impl Abort,
+    alloc: Global,
+    ir: Ir,
+    content: &[u8],
+    budget: [u16; 7],
+    due: (End, &[u8]),
+) -> Result<(), Fail> {
+    assert!(rt; ends(alloc, &ir, content, budget, due)?);
+    Ok(())
+}
+
+// Whether a run of the image is still going after a thousand turns of a schedule, and has printed this letter alone, if any.
+fn goes_on_under(
+    alloc: Global,
+    image: &Image,
+    schedule: Schedule,
+    letter: Option<u8>,
+) -> Result<bool, Fail> {
+    let mut out = Vec::new(alloc);
+    let rest = run(alloc, image, schedule, 1000, &mut out)?;
+    Ok(rest.is_none() && out.is_empty() == letter.is_none() && is_all(out.as_slice(), letter))
+}
+
+// Whether all bytes are this letter.
+fn is_all(bytes: &[u8], letter: Option<u8>) -> bool {
+    for byte in bytes {
+        if Some(*byte) != letter {
+            return false;
         }
-        for byte in out.as_slice() {
-            if Some(*byte) != letter {
-                return Ok(false);
-            }
+    }
+    true
+}
+
+fn goes_on_alike(alloc: Global, image: &Image, letter: Option<u8>) -> Result<bool, Fail> {
+    for schedule in schedules() {
+        if !goes_on_under(alloc, image, *schedule, letter)? {
+            return Ok(false);
         }
     }
     Ok(true)
+}
+
+// Whether the program goes on so under every schedule.
+fn goes_on(alloc: Global, ir: &Ir, letter: Option<u8>) -> Result<bool, Fail> {
+    match image_of(alloc, ir, &[])? {
+        Some(image) => goes_on_alike(alloc, &image, letter),
+        None => Ok(false),
+    }
+}
+
+fn check_goes_on(rt: &impl Abort, alloc: Global, ir: Ir, letter: Option<u8>) -> Result<(), Fail> {
+    assert!(rt; goes_on(alloc, &ir, letter)?);
+    Ok(())
 }
 
 fn mark(side: Side, word: u32, line: u32) -> LineMark {
@@ -162,107 +239,69 @@ fn mark(side: Side, word: u32, line: u32) -> LineMark {
 fn copies(rt: HostRuntime) -> Result<(), Fail> {
     let alloc = rt.alloc();
     let indices = forms::indices_stored(alloc)?;
-    assert!(rt;
-        ends(
-            alloc,
-            &indices,
-            &[],
-            [1, 0, 1, 1, 1, 0, 1],
-            End::Ended(0),
-            b"3\n"
-        )?
-    );
+    let budget = [1, 0, 1, 1, 1, 0, 1];
+    check_ends(&rt, alloc, indices, &[], budget, (End::Ended(0), b"3\n"))?;
     let loaded = forms::loaded_index(alloc)?;
-    assert!(rt;
-        ends(
-            alloc,
-            &loaded,
-            &[2, 0, 0, 0],
-            [1, 1, 1, 1, 1, 0, 1],
-            End::Ended(0),
-            b"2\n"
-        )?
-    );
-    Ok(())
+    let budget = [1, 1, 1, 1, 1, 0, 1];
+    check_ends(
+        &rt,
+        alloc,
+        loaded,
+        &[2, 0, 0, 0],
+        budget,
+        (End::Ended(0), b"2\n"),
+    )
 }
 
 #[test]
 fn regions(rt: HostRuntime) -> Result<(), Fail> {
     let alloc = rt.alloc();
     let steps = forms::steps_to_one(alloc)?;
-    assert!(rt;
-        ends(
-            alloc,
-            &steps,
-            &[],
-            [0, 0, 0, 0, 0, 0, 0],
-            End::Ended(0),
-            b"111\n"
-        )?
-    );
+    let budget = [0, 0, 0, 0, 0, 0, 0];
+    check_ends(&rt, alloc, steps, &[], budget, (End::Ended(0), b"111\n"))?;
     let divisor = forms::checked_divisor(alloc)?;
-    assert!(rt;
-        ends(
-            alloc,
-            &divisor,
-            &[],
-            [0, 0, 0, 0, 0, 1, 0],
-            End::Trapped(1),
-            b""
-        )?
-    );
+    let budget = [0, 0, 0, 0, 0, 1, 0];
+    check_ends(&rt, alloc, divisor, &[], budget, (End::Trapped(1), b""))?;
     let index = forms::index_after_a_loop(alloc)?;
-    assert!(rt;
-        ends(
-            alloc,
-            &index,
-            &[],
-            [1, 0, 1, 1, 1, 0, 0],
-            End::Ended(0),
-            b"7\n"
-        )?
-    );
-    Ok(())
+    let budget = [1, 0, 1, 1, 1, 0, 0];
+    check_ends(&rt, alloc, index, &[], budget, (End::Ended(0), b"7\n"))
 }
 
 #[test]
 fn programs_that_go_on(rt: HostRuntime) -> Result<(), Fail> {
     let alloc = rt.alloc();
-    assert!(rt; goes_on(alloc, &forms::empty_loop(alloc)?, None)?);
-    assert!(rt; goes_on(alloc, &forms::letters(alloc)?, Some(b'x'))?);
-    Ok(())
+    check_goes_on(&rt, alloc, forms::empty_loop(alloc)?, None)?;
+    check_goes_on(&rt, alloc, forms::letters(alloc)?, Some(b'x'))
 }
 
 #[test]
 fn calls_up_to_the_limit(rt: HostRuntime) -> Result<(), Fail> {
     let alloc = rt.alloc();
+    let budget = [0, 0, 0, 0, 1, 1, 0];
     let within = forms::counted_calls(alloc, 100, 98)?;
-    assert!(rt;
-        ends(
-            alloc,
-            &within,
-            &[],
-            [0, 0, 0, 0, 1, 1, 0],
-            End::Ended(0),
-            b"98\n"
-        )?
-    );
+    check_ends(&rt, alloc, within, &[], budget, (End::Ended(0), b"98\n"))?;
     let past = forms::counted_calls(alloc, 100, 99)?;
-    assert!(rt;
-        ends(
-            alloc,
-            &past,
-            &[],
-            [0, 0, 0, 0, 1, 1, 0],
-            End::Trapped(4),
-            b""
-        )?
-    );
-    Ok(())
+    check_ends(&rt, alloc, past, &[], budget, (End::Trapped(4), b""))
 }
 
 fn is_register(home: &Home) -> bool {
     matches!(home, Home::Register(_))
+}
+
+// Whether all variables of the stream's first function have registers.
+fn is_in_registers(alloc: Global, stream: &Stream) -> Result<bool, AllocError> {
+    let Some(function) = stream.functions.as_slice().first() else {
+        return Ok(true);
+    };
+    if !can_number(function.body.as_slice()) {
+        return Ok(false);
+    }
+    let homes = allocate(alloc, function.parameters, function.body.as_slice())?;
+    Ok(homes.as_slice().iter().all(is_register))
+}
+
+fn both_in_registers(alloc: Global, pair: &Pair) -> Result<bool, AllocError> {
+    Ok(is_in_registers(alloc, &pair.a)? && is_in_registers(alloc, &pair.e)?)
 }
 
 // Whether all variables of the program's first function have registers, on both sides.
@@ -271,54 +310,37 @@ fn are_in_registers(alloc: Global, ir: &Ir) -> Result<bool, AllocError> {
         return Ok(false);
     }
     let made = decouple(alloc, ir, 4)?;
-    for stream in [&made.pair.a, &made.pair.e] {
-        if let Some(function) = stream.functions.as_slice().first() {
-            let homes = allocate(alloc, function.parameters, function.body.as_slice())?;
-            if !homes.as_slice().iter().all(is_register) {
-                return Ok(false);
-            }
-        }
-    }
-    Ok(true)
+    both_in_registers(alloc, &made.pair)
+}
+
+// Whether the variables of so many locals are all in registers.
+fn keeps_locals(alloc: Global, locals: u32) -> Result<bool, AllocError>
+    requires some { 1 ≤ locals }
+    requires few { locals ≤ 100 }
+{
+    let form = forms::summed_locals(alloc, locals)?;
+    are_in_registers(alloc, &form)
 }
 
 // Sixteen locals, a parameter and the value that is computed are in registers, and of many more some are in slots.
 #[test]
 fn registers_and_slots(rt: HostRuntime) -> Result<(), Fail> {
     let alloc = rt.alloc();
+    assert!(rt; keeps_locals(alloc, 16)?);
+    assert!(rt; !keeps_locals(alloc, 40)?);
+    let budget = [0, 0, 0, 0, 1, 0, 0];
     let few = forms::summed_locals(alloc, 16)?;
-    assert!(rt; are_in_registers(alloc, &few)?);
-    assert!(rt;
-        ends(
-            alloc,
-            &few,
-            &[],
-            [0, 0, 0, 0, 1, 0, 0],
-            End::Ended(0),
-            b"184\n"
-        )?
-    );
+    check_ends(&rt, alloc, few, &[], budget, (End::Ended(0), b"184\n"))?;
     let many = forms::summed_locals(alloc, 40)?;
-    assert!(rt; !are_in_registers(alloc, &many)?);
-    assert!(rt;
-        ends(
-            alloc,
-            &many,
-            &[],
-            [0, 0, 0, 0, 1, 0, 0],
-            End::Ended(0),
-            b"940\n"
-        )?
-    );
-    Ok(())
+    check_ends(&rt, alloc, many, &[], budget, (End::Ended(0), b"940\n"))
 }
 
 // Whether the image of a form has these marks and no others.
 fn has_marks(alloc: Global, ir: &Ir, marks: &[LineMark]) -> Result<bool, Fail> {
-    let Some(image) = image_of(alloc, ir, &[])? else {
-        return Ok(false);
-    };
-    Ok(image.lines.as_slice() == marks)
+    match image_of(alloc, ir, &[])? {
+        Some(image) => Ok(image.lines.as_slice() == marks),
+        None => Ok(false),
+    }
 }
 
 // A mark at the first word of the first action of each line. Before the actions of main there are eight words of A, and seven of

@@ -8,7 +8,7 @@ use dae_encode::{Form, Inst, QueueUse, decode, form_of, queue_use};
 use std::alloc::{AllocError, Global};
 
 /// An instruction that is legal on a side, with its registers and its one access.
-#[derive(Clone, Copy, PartialEq, Eq, Debug)]
+#[derive(Clone, Copy)]
 pub struct Legal {
     pub inst: Inst,
     pub form: Form,

@@ -12,7 +12,7 @@ mod reading;
 mod scripts;
 
 /// Where a breakpoint is: a line of a file, counted from 1, in the code of a side. Files count from 0 in the image's names.
-#[derive(Clone, Copy, PartialEq, Eq, Debug)]
+#[derive(Clone, Copy, PartialEq, Eq)]
 pub struct Breakpoint {
     pub side: Side,
     pub file: u32,
@@ -22,7 +22,7 @@ pub struct Breakpoint {
 /// What a session is told to do: to take a step; to take up to so many steps, round by round; to set a breakpoint; to show the
 /// registers of a processor, the lengths of the queues, the addresses of the stores that wait, or bytes of the common memory; or
 /// to end.
-#[derive(Clone, Copy, PartialEq, Eq, Debug)]
+#[derive(Clone, Copy, PartialEq, Eq)]
 pub enum Command {
     Step(Pick),
     Go(u32),

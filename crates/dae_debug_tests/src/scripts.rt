@@ -4,7 +4,7 @@ use dae_base::Depths;
 use dae_debug::{Reply, Session};
 use dae_debug_commands::{Command, read_script};
 use dae_image::read;
-use std::alloc::Global;
+use std::alloc::{AllocError, Global};
 use std::process::Abort;
 use std::test::*;
 
@@ -27,14 +27,24 @@ const EIGHTS: Depths = Depths {
     cq: 8,
 };
 
-/// The session of an image in hexadecimal, before its first command.
-fn session_of(rt: &impl Abort, alloc: Global, hexadecimal: &str) -> Result<Session, Fail> {
-    let Ok(bytes) = hex::decode(alloc, hexadecimal) else {
-        panic!(rt; "hexadecimal");
-    };
+fn boxed<T: Drop>(alloc: Global, value: T) -> Result<Box<T>, AllocError> {
+    Ok(Box::new(alloc, value)?)
+}
+
+/// The session of an image's bytes, a thousand at most, before its first command.
+fn session_on(rt: &impl Abort, alloc: Global, bytes: &[u8]) -> Result<Box<Session>, Fail> {
     assert!(rt; bytes.len() <= 1000);
-    let image = read(alloc, bytes.as_slice())?;
-    Ok(Session::open(alloc, image, EIGHTS)?)
+    let image = read(alloc, bytes)?;
+    let session = Session::open(alloc, image, EIGHTS)?;
+    Ok(boxed(alloc, session)?)
+}
+
+/// The session of an image in hexadecimal, before its first command.
+fn session_of(rt: &impl Abort, alloc: Global, hexadecimal: &str) -> Result<Box<Session>, Fail> {
+    match hex::decode(alloc, hexadecimal) {
+        Ok(bytes) => session_on(rt, alloc, bytes.as_slice()),
+        Err(_) => panic!(rt; "hexadecimal"),
+    }
 }
 
 /// Makes the reply to a line's command, or to a line that spells none; or the command ends the session.
@@ -47,20 +57,31 @@ fn reply_to(session: &mut Session, reply: &mut Reply, command: Option<Command>) 
     true
 }
 
+/// Adds the replies to commands, one behind the other.
+fn add_replies(
+    session: &mut Session,
+    reply: &mut Reply,
+    commands: &[Option<Command>],
+    text: &mut Vec<u8>,
+) -> Result<(), AllocError> {
+    for command in commands {
+        if !reply_to(session, reply, *command) {
+            return Ok(());
+        }
+        text.extend_from_slice(reply.as_slice())?;
+    }
+    Ok(())
+}
+
 /// The replies to commands, one behind the other.
 fn replies(
     alloc: Global,
     session: &mut Session,
     commands: &[Option<Command>],
-) -> Result<Vec<u8>, Fail> {
+) -> Result<Vec<u8>, AllocError> {
     let mut reply = Reply::with_room(alloc)?;
     let mut text = Vec::new(alloc);
-    for command in commands {
-        if !reply_to(session, &mut reply, *command) {
-            return Ok(text);
-        }
-        text.extend_from_slice(reply.as_slice())?;
-    }
+    add_replies(session, &mut reply, commands, &mut text)?;
     Ok(text)
 }
 
@@ -139,12 +160,24 @@ fn scripts() -> &'static [(&'static str, &'static str)] {
     SCRIPTS.as_slice()
 }
 
+/// The commands have these replies.
+fn check_replies(
+    rt: &impl Abort,
+    alloc: Global,
+    session: &mut Session,
+    commands: &[Option<Command>],
+    due: &str,
+) -> Result<(), AllocError> {
+    let text = replies(alloc, session, commands)?;
+    assert_eq!(rt; text.as_slice(), due.as_bytes());
+    Ok(())
+}
+
 /// The script has its replies, on the image with marks.
 fn check_script(rt: &impl Abort, alloc: Global, script: &str, due: &str) -> Result<(), Fail> {
-    let mut session = session_of(rt, alloc, MARKED)?;
     let commands = read_script(alloc, script.as_bytes())?;
-    let text = replies(alloc, &mut session, commands.as_slice())?;
-    assert_eq!(rt; text.as_slice(), due.as_bytes());
+    let mut session = session_of(rt, alloc, MARKED)?;
+    check_replies(rt, alloc, &mut session, commands.as_slice(), due)?;
     Ok(())
 }
 

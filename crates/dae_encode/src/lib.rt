@@ -36,7 +36,7 @@ pub enum QueueUse {
 /// An instruction of RV32IM: its registers in the order target, first source, second source, and then its immediate as
 /// the number that it stands for (an offset in bytes, or the upper immediate with its twelve zeros) or its shift amount
 /// (RISC-V unprivileged manual, "RV32/64G Instruction Set Listings").
-#[derive(Clone, Copy, PartialEq, Eq, Debug)]
+#[derive(Clone, Copy)]
 pub enum Inst {
     Lui(u8, i32),
     Auipc(u8, i32),
@@ -87,7 +87,7 @@ pub enum Inst {
 }
 
 /// The registers of an instruction, and the offset of its address as a word.
-#[derive(Clone, Copy, PartialEq, Eq, Debug)]
+#[derive(Clone, Copy)]
 pub enum Form {
     /// Its target and its two sources; a field that it does not have is x0.
     Computes(u8, u8, u8),
@@ -126,7 +126,7 @@ pub enum Halt {
 }
 
 /// What the next instruction of a processor comes to.
-#[derive(Clone, Copy, PartialEq, Eq, Debug)]
+#[derive(Clone, Copy)]
 pub enum Request {
     /// There is none, since the processor halted.
     Halted,

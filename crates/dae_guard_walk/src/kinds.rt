@@ -7,7 +7,7 @@ ghost use Rattle.dae_guard_walk.specs.declared.kinds.Kind.TheVariants as kinds;
 use dae_encode::Inst;
 
 /// How a test compares two words: as they are, as numbers, or as signed words.
-#[derive(Clone, Copy, PartialEq, Eq, Debug)]
+#[derive(Clone, Copy, PartialEq, Eq)]
 pub enum Test {
     Equal,
     Unequal,
@@ -18,7 +18,7 @@ pub enum Test {
 }
 
 /// A branch or a comparison.
-#[derive(Clone, Copy, PartialEq, Eq, Debug)]
+#[derive(Clone, Copy, PartialEq, Eq)]
 pub struct Comparison {
     pub test: Test,
     /// The word that stands for that of the second source, where one does.
@@ -28,7 +28,7 @@ pub struct Comparison {
 }
 
 /// What kind of instruction one is.
-#[derive(Clone, Copy, PartialEq, Eq, Debug)]
+#[derive(Clone, Copy, PartialEq, Eq)]
 pub enum Kind {
     /// A branch or a comparison.
     Tests(Comparison),

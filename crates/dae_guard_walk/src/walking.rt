@@ -33,7 +33,7 @@ pub struct Spot {
 }
 
 /// How a walk ended.
-#[derive(Clone, Copy, PartialEq, Eq, Debug)]
+#[derive(Clone, Copy, PartialEq, Eq)]
 pub enum Walked {
     /// At final and covered nodes alone.
     Ends,

@@ -20,7 +20,7 @@ use dae_base::{Depths, Items, Side, Text};
 
 /// Where code comes from: the word of a side's code and the file and line that it stands for. Files count from 0 in
 /// the image's names, lines from 1.
-#[derive(Clone, Copy, PartialEq, Eq, Debug)]
+#[derive(Clone, Copy, PartialEq, Eq)]
 pub struct LineMark {
     pub side: Side,
     pub word: u32,

@@ -4,14 +4,14 @@ use dae_base::{Items, LoadKind, Place, Text, Width};
 use dae_meaning::{Comparison, Operator, Spelling};
 
 /// A variable of the function, or a number.
-#[derive(Clone, Copy, PartialEq, Eq, Debug)]
+#[derive(Clone, Copy, PartialEq, Eq)]
 pub enum Operand {
     Variable(u32),
     Number(u32),
 }
 
 /// A condition.
-#[derive(Clone, Copy, PartialEq, Eq, Debug)]
+#[derive(Clone, Copy, PartialEq, Eq)]
 pub struct Test {
     pub comparison: Comparison,
     pub left: Operand,
@@ -20,7 +20,7 @@ pub struct Test {
 
 /// What an assignment computes: an operand, its low bits extended to a word, an operation on two operands, 1 where a
 /// condition holds and else 0, or the address so many bytes behind the start of the running function's frame.
-#[derive(Clone, Copy, PartialEq, Eq, Debug)]
+#[derive(Clone, Copy, PartialEq, Eq)]
 pub enum Value {
     Same(Operand),
     Extended(LoadKind, Operand),
@@ -32,7 +32,7 @@ pub enum Value {
 /// What must hold where it stands, or the program traps: an address is good for an access of this width (3 where it is
 /// misaligned, else 2 where it is outside the memory); a number isn't 0 (1); a call of this function stands within the
 /// call limit and its frame within the memory (4); the running function's own frame does (4); never (5).
-#[derive(Clone, Copy, PartialEq, Eq, Debug)]
+#[derive(Clone, Copy)]
 pub enum Check {
     Place(Width, Operand),
     Zero(Operand),

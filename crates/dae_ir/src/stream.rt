@@ -6,7 +6,7 @@ use dae_meaning::Spelling;
 
 /// Which processors need a variable: A, since it leads to an address, and E, since it leads to what is stored, printed
 /// or decided there.
-#[derive(Clone, Copy, PartialEq, Eq, Debug)]
+#[derive(Clone, Copy, PartialEq, Eq)]
 pub struct Class {
     pub a: bool,
     pub e: bool,

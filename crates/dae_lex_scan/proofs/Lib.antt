@@ -3,6 +3,7 @@ mod Values
 mod Faults
 mod Units
 mod Longest
+mod Alone
 mod Following
 mod Joining
 mod Cutting

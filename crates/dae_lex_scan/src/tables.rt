@@ -1,11 +1,13 @@
 //! Look-ups in the tables of signs, keywords, headers and suffixes.
 
-ghost use Rattle.std.specs.Prelude.{◌≡◌, ◌≤◌, ◌<◌, length, map, IfSome};
+ghost use Rattle.std.specs.Prelude.{◌≡◌, ◌≤◌, ◌<◌, Some, length, map, IfSome};
 ghost use Rattle.dae_tree.specs.declared.signs.TheConstants.{SIGNS};
 ghost use Rattle.dae_tree.specs.Tables.{first_row, row_of, rows_of, IsLongestRow, sign_of, keyword_of, refused_word, header_of, suffix_of};
+ghost use Rattle.dae_lex_scan.specs.Lone.{lone_sign};
 
+use crate::bytes::byte_at;
 use dae_tree::{
-    Construct, HEADERS, Header, KEYWORDS, Keyword, PieceKind, REFUSED_WORDS, SIGNS, SUFFIXES,
+    Construct, HEADERS, Header, KEYWORDS, Keyword, PieceKind, REFUSED_WORDS, SIGNS, SUFFIXES, Sign,
 };
 
 /// The first row whose spelling begins the bytes: the spelling's length, and what it spells.
@@ -33,15 +35,61 @@ fn exact_row<T: Copy>(rows: &[(&[u8], T)], name: &[u8]) -> Option<T>
     None
 }
 
-/// The longest sign at the front, and its length.
+/// The sign that a byte is, where no longer sign begins with it.
+fn lone_sign(byte: u8) -> Option<Sign>
+    ensures { result ≡ lone_sign byte }
+{
+    match byte {
+        b',' => Some(Sign::Comma),
+        b';' => Some(Sign::Semicolon),
+        b'(' => Some(Sign::LeftParen),
+        b')' => Some(Sign::RightParen),
+        b'[' => Some(Sign::LeftBracket),
+        b']' => Some(Sign::RightBracket),
+        b'{' => Some(Sign::LeftBrace),
+        b'}' => Some(Sign::RightBrace),
+        b'~' => Some(Sign::Tilde),
+        b'?' => Some(Sign::Question),
+        b':' => Some(Sign::Colon),
+        _ => None,
+    }
+}
+
+/// The sign at the front where its first byte alone tells it, and its length.
+fn lone_sign_at(bytes: &[u8]) -> Option<(usize, PieceKind)>
+    ensures value { IfSome result (λ found. Some found ≡ sign_of bytes.now) }
+    ensures within { IfSome result (λ found. (0 < found.0) × (found.0 ≤ length bytes.now)) }
+    ensures longest { IfSome result
+        (λ found. IsLongestRow (map (λ r. (r.0.now, r.1)) SIGNS) bytes.now found.0) }
+{
+    match lone_sign(byte_at(bytes, 0)) {
+        Some(sign) => Some((1, PieceKind::Mark(sign))),
+        None => None,
+    }
+}
+
+/// The longest sign at the front, and its length, by a walk through the table.
 #[tactic(auto, unfolding(dae_tree::specs::Tables::sign_of))]
-pub fn sign_at(bytes: &[u8]) -> Option<(usize, PieceKind)>
+fn sign_in_table(bytes: &[u8]) -> Option<(usize, PieceKind)>
     ensures value { result ≡ sign_of bytes.now }
     ensures within { IfSome result (λ found. (0 < found.0) × (found.0 ≤ length bytes.now)) }
     ensures longest { IfSome result
         (λ found. IsLongestRow (map (λ r. (r.0.now, r.1)) SIGNS) bytes.now found.0) }
 {
     find_row(&SIGNS, bytes)
+}
+
+/// The longest sign at the front, and its length.
+pub fn sign_at(bytes: &[u8]) -> Option<(usize, PieceKind)>
+    ensures value { result ≡ sign_of bytes.now }
+    ensures within { IfSome result (λ found. (0 < found.0) × (found.0 ≤ length bytes.now)) }
+    ensures longest { IfSome result
+        (λ found. IsLongestRow (map (λ r. (r.0.now, r.1)) SIGNS) bytes.now found.0) }
+{
+    match lone_sign_at(bytes) {
+        Some(found) => Some(found),
+        None => sign_in_table(bytes),
+    }
 }
 
 /// The keyword that is spelled so.

@@ -5,6 +5,7 @@ mod Marking
 mod Among
 mod Same
 mod Standing
+mod Residing
 mod Looked
 mod Settling
 mod Sizes

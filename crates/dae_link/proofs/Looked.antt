@@ -8,7 +8,7 @@ use Rattle.dae_ir.specs.Classes.{VariableSet}
 use Rattle.dae_ir.specs.SetFirst.{parameters_set}
 use Rattle.dae_ir.specs.Streams.{actions_of}
 use Rattle.dae_ir.specs.declared.stream.StreamFunction.{StreamFunction}
-use Rattle.dae_select_walks.specs.Homes.{IsHome, AreApart, frame_words, home_in}
+use Rattle.dae_select_walks.specs.Homes.{IsHome, AreApart, frame_words, home_in, home_among}
 use Rattle.dae_select_walks.specs.Live.{live, lives, nowhere}
 use Rattle.dae_select_walks.specs.declared.Home.{Home}
 use Rattle.dae_select_walks.specs.declared.Home.TheVariants.{Register, Slot}
@@ -19,6 +19,7 @@ use Rattle.dae_select_calls.specs.Layouts.{homes_at, variables_at, entry_at, fra
 use Rattle.dae_select_calls.specs.declared.layouts.FunctionLayout.{FunctionLayout}
 use Rattle.dae_link.specs.Settled.{IsLayoutOf, IsFrameWithin}
 use Rattle.dae_link.specs.Sides.{body_in, parameters_in, frame_in}
+use Rattle.dae_link.proofs.Residing.{among_apart}
 
 pub zip_long : (fs : List StreamFunction) (ls : List FunctionLayout) → AllZip IsLayoutOf fs ls → length ls ≡ length fs
 zip_long [] [] h = refl
@@ -92,11 +93,18 @@ rights : (home : ℕ → Home) (n : ℕ) (places : List VariableSet) → AllByRe
 rights home n [] apart inside = tt
 rights home n (set ∷ places) apart inside = (record { apart = apart.0; scope = inside.0 }, rights home n places apart.1 inside.1)
 
-pub right_at : (f : Option StreamFunction) (l : Option FunctionLayout) → IsLayoutAt f l → AllByRecursion (IsRight (home_in (homes_at l)) (variables_at l)) (lives (body_in f) nowhere)
-right_at None None is = tt
-right_at None (Some l) is = absurd is
-right_at (Some f) None is = absurd is
-right_at (Some f) (Some l) is = rights (home_in l.homes) l.variables (lives (actions_of f.body) nowhere) is.homes.apart.1 is.inside.1
+among_right : (homes : List Home) (numbers : List ℕ) (count : ℕ) (places : List VariableSet) → count < 2 ^ 26 → AllByRecursion (IsRight (home_in homes) count) places → AllByRecursion (IsRight (home_among homes numbers) count) places
+among_right homes numbers count [] few right = tt
+among_right homes numbers count (set ∷ places) few right =
+    (record { apart = among_apart homes numbers count set (omega arith) right.0.scope right.0.apart; scope = right.0.scope }, among_right homes numbers count places few right.1)
+
+pub right_at : (numbers : List ℕ) (f : Option StreamFunction) (l : Option FunctionLayout) → IsLayoutAt f l → AllByRecursion (IsRight (home_among (homes_at l) numbers) (variables_at l)) (lives (body_in f) nowhere)
+right_at numbers None None is = tt
+right_at numbers None (Some l) is = absurd is
+right_at numbers (Some f) None is = absurd is
+right_at numbers (Some f) (Some l) is =
+    let few = is.few in
+    among_right l.homes numbers l.variables (lives (actions_of f.body) nowhere) (omega arith) (rights (home_in l.homes) l.variables (lives (actions_of f.body) nowhere) is.homes.apart.1 is.inside.1)
 
 pub reads_at : (f : Option StreamFunction) (l : Option FunctionLayout) → IsLayoutAt f l → (u : ℕ) → live (body_in f) nowhere u ≡ true → u < variables_at l
 reads_at None None is u h = absurd cc
@@ -104,8 +112,10 @@ reads_at None (Some l) is u h = absurd is
 reads_at (Some f) None is u h = absurd is
 reads_at (Some f) (Some l) is u h = is.inside.0 u (or_left _ _ h)
 
-pub apart_at : (f : Option StreamFunction) (l : Option FunctionLayout) → IsLayoutAt f l → AreApart (home_in (homes_at l)) (parameters_set (parameters_in f))
-apart_at None None is u v hu hv other = absurd (grind (arith, nat_tests))
-apart_at None (Some l) is u v hu hv other = absurd is
-apart_at (Some f) None is u v hu hv other = absurd is
-apart_at (Some f) (Some l) is u v hu hv other = is.homes.apart.0 u v (or_right _ _ hu) (or_right _ _ hv) other
+pub apart_at : (numbers : List ℕ) (f : Option StreamFunction) (l : Option FunctionLayout) → IsLayoutAt f l → AreApart (home_among (homes_at l) numbers) (parameters_set (parameters_in f))
+apart_at numbers None None is u v hu hv other = absurd (grind (arith, nat_tests))
+apart_at numbers None (Some l) is u v hu hv other = absurd is
+apart_at numbers (Some f) None is u v hu hv other = absurd is
+apart_at numbers (Some f) (Some l) is u v hu hv other =
+    let few = is.few in
+    among_apart l.homes numbers l.variables (parameters_set f.parameters) (omega arith) (λ w h. is.inside.0 w (or_right _ _ h)) (λ w z hw hz far. is.homes.apart.0 w z (or_right _ _ hw) (or_right _ _ hz) far) u v hu hv other

@@ -48,6 +48,7 @@ at_words p entry start finish = record {
   private = p.private;
   limit = p.limit;
   memory = p.memory;
+  residents = p.residents;
 }
 
 module _ (p : Plan) (entry start : ℕ → ℕ) (finish : ℕ) (variables : ℕ → ℕ) (f : ℕ) where

@@ -1,5 +1,5 @@
 -- The code of a stream is a side of an image.
-use Rattle.std.proofs.Common.{◌≡◌, ℕ, ◌+◌, ◌-◌, ◌≤◌, ◌<◌, ◌^◌, List, ◌∷◌, ◌++◌, length, map, refl, ap, sym, ◌∙◌, subst, arith, append_assoc, length-append, []}
+use Rattle.std.proofs.Common.{◌≡◌, ℕ, ◌+◌, ◌-◌, ◌*◌, ◌≤◌, ◌<◌, ◌^◌, List, ◌∷◌, ◌++◌, length, map, refl, ap, sym, ◌∙◌, subst, arith, append_assoc, length-append, []}
 use Rattle.std.proofs.lemmas.List.{length-map, map-append}
 use Rattle.std.specs.Prelude.{Some, slice_get, if◌then◌else◌, pos}
 use Rattle.std.specs.List.{AllByRecursion}
@@ -16,13 +16,14 @@ use Rattle.dae_ir.specs.Streams.{Actions, actions_of}
 use Rattle.dae_ir.specs.declared.form.Operand.TheVariants.{Number}
 use Rattle.dae_ir.specs.declared.stream.Stream.{Stream}
 use Rattle.dae_ir.specs.declared.stream.StreamFunction.{StreamFunction}
-use Rattle.dae_select_walks.specs.Homes.{IsHome, frame_words, home_in}
+use Rattle.dae_select_walks.specs.Homes.{IsHome, frame_words, home_among}
 use Rattle.dae_select_walks.specs.Layout.{CodeAt}
 use Rattle.dae_select_walks.specs.Live.{live, nowhere}
 use Rattle.dae_select_walks.specs.Facts.{unknown}
 use Rattle.dae_select_walks.specs.Agrees.{Plan}
+use Rattle.dae_select_walks.proofs.LawsOfWalks.{number_home}
 use Rattle.dae_select_walks.specs.declared.Home.{Home}
-use Rattle.dae_select_blocks.specs.Blocks.{leave_code, number_code, enter_code}
+use Rattle.dae_select_blocks.specs.Blocks.{leave_code, number_code, residents_code, enter_code}
 use Rattle.dae_select_walks.specs.declared.Standing.TheVariants.{Settled}
 use Rattle.dae_select_blocks.specs.Code.{entry_code, code_of, function_code, start_code, finish_code}
 use Rattle.dae_select_blocks.specs.Sizes.{is_short}
@@ -43,6 +44,7 @@ use Rattle.dae_link.specs.Sizes.{most_words}
 use Rattle.dae_link.proofs.Same.{both_long, at_words, function_long}
 use Rattle.dae_link.proofs.Standing.{placed_long, placed_same, start_behind, functions_long, ends_within, entries_within, stands_there}
 use Rattle.dae_link.proofs.Sizes.{functions_length}
+use Rattle.dae_link.proofs.Residing.{residents_few, residents_within, residents_apart, among_is_home}
 use Rattle.dae_link.proofs.Looked.{zip_long, layout_at, IsLayoutAt, each_home, is_near, is_few, is_first, same_frame, frame_within, right_at, reads_at, apart_at}
 
 pub same_side : (s : Side) → side (is_a s) ≡ s
@@ -71,8 +73,14 @@ module _ (stream : Stream) (old : Layouts) (unplaced : AreUnplaced stream old) w
   at : (g : ℕ) → IsLayoutAt (slice_get fs g) (slice_get old.functions g)
   at g = layout_at fs old.functions unplaced.functions g
 
+  few_residents : length old.residents ≤ 3
+  few_residents = let few = residents_few 27 old.residents in let brief = unplaced.residents.brief in omega arith
+
+  few_variables : (f : ℕ) → variables f < 2 ^ 26
+  few_variables f = is_few (slice_get fs f) (slice_get old.functions f) (at f)
+
   pub good : (f v : ℕ) → IsHome (variables f) (P.home f v)
-  good f v = each_home (slice_get fs f) (slice_get old.functions f) (at f) v
+  good f v = among_is_home (variables f) (homes_at (slice_get old.functions f)) old.residents few_residents (each_home (slice_get fs f) (slice_get old.functions f) (at f)) v
 
   near_frames : (f : ℕ) → P.words f < 2 ^ 26
   near_frames f = let w = frame_within old.largest old.functions unplaced.frames unplaced.least f in let m = unplaced.most in omega arith
@@ -84,7 +92,11 @@ module _ (stream : Stream) (old : Layouts) (unplaced : AreUnplaced stream old) w
     entries = (λ f. is_first (slice_get fs f) (slice_get old.functions f) (at f));
   }
 
-  pub first_low : first ≤ 8
+  -- the numbers that stay in registers take no more than functions leave
+  brief_residents : length (residents_code 27 old.residents) ≤ 3 * length fs
+  brief_residents = let within = residents_within old.functions old.residents unplaced.residents.brief unplaced.residents.free in let same = long in omega arith
+
+  pub first_low : first ≤ 8 + length (residents_code 27 old.residents)
   first_low =
       let s = opening_short P stream.main stream.frames in
       let l = length-append (start_code P stream.main stream.frames) (finish_code P.by_a) in
@@ -109,13 +121,14 @@ module _ (stream : Stream) (old : Layouts) (unplaced : AreUnplaced stream old) w
     private = P.private;
     limit = P.limit;
     memory = P.memory;
+    residents = P.residents;
   }
 
   pub plan_is : plan_of (at_places stream old) ≡ Q
   plan_is =
       let new = plan_of (at_places stream old) in
       let n : new.functions ≡ P.functions = placed_long P variables fs old.functions first 0 long in
-      let home : new.home ≡ P.home = fun_ext (λ g. ap home_in (placed_same P variables homes_at (λ l entry start. refl) fs old.functions first 0 g long)) in
+      let home : new.home ≡ P.home = fun_ext (λ g. ap (λ (hs : List Home). home_among hs old.residents) (placed_same P variables homes_at (λ l entry start. refl) fs old.functions first 0 g long)) in
       let words : new.words ≡ P.words = fun_ext (λ g. ap frame_words (placed_same P variables variables_at (λ l entry start. refl) fs old.functions first 0 g long)) in
       let frame : new.frame ≡ P.frame = fun_ext (λ g. placed_same P variables frame_at (λ l entry start. refl) fs old.functions first 0 g long) in
       ap (λ (k : ℕ). with_parts k new.home new.words new.frame) n ∙ ap (λ (h : ℕ → ℕ → Home). with_parts P.functions h new.words new.frame) home
@@ -129,7 +142,7 @@ module _ (stream : Stream) (old : Layouts) (unplaced : AreUnplaced stream old) w
 
   start_same : length (start_code Q stream.main stream.frames) ≡ length (start_code P stream.main stream.frames)
   start_same =
-      let begins : List Inst = number_code 3 stream.frames ++ (if P.by_a then number_code 4 (P.memory - 16) ++ Addi 10 0 (pos 1) ∷ [] else []) in
+      let begins : List Inst = number_code 3 stream.frames ++ (residents_code 27 old.residents ++ (if P.by_a then number_code 4 (P.memory - 16) ++ Addi 10 0 (pos 1) ∷ [] else [])) in
       both_long begins begins (enter_code (Q.entry stream.main)) (enter_code (P.entry stream.main)) refl refl
 
   opening_same : length (opening_code Q stream.main stream.frames) ≡ first
@@ -168,7 +181,7 @@ module _ (stream : Stream) (old : Layouts) (unplaced : AreUnplaced stream old) w
   code_long = ap length code_is ∙ whole_long
 
   pub code_short : end_of stream old ≤ most_words stream
-  code_short = let f = first_low in let c = functions_length P variables fs 0 in omega arith
+  code_short = let f = first_low in let b = brief_residents in let c = functions_length P variables fs 0 in omega arith
 
   module _ (ends : end_of stream old ≤ 2 ^ 25) where
     entry_low : (g : ℕ) → Q.entry g ≤ 2 ^ 25
@@ -210,6 +223,10 @@ module _ (stream : Stream) (old : Layouts) (unplaced : AreUnplaced stream old) w
         common = (let m = unplaced.memory in let l = limits.most in omega arith);
         least = (let m = unplaced.memory in let l = limits.least in omega arith);
         limit = (let m = unplaced.limit in let l = limits.few in omega arith);
+        residents = (λ f n. number_home (homes_at (slice_get old.functions f)) old.residents n);
+        apart = (λ f v n r l e. let few = few_variables f in residents_apart old.functions old.residents unplaced.residents.free f v n r (omega arith) e);
+        few = few_residents;
+        small = unplaced.residents.small;
       }
 
       is_plan : IsPlanOf p Q
@@ -261,14 +278,14 @@ module _ (stream : Stream) (old : Layouts) (unplaced : AreUnplaced stream old) w
         near = (λ g lt. let e = end_low g (subst (λ (n : ℕ). g < n) long lt) in omega arith);
         reads = (λ g u h. reads_at (slice_get fs g) (slice_get old.functions g) (at g) u h);
         finish = finish_there;
-        low = (let s = opening_short P stream.main stream.frames in omega arith);
+        low = (let s = opening_short P stream.main stream.frames in let b = unplaced.residents.brief in omega arith);
       }
 
       has_code : (f : ℕ) → f < Q.functions → HasCode (setting_of setup Q.by_a) Q variables f (body f)
       has_code f lt =
           let inside : f < length fs = subst (λ (n : ℕ). f < n) long lt in
           record {
-            right = right_at (slice_get fs f) (slice_get old.functions f) (at f);
+            right = right_at old.residents (slice_get fs f) (slice_get old.functions f) (at f);
             there = subst (λ (n : ℕ). CodeAt words n (own_code f)) (sym (starts f inside)) (code_drop words (Q.entry f) (entry_code Q variables f (live (body f) nowhere)) (own_code f) (there f inside));
             small = (let e = end_low f inside in omega arith);
           }
@@ -292,7 +309,7 @@ module _ (stream : Stream) (old : Layouts) (unplaced : AreUnplaced stream old) w
         is_plan = is_plan;
         linked = linked;
         codes = has_code;
-        apart = (λ f lt. apart_at (slice_get fs f) (slice_get old.functions f) (at f));
+        apart = (λ f lt. apart_at old.residents (slice_get fs f) (slice_get old.functions f) (at f));
         start = has_start;
         opens = refl;
       }

@@ -4,3 +4,4 @@ pub mod Settled
 pub mod Placed
 pub mod Sides
 pub mod Sizes
+pub mod Residents

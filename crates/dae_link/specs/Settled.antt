@@ -1,5 +1,5 @@
--- What is settled of a side before its functions have places: homes, frames and private memory.
-use Rattle.std.specs.Prelude.{◌≡◌, ◌⊎◌, ℕ, ◌-◌, ◌*◌, ◌^◌, ◌≤◌, ◌<◌, List, length}
+-- What is settled of a side before its functions have places: homes, frames, private memory, and numbers that stay in registers.
+use Rattle.std.specs.Prelude.{◌≡◌, ◌⊎◌, ℕ, ◌-◌, ◌*◌, ◌^◌, ◌≤◌, ◌<◌, Bool, List, length}
 use Rattle.std.specs.List.{AllByRecursion, AllZip}
 use Rattle.dae_ir.specs.Streams.{actions_of}
 use Rattle.dae_ir.specs.declared.stream.Stream.{Stream}
@@ -7,9 +7,14 @@ use Rattle.dae_ir.specs.declared.stream.StreamFunction.{StreamFunction}
 use Rattle.dae_select_walks.specs.Homes.{AreHomes, frame_words, home_in}
 use Rattle.dae_select_walks.specs.Live.{function_lives}
 use Rattle.dae_regalloc.specs.Given.{AreFew, IsRegister}
-use Rattle.dae_regalloc.specs.Seen.{AreBelow}
+use Rattle.dae_regalloc.specs.Seen.{AreBelow, can_number}
 use Rattle.dae_select_calls.specs.declared.layouts.FunctionLayout.{FunctionLayout}
 use Rattle.dae_select_calls.specs.declared.layouts.Layouts.{Layouts}
+use Rattle.dae_link.specs.Residents.{AreResidents}
+
+-- 32 bits number the places of a function
+abbrev pub is_numberable : StreamFunction → Bool
+is_numberable f = can_number (actions_of f.body)
 
 -- where around no place of the function more than 18 variables are live, each has a register
 abbrev pub KeepsInRegisters : StreamFunction → FunctionLayout → Type 0
@@ -61,3 +66,4 @@ pub record AreUnplaced (stream : Stream) (all : Layouts) : Type 0 where
   pub few : (n : ℕ) → 19 ≤ n → AllByRecursion (IsFrameWithin n) all.functions → all.largest ≤ n
   pub private : all.private ≡ all.limit * all.largest
   pub low : all.private ≤ 2 ^ 28
+  pub residents : AreResidents all.functions all.residents

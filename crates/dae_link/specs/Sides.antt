@@ -93,6 +93,7 @@ at_places stream all = record {
   private = all.private;
   limit = all.limit;
   memory = all.memory;
+  residents = all.residents;
 }
 
 -- and the last of them ends there

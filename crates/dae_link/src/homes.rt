@@ -1,16 +1,17 @@
-// What is settled of a side before its functions have places: homes, frames and private memory.
+// What is settled of a side before its functions have places: homes, frames, private memory, and numbers that stay in registers.
 
-ghost use Rattle.std.specs.Prelude.{◌≡◌, ◌≢◌, ℕ, ◌-◌, ◌*◌, ◌≤◌, ◌<◌, ◌^◌, ◌∷◌, [], length, IfOk, IfErr};
-ghost use Rattle.std.specs.List.{AllByRecursion, AllZip};
+ghost use Rattle.std.specs.Prelude.{◌≡◌, true, ◌≢◌, ℕ, ◌-◌, ◌*◌, ◌≤◌, ◌<◌, ◌^◌, ◌∷◌, [], length, IfOk, IfErr};
+ghost use Rattle.std.specs.List.{AllByRecursion, AllZip, list_all};
 ghost use Rattle.dae_select_calls.specs.Layouts.{AreSmall};
-ghost use Rattle.dae_link.specs.Settled.{IsLayoutOf, IsFrameWithin, AreTooMany, IsTooDeep, AreUnplaced};
+ghost use Rattle.dae_link.specs.Settled.{IsLayoutOf, IsFrameWithin, AreTooMany, IsTooDeep, AreUnplaced, is_numberable};
 ghost use Rattle.dae_link.specs.declared.error.CodeError.TheVariants as errors;
 
 use crate::error::CodeError;
+use crate::residents::residents_of;
 use crate::{MOST_FRAME, MOST_PRIVATE};
 use dae_base::Items;
 use dae_ir::{Stream, StreamFunction};
-use dae_regalloc::allocate;
+use dae_regalloc::{allocate, can_number};
 use dae_select_calls::{FunctionLayout, Layouts};
 use std::alloc::Global;
 
@@ -28,8 +29,27 @@ fn count_of(homes: usize) -> Result<u32, CodeError>
     Ok(homes as u32)
 }
 
+fn is_numberable(function: &StreamFunction) -> bool
+    ensures { result ≡ is_numberable function.now }
+{
+    can_number(function.body.as_slice())
+}
+
+/// Whether 32 bits number the places of each function of a stream.
+pub fn are_numberable(stream: &Stream) -> bool
+    ensures { result ≡ list_all is_numberable stream.now.functions }
+{
+    for function in stream.functions.as_slice() {
+        if !is_numberable(function) {
+            return false;
+        }
+    }
+    true
+}
+
 /// The homes of a function's variables, at first at word 0.
 fn layout_of(alloc: Global, function: &StreamFunction) -> Result<FunctionLayout, CodeError>
+    requires { is_numberable function.now ≡ true }
     ensures layout { IfOk result (λ layout. IsLayoutOf function.now layout) }
     ensures code { IfErr result (λ e. e ≢ errors.Code) }
     ensures private { IfErr result (λ e. e ≡ errors.Private → AreTooMany (function.now ∷ [])) }
@@ -45,6 +65,7 @@ fn layout_of(alloc: Global, function: &StreamFunction) -> Result<FunctionLayout,
 }
 
 fn layouts_of(alloc: Global, functions: &[StreamFunction]) -> Result<Vec<FunctionLayout>, CodeError>
+    requires { list_all is_numberable functions.now ≡ true }
     ensures layouts { IfOk result (λ layouts. AllZip IsLayoutOf functions.now layouts.items) }
     ensures code { IfErr result (λ e. e ≢ errors.Code) }
     ensures private { IfErr result (λ e. e ≡ errors.Private → AreTooMany functions.now) }
@@ -83,8 +104,9 @@ fn private_words(calls: u16, largest: u32) -> Result<u32, CodeError>
     Ok(words as u32)
 }
 
-/// The homes and frames of a stream's functions, all at word 0.
+/// The homes and frames of a stream's functions, all at word 0, and the numbers that stay in registers.
 pub fn unplaced_layouts(alloc: Global, stream: &Stream) -> Result<Layouts, CodeError>
+    requires { list_all is_numberable stream.now.functions ≡ true }
     ensures layouts { IfOk result (λ layouts. AreUnplaced stream.now layouts) }
     ensures code { IfErr result (λ e. e ≢ errors.Code) }
     ensures private { IfErr result (λ e. e ≡ errors.Private → IsTooDeep stream.now) }
@@ -92,6 +114,7 @@ pub fn unplaced_layouts(alloc: Global, stream: &Stream) -> Result<Layouts, CodeE
     let functions = layouts_of(alloc, stream.functions.as_slice())?;
     let largest = largest_frame(functions.as_slice());
     let private = private_words(stream.calls, largest)?;
+    let residents = residents_of(alloc, stream.functions.as_slice(), functions.as_slice())?;
     Ok(Layouts {
         side: stream.side,
         functions: Items::from_vec(functions),
@@ -100,5 +123,6 @@ pub fn unplaced_layouts(alloc: Global, stream: &Stream) -> Result<Layouts, CodeE
         private,
         limit: stream.calls,
         memory: stream.memory,
+        residents: Items::from_vec(residents),
     })
 }

@@ -2,6 +2,7 @@
 
 ghost use Rattle.std.specs.Prelude.{◌≡◌, ◌≢◌, ℕ, ◌+◌, ◌*◌, ◌≤◌, ◌<◌, ◌^◌, ◌++◌, length, IfOk, IfErr, OnOk};
 ghost use Rattle.std.specs.List.{All};
+ghost use Rattle.dae_select_blocks.specs.Blocks.{residents_code};
 ghost use Rattle.dae_select_blocks.specs.Code.{start_code};
 ghost use Rattle.dae_select_calls.specs.Layouts.{plan_of, AreSmall};
 ghost use Rattle.dae_link.specs.declared.error.CodeError.TheVariants as errors;
@@ -12,7 +13,7 @@ ghost use Rattle.dae_link.specs.Sides.{HasLimits, HasPlaces, HasRegisters, HasUs
 
 use crate::MOST_WORDS;
 use crate::error::CodeError;
-use crate::homes::unplaced_layouts;
+use crate::homes::{are_numberable, unplaced_layouts};
 use crate::placing::place;
 use crate::words::{encode_all, opening_code, whole_code};
 use dae_base::Items;
@@ -40,11 +41,13 @@ fn finish_of(alloc: Global, layouts: &Layouts, main: u32, frames: u32) -> Result
 }
 
 /// The word at which the first function is entered.
+#[tactic(auto, using(crate::proofs::Sizes::opening_low))]
 fn first_of(alloc: Global, layouts: &Layouts, main: u32, frames: u32) -> Result<u32, AllocError>
-    requires { AreSmall layouts.now }
+    requires small { AreSmall layouts.now }
+    requires brief { length (residents_code 27 layouts.now.residents) ≤ 3 }
     ensures word { IfOk result (λ word.
         word ≡ length (opening_code (plan_of layouts.now) main frames)) }
-    ensures low { IfOk result (λ word. word ≤ 8) }
+    ensures low { IfOk result (λ word. word ≤ 11) }
 {
     Ok(opening_code(alloc, layouts, main, frames)?.len() as u32)
 }
@@ -61,6 +64,8 @@ fn placed_layouts(alloc: Global, layouts: &Layouts, stream: &Stream) -> Result<L
     let finish = finish_of(alloc, layouts, stream.main, stream.frames)?;
     let first = first_of(alloc, layouts, stream.main, stream.frames)?;
     let functions = place(alloc, layouts, stream.functions.as_slice(), first)?;
+    let mut residents = Vec::new(alloc);
+    residents.extend_from_slice(layouts.residents.as_slice())?;
     Ok(Layouts {
         side: layouts.side,
         functions: Items::from_vec(functions),
@@ -69,6 +74,7 @@ fn placed_layouts(alloc: Global, layouts: &Layouts, stream: &Stream) -> Result<L
         private: layouts.private,
         limit: layouts.limit,
         memory: layouts.memory,
+        residents: Items::from_vec(residents),
     })
 }
 
@@ -112,6 +118,9 @@ pub fn side_code(alloc: Global, stream: &Stream) -> Result<SideCode, CodeError>
     ensures deep { IfErr result (λ e. e ≡ errors.Private → IsTooDeep stream.now) }
 {
     if stream.functions.len() > MOST_WORDS as usize {
+        return Err(CodeError::Code);
+    }
+    if !are_numberable(stream) {
         return Err(CodeError::Code);
     }
     let layouts = unplaced_layouts(alloc, stream)?;

@@ -3,31 +3,15 @@
 ghost use Rattle.std.specs.Prelude.{◌≡◌, ℕ, ◌≤◌, ◌<◌, ◌^◌, ◌++◌, length, map, IfOk, OnOk};
 ghost use Rattle.std.specs.List.{All, AllByRecursion};
 ghost use Rattle.dae_encode.specs.Spelling.{InRange, encoded};
-ghost use Rattle.dae_select.specs.Grown.{advance};
 ghost use Rattle.dae_select_calls.specs.Layouts.{plan_of, AreSmall};
 ghost use Rattle.dae_link.specs.Placed.{opening_code};
 ghost use Rattle.dae_link.specs.Sides.{functions_by, whole_by, begins_by, places_by};
 
 use dae_encode::{Inst, encode};
 use dae_ir::{Stream, StreamFunction};
-use dae_select::{PlacedWord, function_code};
+use dae_select::{PlacedWord, add_places, function_code};
 use dae_select_calls::{Layouts, finish_code, start_code};
 use std::alloc::{AllocError, Global};
-
-/// Words of a function's code, behind so many other words, with their places.
-fn add_places(
-    places: &mut Vec<PlacedWord>,
-    before: usize,
-    of_function: &[PlacedWord],
-) -> Result<(), AllocError>
-    ensures { OnOk result (places.new.items
-        ≡ places.old.items ++ map (advance before) of_function.now) }
-{
-    for placed in of_function {
-        places.push(placed.advance(before)?)?;
-    }
-    Ok(())
-}
 
 /// The code of a side's functions stands behind other code.
 fn add_functions(

@@ -22,13 +22,13 @@ use Rattle.dae_meaning.specs.declared.Operator.{Operator}
 use Rattle.dae_meaning.specs.declared.Operator.TheVariants.{Add as Plus, Subtract, Multiply, DivideSigned, DivideUnsigned, RemainderSigned, RemainderUnsigned, And as Both, Or as Either, Xor as Differ, ShiftLeft, ShiftRightSigned, ShiftRightUnsigned}
 use Rattle.dae_meaning.specs.declared.Comparison.{Comparison}
 use Rattle.dae_meaning.specs.declared.Comparison.TheVariants.{Equal, NotEqual, LessSigned, AtLeastSigned, LessUnsigned, AtLeastUnsigned}
-use Rattle.dae_select_walks.specs.Homes.{IsHome, is_home_register, slot_at, kept_at}
+use Rattle.dae_select_walks.specs.Homes.{IsHome, is_home_register, slot_at, kept_at, number_key, resident_register}
 use Rattle.dae_select_walks.specs.Agrees.{Plan}
 use Rattle.dae_select_walks.specs.declared.Home.{Home}
 use Rattle.dae_select_walks.specs.declared.Home.TheVariants.{Register, Slot}
-use Rattle.dae_select_blocks.specs.Blocks.{upper, lower, is_immediate, more_code, less_code, number_code, load_code, store_code, register_or, source, fetch_home, fetch, move_code, keep, operation_code, exponent, power_code, immediate_code, commutes, exchanged_code, behind_or, combine_registers, binary_code, extend_code, compare_code, takes_number, compare_number_code, tell_number_code, compare_registers, compare_operands, test_code, value_code, system_code, stop_code, jump_by, enter_code, arguments_code, waits_at, save_code, restore_code, deeper_code, back_code, result_code, leave_code, jump_words, jump_over, jump_back, branch_inst, opposite, goes_by, goes_code}
+use Rattle.dae_select_blocks.specs.Blocks.{upper, lower, is_immediate, more_code, less_code, number_code, load_code, store_code, register_or, source, fetch_home, fetch, move_code, keep, operation_code, exponent, power_code, immediate_code, commutes, exchanged_code, behind_or, combine_registers, binary_code, extend_code, compare_code, compare_number_code, tell_number_code, compare_registers, compare_operands, test_code, value_code, system_code, stop_code, jump_by, enter_code, arguments_code, waits_at, save_code, restore_code, deeper_code, back_code, result_code, leave_code, jump_words, jump_over, jump_back, branch_inst, opposite, goes_by, goes_code, number_or, fetch_number, as_immediate, residents_code}
 use Rattle.dae_select_blocks.specs.Code.{call_code, entry_code, start_code, finish_code, past_code}
-use Rattle.dae_select_blocks.proofs.LawsOfBlocks.{AreBelowQueues, live_registers}
+use Rattle.dae_select_blocks.proofs.LawsOfBlocks.{AreBelowQueues, live_registers, number_below}
 use Rattle.dae_link_faithful.proofs.Access.{IsPlain}
 
 abbrev pub AllPlain : List Inst → Type 0
@@ -224,14 +224,25 @@ tell_number_writes AtLeastSigned x n b = compare_number_writes AtLeastSigned 29 
 tell_number_writes LessUnsigned x n b = behind 29 (Sltiu 7 x (lower n) ∷ []) (Addi 29 7 (pos 0) ∷ []) ((omega arith, b, omega arith), tt) (alone 29 (Addi 29 7 (pos 0)) 7 0 refl (omega arith) (omega arith))
 tell_number_writes AtLeastUnsigned x n b = compare_number_writes AtLeastUnsigned 29 x n b
 
+-- a number is fetched so whatever the homes are
+pub number_fetched : (home : ℕ → Home) (r k : ℕ) → r < 28 → AllPlain (fetch home r (Number k))
+number_fetched home r k h = plain_either (nat_eq k 0) [] (fetch_number r k (resident_register (home (number_key k)))) tt (by (resident_register (home (number_key k))))
+  where
+    by : (o : Option ℕ) → AllPlain (fetch_number r k o)
+    by None = number_plain r k h
+    by (Some q) = tt
+
+pub number_low : (home : ℕ → Home) (r k : ℕ) → r < 28 → source home r (Number k) < 28
+number_low home r k h = by (nat_eq k 0)
+  where
+    by : (b : Bool) → (if b then 0 else number_or r (resident_register (home (number_key k)))) < 28
+    by true = omega arith
+    by false = number_below 28 r (home (number_key k)) (omega arith) h
+
 module _ (n : ℕ) (home : ℕ → Home) (good : (v : ℕ) → IsHome n (home v)) where
   pub source_low : (r : ℕ) (x : Operand) → r < 28 → source home r x < 28
   source_low r (Variable v) h = register_low n r (home v) (good v) h
-  source_low r (Number k) h = by (nat_eq k 0)
-    where
-      by : (b : Bool) → (if b then 0 else r) < 28
-      by true = omega arith
-      by false = h
+  source_low r (Number k) h = number_low home r k h
 
   pub fetch_plain : (r : ℕ) (x : Operand) → r < 28 → AllPlain (fetch home r x)
   fetch_plain r (Variable v) h = by (home v)
@@ -239,7 +250,7 @@ module _ (n : ℕ) (home : ℕ → Home) (good : (v : ℕ) → IsHome n (home v)
       by : (g : Home) → AllPlain (fetch_home r g)
       by (Register q) = tt
       by (Slot i) = load_plain r (slot_at i) h
-  fetch_plain r (Number k) h = plain_either (nat_eq k 0) [] (number_code r k) tt (number_plain r k h)
+  fetch_plain r (Number k) h = number_fetched home r k h
 
   -- an operand goes into a register in plain instructions and one that writes the register
   pub move_is : (t : ℕ) (x : Operand) → (is : List Inst) × (r : ℕ) × (imm : ℤ) × AllPlain is × (r < 28) × (move_code home t x ≡ is ++ Addi t r imm ∷ [])
@@ -285,7 +296,7 @@ module _ (n : ℕ) (home : ℕ → Home) (good : (v : ℕ) → IsHome n (home v)
   compare_operands_writes : (t : ℕ) (r : Comparison) (x y : Operand) → Writes t (compare_operands home t r x y)
   compare_operands_writes t r x (Variable v) = compare_registers_writes t r x (Variable v)
   compare_operands_writes t r x (Number k) =
-      either_writes t (takes_number r k) (fetch home 5 x ++ compare_number_code r t (source home 5 x) k) (compare_registers home t r x (Number k))
+      either_writes t (as_immediate home r k) (fetch home 5 x ++ compare_number_code r t (source home 5 x) k) (compare_registers home t r x (Number k))
       (fetched_writes t 5 x _ (omega arith) (compare_number_writes r t (source home 5 x) k (source_low 5 x (omega arith)))) (compare_registers_writes t r x (Number k))
 
   pub test_writes : (t : ℕ) (test : Test) → Writes t (test_code home t test)
@@ -369,10 +380,15 @@ pub finish_plain : (by_a : Bool) → AllPlain (finish_code by_a)
 finish_plain true = (tt, tt)
 finish_plain false = ((omega arith, omega arith, omega arith), ((omega arith, omega arith, omega arith), (tt, tt)))
 
+residents_plain : (r : ℕ) (numbers : List ℕ) → r < 28 → AllPlain (residents_code r numbers)
+residents_plain r [] h = tt
+residents_plain r (n ∷ ns) h = plain_append (number_code r n) (residents_code (r - 1) ns) (number_plain r n h) (residents_plain (r - 1) ns (omega arith))
+
 pub start_plain : (plan : Plan) (main frames : ℕ) → AllPlain (start_code plan main frames)
 start_plain plan main frames =
     let addresses : List Inst = number_code 4 (plan.memory - 16) ++ Addi 10 0 (pos 1) ∷ [] in
     let plain : AllPlain addresses = plain_append (number_code 4 (plan.memory - 16)) (Addi 10 0 (pos 1) ∷ []) (number_plain 4 (plan.memory - 16) (omega arith)) ((omega arith, omega arith, omega arith), tt) in
-    plain_append (number_code 3 frames ++ (if plan.by_a then addresses else [])) (enter_code (plan.entry main))
-    (plain_append (number_code 3 frames) _ (number_plain 3 frames (omega arith)) (plain_either plan.by_a addresses [] plain tt))
+    let stay : List Inst = residents_code 27 plan.residents in
+    plain_append (number_code 3 frames ++ (stay ++ (if plan.by_a then addresses else []))) (enter_code (plan.entry main))
+    (plain_append (number_code 3 frames) _ (number_plain 3 frames (omega arith)) (plain_append stay _ (residents_plain 27 plan.residents (omega arith)) (plain_either plan.by_a addresses [] plain tt)))
     (enter_plain (plan.entry main))

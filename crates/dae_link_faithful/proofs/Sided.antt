@@ -44,12 +44,12 @@ use Rattle.dae_select_walks.specs.Live.{Ways, none, in_operand, live, behind, bo
 use Rattle.dae_select_walks.specs.Facts.{Facts, unknown, only_leaves, operand_bounds, is_aligned, is_good, tells_within, facts_behind, facts_in_first, facts_in_second, facts_past_if, facts_at_turn, facts_at_step, facts_past_loop, need_of}
 use Rattle.dae_select_walks.specs.declared.Need.TheVariants.{All, Ends, Nothing}
 use Rattle.dae_select_walks.specs.Agrees.{Plan}
-use Rattle.dae_select_blocks.specs.Blocks.{number_code, register_or, source, operation_code, immediate_code, exchanged_code, behind_or, combine_registers, binary_code, value_code, fetch, move_code, keep, test_code, call_number, issue_code, address_code, take_code, fail_code, over, align_code, bounds_code, room_code, check_code, hear_code, jump_over, jump_back, leave_code, jump_words, branch_inst, opposite, one_way, goes_by, goes_code, frames_room_code, lower, is_immediate, tell_number_code, against_zero, immediate_of, extend_code, compare_code, takes_number, compare_number_code, compare_registers, compare_operands, back_offset, goes_back}
+use Rattle.dae_select_blocks.specs.Blocks.{number_code, register_or, source, operation_code, immediate_code, exchanged_code, behind_or, combine_registers, binary_code, value_code, fetch, move_code, keep, test_code, call_number, issue_code, address_code, take_code, fail_code, over, align_code, bounds_code, room_code, check_code, hear_code, jump_over, jump_back, leave_code, jump_words, branch_inst, opposite, one_way, goes_by, goes_code, frames_room_code, lower, is_immediate, tell_number_code, against_zero, immediate_of, extend_code, compare_code, compare_number_code, compare_registers, compare_operands, back_offset, goes_back, as_immediate}
 use Rattle.dae_select_walks.specs.Compiled.{is_told}
 use Rattle.dae_select_blocks.specs.Code.{leaves_first, is_near, has_bottom, told_by, branch_by, ahead_by, before_branch, back_branch, either_one, reads_once, with_home, early_code, late_code, standing_behind, placed_code, needed_code, block_code, action_code, branch_code, code_of, entry_code, function_code, finish_code, start_code, does_nothing, past_code, written_last}
 use Rattle.dae_link_faithful.specs.Uses.{queue_in, action_queue, branch_queue, IsOfSide, AreOfSide, IsUntouched, LeavesAlone}
 use Rattle.dae_link_faithful.proofs.Access.{IsPlain, plain, loads_for_e, loads_own, gives_address, pushes_datum, pushes_copy, pushes_message, takes_load, takes_own, takes_copy, takes_message, takes_load_left, takes_load_right, takes_copy_left, takes_copy_right, pushes_flag, sends_datum}
-use Rattle.dae_link_faithful.proofs.Quiet.{immediate_form, exchanged_form, AllPlain, plain_append, number_plain, register_low, keep_plain, source_low, fetch_plain, move_is, value_plain, system_plain, stop_plain, leave_plain, call_plain, entry_plain, finish_plain, start_plain, over_plain, past_plain, back_jump_plain, branch_form, branch_plain, goes_plain, test_writes, Writes, tell_number_writes}
+use Rattle.dae_link_faithful.proofs.Quiet.{immediate_form, exchanged_form, AllPlain, plain_append, number_plain, register_low, keep_plain, source_low, fetch_plain, move_is, value_plain, system_plain, stop_plain, leave_plain, call_plain, entry_plain, finish_plain, start_plain, over_plain, past_plain, back_jump_plain, branch_form, branch_plain, goes_plain, test_writes, Writes, tell_number_writes, number_fetched, number_low}
 use Rattle.dae_select_blocks.specs.Sizes.{is_short}
 use Rattle.dae_select_blocks.proofs.LawsOfBlocks.{operation_is, passed_on, by_pairs, Suits, suits_behind}
 
@@ -318,6 +318,17 @@ module _ (plan : Plan) (variables : ℕ → ℕ) (good : (f v : ℕ) → IsHome 
           let i = operation_code operator t (source (plan.home f) 5 x) q in
           behind_plain by_a' o (fetch (plan.home f) 5 x) (i ∷ []) (fetches x) (first_uses by_a' o i [] (right i t (source (plan.home f) 5 x) (ap form_of (operation_is operator t (source (plan.home f) 5 x) q)) low' (low x)) tt)
 
+      -- a number beside the word
+      left_number : (home : ℕ → Home) (t : ℕ) (operator : Operator) (n : ℕ) → t < 28 → Uses by_a' o (fetch home 6 (Number n) ++ operation_code operator t q (source home 6 (Number n)) ∷ [])
+      left_number home t operator n low' =
+          let r = source home 6 (Number n) in let i = operation_code operator t q r in
+          behind_plain by_a' o (fetch home 6 (Number n)) (i ∷ []) (number_fetched home 6 n (omega arith)) (first_uses by_a' o i [] (left i t r (ap form_of (operation_is operator t q r)) low' (number_low home 6 n (omega arith))) tt)
+
+      right_number : (home : ℕ → Home) (t : ℕ) (operator : Operator) (n : ℕ) → t < 28 → Uses by_a' o (fetch home 5 (Number n) ++ operation_code operator t (source home 5 (Number n)) q ∷ [])
+      right_number home t operator n low' =
+          let r = source home 5 (Number n) in let i = operation_code operator t r q in
+          behind_plain by_a' o (fetch home 5 (Number n)) (i ∷ []) (number_fetched home 5 n (omega arith)) (first_uses by_a' o i [] (right i t r (ap form_of (operation_is operator t r q)) low' (number_low home 5 n (omega arith))) tt)
+
       early_binary : (v t : ℕ) (operator : Operator) (x y : Operand) → either_one (in_operand x v) (in_operand y v) ≡ true → t < 28 → Uses by_a' o (binary_code (Instead v) t operator x y)
       early_binary v t operator (Number n) (Number k) one low' = absurd (let bad : false ≡ true = one in cc)
       early_binary v t operator (Variable a) (Number n) one low' =
@@ -325,16 +336,16 @@ module _ (plan : Plan) (variables : ℕ → ℕ) (good : (f v : ℕ) → IsHome 
           let same : nat_eq a v ≡ true = grind (arith, nat_tests) in
           rw same (by (immediate_code operator t q n) refl)
         where
-          by : (i : Option Inst) → immediate_code operator t q n ≡ i → Uses by_a' o (behind_or [] i (fetch (plan.home f) 6 (Number n) ++ operation_code operator t q (source (plan.home f) 6 (Number n)) ∷ []))
+          by : (i : Option Inst) → immediate_code operator t q n ≡ i → Uses by_a' o (behind_or [] i (fetch (Instead v) 6 (Number n) ++ operation_code operator t q (source (Instead v) 6 (Number n)) ∷ []))
           by (Some i) e = first_uses by_a' o i [] (left i t 0 (immediate_form operator t q n i e) low' (omega arith)) tt
-          by None e = left_uses t operator (Number n) low'
+          by None e = left_number (Instead v) t operator n low'
       early_binary v t operator (Number n) (Variable b) one low' =
           let same : nat_eq b v ≡ true = grind (arith, nat_tests) in
           rw same (by (exchanged_code operator t q n) refl)
         where
-          by : (i : Option Inst) → exchanged_code operator t q n ≡ i → Uses by_a' o (behind_or [] i (fetch (plan.home f) 5 (Number n) ++ operation_code operator t (source (plan.home f) 5 (Number n)) q ∷ []))
+          by : (i : Option Inst) → exchanged_code operator t q n ≡ i → Uses by_a' o (behind_or [] i (fetch (Instead v) 5 (Number n) ++ operation_code operator t (source (Instead v) 5 (Number n)) q ∷ []))
           by (Some i) e = first_uses by_a' o i [] (left i t 0 (exchanged_form operator t q n i e) low' (omega arith)) tt
-          by None e = right_uses t operator (Number n) low'
+          by None e = right_number (Instead v) t operator n low'
       early_binary v t operator (Variable a) (Variable b) one low' = by (nat_eq v a) refl one
         where
           by : (z : Bool) → nat_eq v a ≡ z → either_one z (nat_eq v b) ≡ true → Uses by_a' o (combine_registers (Instead v) t operator (Variable a) (Variable b))
@@ -388,13 +399,19 @@ module _ (plan : Plan) (variables : ℕ → ℕ) (good : (f v : ℕ) → IsHome 
       right_test : (t : ℕ) (relation : Comparison) (x : Operand) → t < 28 → Uses by_a' o (fetch (plan.home f) 5 x ++ compare_code relation t (source (plan.home f) 5 x) q)
       right_test t relation x low' = behind_plain by_a' o (fetch (plan.home f) 5 x) _ (fetches x) (right_compares relation t (source (plan.home f) 5 x) low' (low x))
 
+      left_number_test : (home : ℕ → Home) (t : ℕ) (relation : Comparison) (n : ℕ) → t < 28 → Uses by_a' o (fetch home 6 (Number n) ++ compare_code relation t q (source home 6 (Number n)))
+      left_number_test home t relation n low' = behind_plain by_a' o (fetch home 6 (Number n)) _ (number_fetched home 6 n (omega arith)) (left_compares relation t (source home 6 (Number n)) low' (number_low home 6 n (omega arith)))
+
+      right_number_test : (home : ℕ → Home) (t : ℕ) (relation : Comparison) (n : ℕ) → t < 28 → Uses by_a' o (fetch home 5 (Number n) ++ compare_code relation t (source home 5 (Number n)) q)
+      right_number_test home t relation n low' = behind_plain by_a' o (fetch home 5 (Number n)) _ (number_fetched home 5 n (omega arith)) (right_compares relation t (source home 5 (Number n)) low' (number_low home 5 n (omega arith)))
+
       early_test : (v t : ℕ) (relation : Comparison) (x y : Operand) → either_one (in_operand x v) (in_operand y v) ≡ true → t < 28 → Uses by_a' o (compare_operands (Instead v) t relation x y)
       early_test v t relation (Number n) (Number k) one low' = absurd (let bad : false ≡ true = one in cc)
       early_test v t relation (Variable a) (Number n) one low' =
           let e : nat_eq v a ≡ true = left_one (nat_eq v a) one in
           let same : nat_eq a v ≡ true = grind (arith, nat_tests) in
-          rw same (either_uses by_a' o (takes_number relation n) (compare_number_code relation t q n) (fetch (plan.home f) 6 (Number n) ++ compare_code relation t q (source (plan.home f) 6 (Number n))) (number_compares relation t n low') (left_test t relation (Number n) low'))
-      early_test v t relation (Number n) (Variable b) one low' = let same : nat_eq b v ≡ true = grind (arith, nat_tests) in rw same (right_test t relation (Number n) low')
+          rw same (either_uses by_a' o (as_immediate (Instead v) relation n) (compare_number_code relation t q n) (fetch (Instead v) 6 (Number n) ++ compare_code relation t q (source (Instead v) 6 (Number n))) (number_compares relation t n low') (left_number_test (Instead v) t relation n low'))
+      early_test v t relation (Number n) (Variable b) one low' = let same : nat_eq b v ≡ true = grind (arith, nat_tests) in rw same (right_number_test (Instead v) t relation n low')
       early_test v t relation (Variable a) (Variable b) one low' = by (nat_eq v a) refl one
         where
           by : (z : Bool) → nat_eq v a ≡ z → either_one z (nat_eq v b) ≡ true → Uses by_a' o (compare_registers (Instead v) t relation (Variable a) (Variable b))
@@ -434,10 +451,17 @@ module _ (plan : Plan) (variables : ℕ → ℕ) (good : (f v : ℕ) → IsHome 
     needed_uses short true false false width x live leaves skips is = before_any (action_uses short (Probe (Place width x)) live leaves skips is)
     needed_uses short true true aligned width x live leaves skips is = record { only = tt; some = λ q e no alone. no refl e }
 
+    -- a variable that is set to itself uses none
+    itself_uses : (short told same : Bool) (v u : ℕ) (live : VariableSet) (leaves skips : ℕ) → IsOfSide by_a' (Compute v (Same (Variable u))) →
+        UsesBefore by_a' told None (needed_code plan variables f (if same then Nothing else All) (Compute v (Same (Variable u))) live (jump_over short leaves) (jump_over short skips))
+    itself_uses short told true v u live leaves skips is = before_any (no_queue by_a' [] tt)
+    itself_uses short told false v u live leaves skips is = before_any (action_uses short (Compute v (Same (Variable u))) live leaves skips is)
+
     alone_uses : (short : Bool) (known : Facts) (a : Action) (k : Actions) (live : VariableSet) (leaves skips : ℕ) → IsOfSide by_a' a →
         UsesBefore by_a' (tells_within 24 k) (action_queue by_a' a) (needed_code plan variables f (need_of plan.memory known a k) a live (jump_over short leaves) (jump_over short skips))
     alone_uses short known (Probe (Place width x)) k live leaves skips is =
         needed_uses short (tells_within 24 k) (is_good plan.memory width (operand_bounds known x)) (is_aligned width (operand_bounds known x)) width x live leaves skips is
+    alone_uses short known (Compute v (Same (Variable u))) k live leaves skips is = itself_uses short (tells_within 24 k) (nat_eq u v) v u live leaves skips is
     alone_uses short known a k live leaves skips is = before_any (action_uses short a live leaves skips is)
 
     -- the block of an action, where things stand so before it and so behind it
@@ -484,7 +508,7 @@ module _ (plan : Plan) (variables : ℕ → ℕ) (good : (f v : ℕ) → IsHome 
     by_uses go (Silent t) way plain hearing =
         no_queue by_a' _ (plain_append (fetch (plan.home f) 5 t.left) _ (fetch_plain (variables f) (plan.home f) (good f) 5 t.left (omega arith)) (plain_append (fetch (plan.home f) 6 t.right) _ (fetch_plain (variables f) (plan.home f) (good f) 6 t.right (omega arith))
         (plain (one_way way t.comparison) (source (plan.home f) 5 t.left) (source (plan.home f) 6 t.right) (source_low (variables f) (plan.home f) (good f) 5 t.left (omega arith)) (source_low (variables f) (plan.home f) (good f) 6 t.right (omega arith)))))
-    by_uses go (Tells t) way plain hearing = told_uses (immediate_of t.comparison t.right) go t way plain
+    by_uses go (Tells t) way plain hearing = told_uses (immediate_of (plan.home f) t.comparison t.right) go t way plain
     by_uses go Hears way plain hearing = hearing (one_way way NotEqual)
 
     branch_uses : (short : Bool) (b : Branch) (way : Bool) (n : ℕ) → Uses by_a' (branch_queue by_a' b) (branch_code (plan.home f) short b way n)

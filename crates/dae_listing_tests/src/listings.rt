@@ -1,8 +1,9 @@
 //! Listings of images.
 
-use dae_image::read;
+use dae_image::{Image, read};
 use dae_listing::disassemble;
 use std::alloc::{AllocError, Global};
+use std::process::Abort;
 use std::test::Fail;
 
 /// The listing of the pair: it adds 1 to a word.
@@ -83,20 +84,38 @@ fn text_of(alloc: Global, lines: &[&[u8]]) -> Result<Vec<u8>, AllocError> {
     Ok(text)
 }
 
-#[test]
-fn pair_is_listed(rt: HostRuntime) -> Result<(), Fail> {
-    let image = read(rt.alloc(), &PAIR_IMAGE)?;
-    let text = disassemble(rt.alloc(), &image)?;
-    let lines = text_of(rt.alloc(), &PAIR)?;
+/// The image of these bytes, at most 200.
+fn image_of(rt: &impl Abort, alloc: Global, bytes: &[u8]) -> Result<Box<Image>, Fail> {
+    assert!(rt; bytes.len() <= 200);
+    let image = read(alloc, bytes)?;
+    Ok(boxed(alloc, image)?)
+}
+
+fn boxed(alloc: Global, image: Image) -> Result<Box<Image>, AllocError> {
+    Ok(Box::new(alloc, image)?)
+}
+
+/// The image is listed in these lines.
+fn check_listing(
+    rt: &impl Abort,
+    alloc: Global,
+    image: &Image,
+    lines: &[&[u8]],
+) -> Result<(), AllocError> {
+    let text = disassemble(alloc, image)?;
+    let lines = text_of(alloc, lines)?;
     assert_eq!(rt; text.as_slice(), lines.as_slice());
     Ok(())
 }
 
 #[test]
+fn pair_is_listed(rt: HostRuntime) -> Result<(), Fail> {
+    let image = image_of(&rt, rt.alloc(), &PAIR_IMAGE)?;
+    Ok(check_listing(&rt, rt.alloc(), &image, &PAIR)?)
+}
+
+#[test]
 fn image_is_listed(rt: HostRuntime) -> Result<(), Fail> {
-    let image = read(rt.alloc(), &IMAGE)?;
-    let text = disassemble(rt.alloc(), &image)?;
-    let lines = text_of(rt.alloc(), &LISTING)?;
-    assert_eq!(rt; text.as_slice(), lines.as_slice());
-    Ok(())
+    let image = image_of(&rt, rt.alloc(), &IMAGE)?;
+    Ok(check_listing(&rt, rt.alloc(), &image, &LISTING)?)
 }

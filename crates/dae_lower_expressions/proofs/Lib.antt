@@ -1,4 +1,5 @@
 mod Counting
 mod Chains
 mod Nodes
+mod Otherwise
 pub mod Laws

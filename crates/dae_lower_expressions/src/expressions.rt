@@ -219,51 +219,7 @@ impl Lowerer {
                 self.maker.item(*place, Item::Print(Spelling::Byte, x))?;
                 Ok(())
             }
-            Expression::Number(_) => {
-                self.value(links, none, e)?;
-                Ok(())
-            }
-            Expression::Address(_, _) => {
-                self.value(links, none, e)?;
-                Ok(())
-            }
-            Expression::Frame(_, _) => {
-                self.value(links, none, e)?;
-                Ok(())
-            }
-            Expression::Read(_, _, _, _) => {
-                self.value(links, none, e)?;
-                Ok(())
-            }
-            Expression::Binary(_, _, _, _) => {
-                self.value(links, none, e)?;
-                Ok(())
-            }
-            Expression::And(_, _, _) => {
-                self.value(links, none, e)?;
-                Ok(())
-            }
-            Expression::Or(_, _, _) => {
-                self.value(links, none, e)?;
-                Ok(())
-            }
-            Expression::Assign(_, _, _, _) => {
-                self.value(links, none, e)?;
-                Ok(())
-            }
-            Expression::Update(_, _, _, _, _) => {
-                self.value(links, none, e)?;
-                Ok(())
-            }
-            Expression::Call(_, _, _) => {
-                self.value(links, none, e)?;
-                Ok(())
-            }
-            Expression::Exit(_, _) => {
-                self.value(links, none, e)?;
-                Ok(())
-            }
-            Expression::Abort(_) => {
+            _ => {
                 self.value(links, none, e)?;
                 Ok(())
             }
@@ -300,71 +256,7 @@ impl Lowerer {
                 let condition = self.condition(links, none, b)?;
                 Ok(condition)
             }
-            Expression::Number(_) => {
-                let x = self.value(links, none, e)?;
-                Ok(nonzero(x))
-            }
-            Expression::Address(_, _) => {
-                let x = self.value(links, none, e)?;
-                Ok(nonzero(x))
-            }
-            Expression::Frame(_, _) => {
-                let x = self.value(links, none, e)?;
-                Ok(nonzero(x))
-            }
-            Expression::Variable(_, _) => {
-                let x = self.value(links, none, e)?;
-                Ok(nonzero(x))
-            }
-            Expression::Read(_, _, _, _) => {
-                let x = self.value(links, none, e)?;
-                Ok(nonzero(x))
-            }
-            Expression::Convert(_, _, _) => {
-                let x = self.value(links, none, e)?;
-                Ok(nonzero(x))
-            }
-            Expression::Binary(_, _, _, _) => {
-                let x = self.value(links, none, e)?;
-                Ok(nonzero(x))
-            }
-            Expression::And(_, _, _) => {
-                let x = self.value(links, none, e)?;
-                Ok(nonzero(x))
-            }
-            Expression::Or(_, _, _) => {
-                let x = self.value(links, none, e)?;
-                Ok(nonzero(x))
-            }
-            Expression::Conditional(_, _, _, _) => {
-                let x = self.value(links, none, e)?;
-                Ok(nonzero(x))
-            }
-            Expression::Assign(_, _, _, _) => {
-                let x = self.value(links, none, e)?;
-                Ok(nonzero(x))
-            }
-            Expression::Update(_, _, _, _, _) => {
-                let x = self.value(links, none, e)?;
-                Ok(nonzero(x))
-            }
-            Expression::Step(_, _, _, _, _) => {
-                let x = self.value(links, none, e)?;
-                Ok(nonzero(x))
-            }
-            Expression::Call(_, _, _) => {
-                let x = self.value(links, none, e)?;
-                Ok(nonzero(x))
-            }
-            Expression::Putchar(_, _) => {
-                let x = self.value(links, none, e)?;
-                Ok(nonzero(x))
-            }
-            Expression::Exit(_, _) => {
-                let x = self.value(links, none, e)?;
-                Ok(nonzero(x))
-            }
-            Expression::Abort(_) => {
+            _ => {
                 let x = self.value(links, none, e)?;
                 Ok(nonzero(x))
             }

@@ -1,62 +1,56 @@
--- Numbers in lists, one for each variable.
-use Rattle.std.proofs.Common.{◌≡◌, ℕ, zero, suc, ◌+◌, ◌-◌, ◌<◌, ◌≤◌, List, [], ◌∷◌, ◌++◌, length, get_or, take, set, replicate, nat_eq, if◌then◌else◌, refl, ap, sym, ◌∙◌, slice_index, arith, add-zero}
-use Rattle.dae_base.proofs.Laws.{suc_suc, suc_zero, zero_suc, same_number}
-use Rattle.dae_lower_maker.specs.Counting.{Counts, both, once}
-
-taken : (xs : List ℕ) (n : ℕ) → length xs ≤ n → take n xs ≡ xs
-taken [] zero h = refl
-taken [] (suc n) h = refl
-taken (x ∷ xs) zero h = absurd (omega (arith, h))
-taken (x ∷ xs) (suc n) h = ap (λ ys. x ∷ ys) (taken xs n (omega (arith, h)))
-
-minus_zero : (n : ℕ) → n - 0 ≡ n
-minus_zero n = omega arith
-
-zeros : (k v : ℕ) → get_or {A = ℕ} (replicate k 0) v 0 ≡ 0
-zeros zero v = refl
-zeros (suc k) zero = refl
-zeros (suc k) (suc v) = zeros k v
-
-filled : (xs : List ℕ) (k v : ℕ) → get_or (xs ++ replicate k 0) v 0 ≡ get_or xs v 0
-filled [] k v = zeros k v
-filled (x ∷ xs) k zero = refl
-filled (x ∷ xs) k (suc v) = filled xs k v
-
-pub resized : (xs ys : List ℕ) (n k : ℕ) → length xs ≤ n → ys ≡ take n xs ++ replicate k 0 → slice_index ys ≡ slice_index xs
-resized xs ys n k h e = λ i v. (ap (λ zs. slice_index zs v) e ∙ (ap (λ zs. slice_index (zs ++ replicate k 0) v) (taken xs n h) ∙ filled xs k v)) i
-
--- 1 for the variable itself, and 0 for another
-raised_at : (xs : List ℕ) (v u n : ℕ) → v < length xs → n ≡ get_or xs v 0 + 1 → get_or (set xs v n) u 0 ≡ get_or xs u 0 + (if nat_eq u v then 1 else 0)
-raised_at [] v u n h e = absurd (omega (arith, h))
-raised_at (x ∷ xs) zero zero n h e = e
-raised_at (x ∷ xs) zero (suc u) n h e = rw (suc_zero u) (sym (add-zero (get_or xs u 0)))
-raised_at (x ∷ xs) (suc v) zero n h e = rw (zero_suc v) (sym (add-zero x))
-raised_at (x ∷ xs) (suc v) (suc u) n h e = rw (suc_suc u v) (raised_at xs v u n (omega (arith, h)) e)
-
-pub raised : (xs : List ℕ) (c : Counts) (v n : ℕ) → slice_index xs ≡ c → v < length xs → n ≡ get_or xs v 0 + 1 → slice_index (set xs v n) ≡ both c (once v)
-raised xs c v n e h k = λ i u. (raised_at xs v u n h k ∙ ap (λ (d : Counts). d u + (if nat_eq u v then 1 else 0)) e) i
-
-dropped_at : (xs : List ℕ) (v u n : ℕ) → v < length xs → n ≡ get_or xs v 0 - 1 → get_or (set xs v n) u 0 ≡ get_or xs u 0 - (if nat_eq u v then 1 else 0)
-dropped_at [] v u n h e = absurd (omega (arith, h))
-dropped_at (x ∷ xs) zero zero n h e = e
-dropped_at (x ∷ xs) zero (suc u) n h e = rw (suc_zero u) (sym (minus_zero (get_or xs u 0)))
-dropped_at (x ∷ xs) (suc v) zero n h e = rw (zero_suc v) (sym (minus_zero x))
-dropped_at (x ∷ xs) (suc v) (suc u) n h e = rw (suc_suc u v) (dropped_at xs v u n (omega (arith, h)) e)
-
-taken_off : (a b k : ℕ) → a ≡ b + k → a - k ≡ b
-taken_off a b k e = omega (arith, e)
-
-pub dropped : (xs : List ℕ) (v n : ℕ) → v < length xs → n ≡ get_or xs v 0 - 1 → (rest : Counts) → slice_index xs ≡ both rest (once v) → slice_index (set xs v n) ≡ rest
-dropped xs v n h k rest e = λ i u. (dropped_at xs v u n h k ∙ taken_off (get_or xs u 0) (rest u) (if nat_eq u v then 1 else 0) (ap (λ (d : Counts). d u) e)) i
-
-past : (xs : List ℕ) (v : ℕ) → length xs ≤ v → get_or xs v 0 ≡ 0
-past [] v h = refl
-past (x ∷ xs) zero h = absurd (omega (arith, h))
-past (x ∷ xs) (suc v) h = past xs v (omega (arith, h))
+-- How often variables stand in a list.
+use Rattle.std.proofs.Common.{◌≡◌, ◌≢◌, ℕ, zero, suc, ◌+◌, ◌<◌, true, false, not, List, [], ◌∷◌, ◌++◌, length, get_or, take, drop, nat_eq, refl, ap, sym, ◌∙◌, arith}
+use Rattle.std.proofs.lemmas.Bool.Decides.{nat_tests}
+use Rattle.dae_base.proofs.Laws.{same_number}
+use Rattle.dae_lower_maker.specs.Counting.{Counts, both, count_in, is_counted, once}
 
 once_at : (v : ℕ) → once v v ≡ 1
 once_at v = rw (same_number v) refl
 
--- what is past the end isn't counted
-pub never_dropped : {A : Type 0} (xs : List ℕ) (v : ℕ) → length xs ≤ v → (rest : Counts) → slice_index xs ≡ both rest (once v) → A
-never_dropped xs v h rest e = absurd (omega (arith, past xs v h, ap (λ (d : Counts). d v) e, once_at v))
+once_elsewhere : (u v : ℕ) → u ≢ v → once u v ≡ 0
+once_elsewhere u v other = grind (arith, nat_tests)
+
+-- ---- one more
+
+pushed_at : (us : List ℕ) (v u : ℕ) → count_in (us ++ v ∷ []) u ≡ count_in us u + once v u
+pushed_at [] v u = omega arith
+pushed_at (x ∷ us) v u = let h = pushed_at us v u in omega (arith, h)
+
+pub pushed : (us new : List ℕ) (v : ℕ) → new ≡ us ++ v ∷ [] → count_in new ≡ both (count_in us) (once v)
+pushed us new v is = ap count_in is ∙ (λ i u. pushed_at us v u i)
+
+-- ---- one fewer
+
+removed_at : (us : List ℕ) (i v u : ℕ) → i < length us → get_or us i 0 ≡ v → count_in us u ≡ count_in (take i us ++ drop (suc i) us) u + once v u
+removed_at [] i v u lt is = absurd (omega (arith, lt))
+removed_at (x ∷ us) zero v u lt is = let e : once x u ≡ once v u = ap (λ (w : ℕ). once w u) is in omega (arith, e)
+removed_at (x ∷ us) (suc i) v u lt is = let h = removed_at us i v u (omega (arith, lt)) is in omega (arith, h)
+
+left_over : (a b k : ℕ) → a ≡ b + k → (rest : ℕ) → a ≡ rest + k → b ≡ rest
+left_over a b k e rest h = omega (arith, e, h)
+
+pub removed : (us new : List ℕ) (i v : ℕ) → i < length us → get_or us i 0 ≡ v → new ≡ take i us ++ drop (suc i) us → (rest : Counts) → count_in us ≡ both rest (once v) → count_in new ≡ rest
+removed us new i v lt is e rest all =
+    ap count_in e ∙ (λ j u. left_over (count_in us u) (count_in (take i us ++ drop (suc i) us) u) (once v u) (removed_at us i v u lt is) (rest u) (ap (λ (c : Counts). c u) all) j)
+
+-- ---- whether there is one
+
+pub some_counted : (us : List ℕ) (i v : ℕ) → i < length us → get_or us i 0 ≡ v → true ≡ is_counted (count_in us) v
+some_counted us i v lt is =
+    let h = removed_at us i v v lt is in let one = once_at v in
+    let some : count_in us v ≢ 0 = omega (arith, h, one) in
+    grind (arith, nat_tests)
+
+pub none_counted : (us : List ℕ) (v : ℕ) → ((k : ℕ) → k < length us → get_or us k 0 ≢ v) → count_in us v ≡ 0
+none_counted [] v other = refl
+none_counted (x ∷ us) v other =
+    let here = once_elsewhere x v (other 0 (omega arith)) in
+    let rest = none_counted us v (λ k lt. other (suc k) (omega (arith, lt))) in
+    omega (arith, here, rest)
+
+pub not_counted : (c : Counts) (v : ℕ) → c v ≡ 0 → false ≡ is_counted c v
+not_counted c v none = ap (λ (n : ℕ). not (nat_eq n 0)) (sym none)
+
+-- what isn't there isn't removed
+pub never_removed : {A : Type 0} (us : List ℕ) (v : ℕ) → count_in us v ≡ 0 → (rest : Counts) → count_in us ≡ both rest (once v) → A
+never_removed us v none rest all = absurd (let e = ap (λ (c : Counts). c v) all in let one = once_at v in omega (arith, none, e, one))

@@ -1,5 +1,5 @@
 -- How often variables are assigned: a number for each.
-use Rattle.std.specs.Prelude.{◌≡◌, ℕ, ◌+◌, not, nat_eq, if◌then◌else◌, slice_index}
+use Rattle.std.specs.Prelude.{◌≡◌, ℕ, ◌+◌, not, nat_eq, if◌then◌else◌, List, [], ◌∷◌}
 use Rattle.dae_ir.specs.Classes.{VariableSet}
 use Rattle.dae_lower_maker.specs.declared.later.Later.{Later}
 use Rattle.dae_lower_maker.specs.declared.later.Change.{Change}
@@ -22,8 +22,13 @@ both c d v = c v + d v
 abbrev pub is_counted : Counts → VariableSet
 is_counted c v = not (nat_eq (c v) 0)
 
+-- how often each stands in a list
+abbrev pub count_in : List ℕ → Counts
+count_in [] v = 0
+count_in (u ∷ us) v = once u v + count_in us v
+
 abbrev pub counts_of : Later → Counts
-counts_of later = slice_index later.counts.items
+counts_of later = count_in later.assigned.items
 
 -- some assignments are added to those before, or are removed from those before, among which they are
 abbrev pub Changes : Change → Counts → Counts → Counts → Type 0

@@ -1,19 +1,19 @@
-// How often what is still to come of an expression assigns each variable.
+// The variables that what is still to come of an expression assigns.
 
-ghost use Rattle.std.specs.Prelude.{◌≡◌, ◌+◌, ◌<◌, IfOk, vec_len};
+ghost use Rattle.std.specs.Prelude.{◌≡◌, ◌+◌, ◌<◌, IfOk, IfSome, None, length, slice_index};
 ghost use Rattle.dae_lower_maker.specs.Counting.{Changes, counts_of, is_counted, never, once};
 ghost use Rattle.dae_lower_maker.specs.declared.later.Change.TheVariants.{Add, Remove};
 
 use std::alloc::{AllocError, Global};
 
-/// How often what is still to come of an expression assigns each variable.
+/// The variables that what is still to come of an expression assigns, each as often as it is assigned.
 #[derive(Drop)]
 pub struct Later {
-    counts: Vec<u32>,
+    assigned: Vec<u32>,
 }
 
 /// Whether assignments are added or removed.
-#[derive(Clone, Copy, PartialEq, Eq, Debug)]
+#[derive(Clone, Copy)]
 pub enum Change {
     Add,
     Remove,
@@ -33,50 +33,47 @@ impl Later {
         ensures { counts_of result ≡ never }
     {
         Later {
-            counts: Vec::new(alloc),
+            assigned: Vec::new(alloc),
         }
+    }
+
+    /// Where a variable stands among those that are assigned.
+    fn position(&self, v: u32) -> Option<usize>
+        ensures found { IfSome result (λ index. (index < length self.now.assigned.items)
+            × (slice_index self.now.assigned.items index ≡ v)) }
+        ensures none { result ≡ None → counts_of self.now v ≡ 0 }
+    {
+        for (index, assigned) in self.assigned.iter().enumerate() {
+            if *assigned == v {
+                return Some(index);
+            }
+        }
+        None
     }
 
     /// Whether a variable is assigned.
     pub fn has(&self, v: u32) -> bool
         ensures { result ≡ is_counted (counts_of self.now) v }
     {
-        match self.counts.get(v as usize) {
-            Some(count) => *count != 0,
+        match self.position(v) {
+            Some(_) => true,
             None => false,
         }
-    }
-
-    /// Makes room for a variable's number.
-    fn reach(&mut self, v: u32) -> Result<(), AllocError>
-        ensures counts { IfOk result (λ x. counts_of self.new ≡ counts_of self.old) }
-        ensures room { IfOk result (λ x. v < vec_len self.new.counts) }
-    {
-        let index = v as usize;
-        if self.counts.len() <= index {
-            self.counts.resize(index + 1, 0)?;
-        }
-        Ok(())
     }
 
     fn add(&mut self, v: u32) -> Result<(), AllocError>
         ensures { IfOk result
             (λ x. Changes Add (once v) (counts_of self.old) (counts_of self.new)) }
     {
-        self.reach(v)?;
-        let index = v as usize;
-        let count = one_more(self.counts[index])?;
-        self.counts[index] = count;
+        self.assigned.push(v)?;
         Ok(())
     }
 
     fn remove(&mut self, v: u32)
         ensures { Changes Remove (once v) (counts_of self.old) (counts_of self.new) }
     {
-        let index = v as usize;
-        if index < self.counts.len() {
-            let count = self.counts[index];
-            self.counts[index] = count.saturating_sub(1);
+        if let Some(index) = self.position(v) {
+            self.assigned.remove(index);
         }
     }
 

@@ -15,21 +15,21 @@ pub struct Maker {
 }
 
 /// Where an object lies in memory: its address, and whether that has to be checked.
-#[derive(Clone, Copy, PartialEq, Eq, Debug)]
+#[derive(Clone, Copy)]
 pub struct Location {
     pub address: Operand,
     pub checked: bool,
 }
 
 /// What is assigned: a variable, or an object in memory.
-#[derive(Clone, Copy, PartialEq, Eq, Debug)]
+#[derive(Clone, Copy)]
 pub enum Spot {
     Variable(u32),
     Object(Location),
 }
 
 /// What an operator assigns, once its address is known: the place of the operator, the type, and where it is.
-#[derive(Clone, Copy, PartialEq, Eq, Debug)]
+#[derive(Clone, Copy)]
 pub struct Lvalue {
     pub place: Place,
     pub kind: LoadKind,
@@ -37,7 +37,7 @@ pub struct Lvalue {
 }
 
 /// An operator `++` or `--`: its place, the type of its operand, the number that it adds, and where it stands.
-#[derive(Clone, Copy, PartialEq, Eq, Debug)]
+#[derive(Clone, Copy)]
 pub struct Increment {
     pub place: Place,
     pub kind: LoadKind,
@@ -46,7 +46,7 @@ pub struct Increment {
 }
 
 /// A test that decides by holding, or by not holding.
-#[derive(Clone, Copy, PartialEq, Eq, Debug)]
+#[derive(Clone, Copy)]
 pub struct Condition {
     pub test: Test,
     pub turned: bool,

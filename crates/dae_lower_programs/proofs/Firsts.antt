@@ -47,12 +47,12 @@ statement_first l (statement.Initialise p offset size items) k n = seam_one (emi
 statement_first l (statement.Print p xs pieces) k n = seam_one _ (statements l k)
 statement_first l (statement.If' p e b s c t) k n = seam_one _ (statements l k)
 statement_first l (statement.Loop' p test b body step) k n = seam_one (loop p (leave_unless_some l p (view_some test) n ≫ λ x. statements l (row_then body tree.Done)) (effect_of_some l (view_some step))) (statements l k)
-statement_first l (statement.Do' p b body test) k n = seam_one (loop p (statements l (row_then body tree.Done) n) (leave_unless l p (view test))) (statements l k)
+statement_first l (statement.Do' p b body test) k n = seam_one (loop p (statements l (row_then body tree.Done) n) (leave_unless l p (view test.value))) (statements l k)
 statement_first l (statement.Switch' p e b arms) k n = seam_one _ (statements l k)
 statement_first l (statement.Break p) k n = seam_one (emit (one p Break) n) (statements l k)
 statement_first l (statement.Continue p) k n = seam_one (emit (one p Continue) n) (statements l k)
 statement_first l (statement.Return p None) k n = seam_one (emit (one p (Return (Number 0))) n) (statements l k)
-statement_first l (statement.Return p (Some e)) k n = seam_two ((ways l (view e)).value nowhere n) (λ x. emit (one p (Return x))) (statements l k)
+statement_first l (statement.Return p (Some e)) k n = seam_two ((ways l (view e.value)).value nowhere n) (λ x. emit (one p (Return x))) (statements l k)
 
 pub made_at : (l : Links) (xs : List Statement) (i : ℕ) (x : Statement) → i < length xs → x ≡ get_or xs i x → (n : ℕ) → statements l (view_statements (drop i xs)) n ≡ (statements l (statement_then x tree.Done) n ≫ λ u. statements l (view_statements (drop (i + 1) xs)))
 made_at l xs i x lt is n = ap (λ ss. statements l ss n) (statements_at xs i x lt is) ∙ statement_first l x (view_statements (drop (i + 1) xs)) n

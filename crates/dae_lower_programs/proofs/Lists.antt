@@ -1,10 +1,17 @@
--- The forms of a program's functions, in order.
-use Rattle.std.proofs.Common.{◌≡◌, ℕ, ◌+◌, ◌<◌, ◌≤◌, List, [], ◌∷◌, ◌++◌, length, drop, get_or, ap, sym, ◌∙◌, subst, append-nil, append_assoc}
+-- The forms of a program's functions, in order, and the parameters of these.
+use Rattle.std.proofs.Common.{◌≡◌, ℕ, zero, suc, ◌+◌, ◌%◌, ◌^◌, ◌<◌, ◌≤◌, true, false, ◌&&◌, Some, List, [], ◌∷◌, ◌++◌, length, drop, get_or, ap, sym, ◌∙◌, subst, arith, append-nil, append_assoc}
+use Rattle.std.proofs.lemmas.Bool.{leb-true}
 use Rattle.std.proofs.lemmas.List.{drop_all}
-use Rattle.dae_base.proofs.Laws.{drop_at}
+use Rattle.std.specs.Prelude.{nat_eq, nat_le, slice_get}
+use Rattle.std.specs.List.{AllByRecursion, list_all}
+use Rattle.dae_base.proofs.Laws.{and_first, and_second, drop_at}
 use Rattle.dae_lower_formed.specs.Formed.{AreFormsOf, IsFunctionFormOf}
 use Rattle.dae_ir.specs.declared.form.Function.{Function as FormFunction}
+use Rattle.dae_lower_programs.specs.Functions.{NumbersParameters}
+use Rattle.dae_program.specs.Lawful.{Bounds, are_inside, are_sound_statements, is_lawful_in, is_lawful_memory, is_main, is_ready, is_sound_slot, is_well_placed, parameter_count, spares}
+use Rattle.dae_program.specs.Resolved.{function_in}
 use Rattle.dae_program.specs.declared.program.Function.{Function}
+use Rattle.dae_program.specs.declared.program.Links.{Links}
 use Rattle.dae_program.specs.declared.program.Program.{Program}
 
 -- so far there are these, and with those of the functions from an index on they are all
@@ -27,3 +34,36 @@ pub last_forms : (p : Program) (fs : List Function) (i : ℕ) (forms : List Form
 last_forms p fs i forms le h =
     subst (λ (gs : List FormFunction). AreFormsOf p 0 fs gs) (append-nil forms)
     (h.ends [] (subst (λ (xs : List Function). AreFormsOf p i xs []) (sym (drop_all i fs le)) tt))
+
+-- ---- parameters
+
+pub below_word : (f : Function) → NumbersParameters f → f.variables < 2 ^ 32 → 1 + length f.parameters < 2 ^ 32
+below_word f h word = omega (arith, h, word)
+
+pub parameters_at : (fs : List Function) (i : ℕ) (f : Function) → i < length fs → f ≡ get_or fs i f → AllByRecursion NumbersParameters fs → NumbersParameters f
+parameters_at [] i f lt is all = absurd (omega (arith, lt))
+parameters_at (g ∷ gs) zero f lt is all = subst NumbersParameters (sym is) all.0
+parameters_at (g ∷ gs) (suc i) f lt is all = parameters_at gs i f (omega (arith, lt)) is all.1
+
+lawful_numbers : (memory : ℕ) (links : List Links) (functions : List Function) (f : Function) → is_lawful_in memory links functions true f ≡ true → NumbersParameters f
+lawful_numbers memory links functions f h =
+    let g = function_in (length functions) links (Some f) in
+    let b : Bounds = record { variables = f.variables; parameters = λ k. parameter_count (slice_get functions (g.callee k)); address = g.address; memory = memory; frame = g.frame } in
+    let sound = list_all (is_sound_slot g.frame) g.parameters && are_sound_statements b g.body in
+    let first = nat_eq (g.frame % 4) 0 && nat_le (1 + length g.parameters) f.variables in
+    leb-true (1 + length f.parameters) f.variables (and_second (nat_eq (g.frame % 4) 0) _ (and_first first sound (and_first (first && sound) (are_inside false false true g.body) h)))
+
+all_numbered : (memory : ℕ) (links : List Links) (functions fs : List Function) → list_all (is_lawful_in memory links functions true) fs ≡ true → AllByRecursion NumbersParameters fs
+all_numbered memory links functions [] h = tt
+all_numbered memory links functions (f ∷ fs) h = (
+  lawful_numbers memory links functions f (and_first (is_lawful_in memory links functions true f) (list_all (is_lawful_in memory links functions true) fs) h),
+  all_numbered memory links functions fs (and_second (is_lawful_in memory links functions true f) _ h),
+)
+
+-- a lawful program
+pub parameters_numbered : (p : Program) → AllByRecursion NumbersParameters p.functions
+parameters_numbered p =
+    all_numbered p.memory p.links p.functions p.functions
+    (and_second (list_all (spares p.main) p.links) _
+    (and_second (is_lawful_memory p.memory p.frames (length p.content) && is_main p.memory p.links p.functions (slice_get p.functions p.main)) _
+    (and_first (is_well_placed p.memory p.frames p.content p.links p.functions p.main) (list_all (is_ready p.links p.functions) p.functions) p.lawful)))

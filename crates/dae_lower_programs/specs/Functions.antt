@@ -1,5 +1,5 @@
 -- The form of a function, where its file has these links, and of a parameter that is stored in the frame.
-use Rattle.std.specs.Prelude.{◌≡◌, ℕ, ◌+◌, Bool, length, Some}
+use Rattle.std.specs.Prelude.{◌≡◌, ℕ, ◌+◌, ◌≤◌, Bool, length, Some}
 use Rattle.dae_base.specs.declared.Place.{Place}
 use Rattle.dae_lower_formed.specs.Formed.{form_variables}
 use Rattle.dae_ir.specs.Code.{Do}
@@ -25,6 +25,10 @@ linked none links f = record {
   frame = f.frame;
   body = view_statements f.body;
 }
+
+-- variable 0 and the parameters are among its variables
+abbrev pub NumbersParameters : Function → Type 0
+NumbersParameters f = 1 + length f.parameters ≤ f.variables
 
 pub record IsFormWith (none : ℕ) (links : Links) (is_main : Bool) (f : Function) (g : FormFunction) : Type 0 where
   pub name : g.name ≡ f.name

@@ -1,6 +1,7 @@
 // The form of a function: what its frame needs, its parameters, its statements, and an end.
 
-ghost use Rattle.std.specs.Prelude.{◌≡◌, ◌&&◌, [], ◌∷◌, length, nat_eq, not, if◌then◌else◌, IfOk};
+ghost use Rattle.std.specs.Prelude.{◌≡◌, ◌<◌, ◌≤◌, ◌+◌, ◌^◌, ◌&&◌, [], ◌∷◌, length, nat_eq, not, if◌then◌else◌, IfOk};
+ghost use Rattle.std.specs.List.{AllByRecursion};
 ghost use Rattle.dae_lower_formed.specs.Formed.{AreFormsOf, IsFunctionFormOf};
 ghost use Rattle.dae_ir.specs.Code.{Done};
 ghost use Rattle.dae_ir.specs.Form.{before, form_of};
@@ -9,19 +10,18 @@ ghost use Rattle.dae_ir.specs.declared.form.Item.TheVariants.{Expect, Halt, Retu
 ghost use Rattle.dae_ir.specs.declared.form.Operand.TheVariants.{Number};
 ghost use Rattle.dae_lower.specs.Lowering.{checks, closed, emit, is_closed, parameters_stored};
 ghost use Rattle.dae_lower_expressions.specs.Lowered.{MakesWhole};
-ghost use Rattle.dae_lower_programs.specs.Functions.{IsFormWith, slot_stored};
+ghost use Rattle.dae_lower_programs.specs.Functions.{IsFormWith, NumbersParameters, slot_stored};
 ghost use Rattle.dae_lower_programs.specs.Invocations.{at_startup};
 
 use crate::make_statements;
 use dae_base::{Items, Place, Text};
 use dae_ir::{Check, Function as FormFunction, Item, Operand, Statement, Value};
 use dae_lower_expressions::Lowerer;
-use dae_lower_maker::one_more;
 use dae_program::{Function, Links, Program, Slot};
 use std::alloc::{AllocError, Global};
 
 /// How a function is invoked: at the program's startup, as main is, or by calls.
-#[derive(Clone, Copy, PartialEq, Eq, Debug)]
+#[derive(Clone, Copy)]
 pub enum Invocation {
     Startup,
     Call,
@@ -73,13 +73,14 @@ fn store_parameters(
     place: Place,
     slots: &[Option<Slot>],
 ) -> Result<(), AllocError>
+    requires { 1 + length slots.now < 2 ^ 32 }
     ensures { IfOk result
         (MakesWhole (parameters_stored place slots.now 1) lowerer.old lowerer.new) }
 {
     let mut number = 1;
     for slot in slots {
         store_parameter(lowerer, place, number, slot)?;
-        number = one_more(number)?;
+        number += 1;
     }
     Ok(())
 }
@@ -161,13 +162,18 @@ fn end_of(invocation: Invocation) -> Item
     }
 }
 
-/// A number of things, where it is a word.
-fn count_of(number: usize) -> Result<u32, AllocError>
-    ensures { IfOk result (λ n. n ≡ number) }
+/// A number of things, which is a word.
+fn count_of(number: usize) -> u32
+    requires { number < 2 ^ 32 }
+    ensures { result ≡ number }
 {
-    let n = u32::try_from(number).map_err(|_| AllocError)?;
-    Ok(n)
+    number as u32
 }
+
+// Words are below 2^32.
+fn see_word(word: u32)
+    ensures { word < 2 ^ 32 }
+{}
 
 /// The form of a function, with the links of its file. `none` is the number of no function.
 fn lower_with(
@@ -177,8 +183,10 @@ fn lower_with(
     invocation: Invocation,
     f: &Function,
 ) -> Result<FormFunction, AllocError>
+    requires { NumbersParameters f.now }
     ensures { IfOk result (IsFormWith none links.now (at_startup invocation) f.now) }
 {
+    see_word(f.variables);
     let mut lowerer = Lowerer::new(alloc, f.variables);
     check_frame(&mut lowerer, f.place, needs_check(invocation, f.frame))?;
     store_parameters(&mut lowerer, f.place, f.parameters.as_slice())?;
@@ -191,7 +199,7 @@ fn lower_with(
     let variables = maker.next();
     let body = close(maker.into_statements(), f.place, end_of(invocation))?;
     let name = Text::from_str(alloc, f.name.as_str())?;
-    let parameters = count_of(f.parameters.len())?;
+    let parameters = count_of(f.parameters.len());
     Ok(FormFunction {
         name,
         parameters,
@@ -210,6 +218,7 @@ fn lower_function(
     f: &Function,
 ) -> Result<FormFunction, AllocError>
     requires none { none ≡ length program.now.functions }
+    requires parameters { NumbersParameters f.now }
     ensures { IfOk result (IsFunctionFormOf program.now number f.now) }
 {
     let invocation = invocation_of(number, program.main);
@@ -237,6 +246,8 @@ fn lower_each(
     functions: &[Function],
 ) -> Result<Vec<FormFunction>, AllocError>
     requires none { none ≡ length program.now.functions }
+    requires few { length functions.now < 2 ^ 32 }
+    requires parameters { AllByRecursion NumbersParameters functions.now }
     ensures { IfOk result (λ gs. AreFormsOf program.now 0 functions.now gs.items) }
 {
     let mut forms = Vec::new(alloc);
@@ -244,16 +255,17 @@ fn lower_each(
     for f in functions {
         let form = lower_function(alloc, program, none, number, f)?;
         forms.push(form)?;
-        number = one_more(number)?;
+        number += 1;
     }
     Ok(forms)
 }
 
 /// The forms of all functions of a program, in order.
 pub fn lower_functions(alloc: Global, program: &Program) -> Result<Vec<FormFunction>, AllocError>
+    requires { length program.now.functions < 2 ^ 32 }
     ensures { IfOk result (λ gs. AreFormsOf program.now 0 program.now.functions gs.items) }
 {
-    let none = count_of(program.functions.len())?;
+    let none = count_of(program.functions.len());
     let forms = lower_each(alloc, program, none, program.functions.as_slice())?;
     Ok(forms)
 }

@@ -16,7 +16,7 @@ use dae_program::{Links, Setting};
 use std::alloc::{AllocError, Global};
 
 /// An aggregate in the frame that is initialised: the statement's place, its offset and its size in bytes.
-#[derive(Clone, Copy, PartialEq, Eq, Debug)]
+#[derive(Clone, Copy)]
 pub struct Aggregate {
     pub place: Place,
     pub offset: u32,

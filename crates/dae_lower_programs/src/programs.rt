@@ -1,6 +1,6 @@
 // The form of a whole program.
 
-ghost use Rattle.std.specs.Prelude.{◌≡◌, IfOk};
+ghost use Rattle.std.specs.Prelude.{◌≡◌, ◌<◌, ◌^◌, length, IfOk};
 ghost use Rattle.std.specs.List.{AllByRecursion};
 ghost use Rattle.dae_lower_formed.specs.Formed.{IsLowered};
 ghost use Rattle.dae_ir.specs.Scope.{IsScoped};
@@ -15,6 +15,7 @@ use std::alloc::{AllocError, Global};
 
 /// The form of a program as the definition has it.
 fn lower_program(alloc: Global, program: &Program, calls: u16) -> Result<Ir, AllocError>
+    requires { length program.now.functions < 2 ^ 32 }
     ensures lowered { IfOk result (λ ir. IsLowered program.now ir) }
     ensures calls { IfOk result (λ ir. ir.calls ≡ calls) }
 {
@@ -28,9 +29,11 @@ fn lower_program(alloc: Global, program: &Program, calls: u16) -> Result<Ir, All
     })
 }
 
-/// The form of a program, with at most so many calls inside one another. It is well made, sets each variable before it reads
-/// it, and has room in its memory. An error is want of memory: that a function needs more variables than a word counts is such.
+/// The form of a program, with at most so many calls inside one another, where words number its functions. It is well made, sets
+/// each variable before it reads it, and has room in its memory. An error is want of memory: that a function needs more variables
+/// than a word counts is such.
 pub fn lower(alloc: Global, program: &Program, calls: u16) -> Result<Ir, AllocError>
+    requires { length program.now.functions < 2 ^ 32 }
     ensures lowered { IfOk result (λ ir. IsLowered program.now ir) }
     ensures calls { IfOk result (λ ir. ir.calls ≡ calls) }
     ensures scoped { IfOk result IsScoped }

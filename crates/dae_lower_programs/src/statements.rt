@@ -45,7 +45,7 @@ fn leave_unless_some(
     links: &Links,
     none: u32,
     place: Place,
-    test: &Option<Expression>,
+    test: &Option<Box<Expression>>,
 ) -> Result<(), AllocError>
     ensures { IfOk result
         (MakesWhole
@@ -66,7 +66,7 @@ fn effect_of_some(
     lowerer: &mut Lowerer,
     links: &Links,
     none: u32,
-    step: &Option<Expression>,
+    step: &Option<Box<Expression>>,
 ) -> Result<(), AllocError>
     ensures { IfOk result
         (MakesWhole
@@ -105,7 +105,7 @@ fn step_block(
     lowerer: &mut Lowerer,
     links: &Links,
     none: u32,
-    step: &Option<Expression>,
+    step: &Option<Box<Expression>>,
 ) -> Result<Vec<FormStatement>, AllocError>
     ensures { IfOk result
         (λ inner.
@@ -143,7 +143,7 @@ fn give_back(
     links: &Links,
     none: u32,
     place: Place,
-    value: &Option<Expression>,
+    value: &Option<Box<Expression>>,
 ) -> Result<(), AllocError>
     ensures { IfOk result
         (MakesWhole

@@ -26,7 +26,7 @@ use std::alloc::{AllocError, Global};
 
 /// What the search for the arm where a switch begins goes by: the switch's place, its value, and the variable that gets the
 /// arm's number.
-#[derive(Clone, Copy, PartialEq, Eq, Debug)]
+#[derive(Clone, Copy)]
 pub struct Dispatch {
     pub place: Place,
     pub value: Operand,
@@ -35,7 +35,7 @@ pub struct Dispatch {
 
 /// A switch between its beginning and its end: its place, the variable that has the number of the arm where it begins, and
 /// whether its arms continue a loop round it.
-#[derive(Clone, Copy, PartialEq, Eq, Debug)]
+#[derive(Clone, Copy)]
 pub struct OpenSwitch {
     pub place: Place,
     pub arm: u32,

@@ -13,13 +13,19 @@ const PLACE: Place = Place {
     col: 1,
 };
 
+ghost use Rattle.std.specs.Prelude.{◌<◌, ◌^◌, IfOk, length};
+
 // A main that prints a line feed and exits with status 7.
-fn small(alloc: Global) -> Result<Program, AllocError> {
+fn small(alloc: Global) -> Result<Program, AllocError>
+    ensures { IfOk result (λ p. length p.functions < 2 ^ 32) }
+{
     let byte = Box::new(alloc, Expression::Number(10))?;
     let status = Box::new(alloc, Expression::Number(7))?;
     let mut body = Items::new(alloc);
-    body.push(Statement::Evaluate(PLACE, Expression::Putchar(PLACE, byte)))?;
-    body.push(Statement::Evaluate(PLACE, Expression::Exit(PLACE, status)))?;
+    let print = Box::new(alloc, Expression::Putchar(PLACE, byte))?;
+    let exit = Box::new(alloc, Expression::Exit(PLACE, status))?;
+    body.push(Statement::Evaluate(PLACE, print))?;
+    body.push(Statement::Evaluate(PLACE, exit))?;
     let name = Text::from_str(alloc, "main")?;
     let mut functions = Items::new(alloc);
     functions.push(Function {

@@ -85,14 +85,28 @@ fn changed(alloc: Global, bytes: &[u8], offset: usize, number: u32) -> Result<Ve
     Ok(copy)
 }
 
-/// The image of the bytes, which are those that it is written as.
-fn read_back(rt: &impl Abort, alloc: Global, bytes: &[u8]) -> Result<Image, Fail>
+/// The image of the bytes.
+fn image_of(alloc: Global, bytes: &[u8]) -> Result<Box<Image>, Fail>
     requires { length bytes.now ≤ 536870912 }
 {
     let image = read(alloc, bytes)?;
-    let written = write(alloc, &image)?;
+    Ok(boxed(alloc, image)?)
+}
+
+fn boxed(alloc: Global, image: Image) -> Result<Box<Image>, AllocError> {
+    Ok(Box::new(alloc, image)?)
+}
+
+/// The image is written as these bytes.
+fn check_written(
+    rt: &impl Abort,
+    alloc: Global,
+    image: &Image,
+    bytes: &[u8],
+) -> Result<(), AllocError> {
+    let written = write(alloc, image)?;
     assert_eq!(rt; written.as_slice(), bytes);
-    Ok(image)
+    Ok(())
 }
 
 /// Each part of the bytes that begins them is too short.
@@ -135,20 +149,19 @@ fn renewed(alloc: Global, old: &[u8]) -> Result<Vec<u8>, AllocError>
 
 #[test]
 fn old_versions_are_written_as_the_new_one(rt: HostRuntime) -> Result<(), Fail> {
-    let image = read(rt.alloc(), halts())?;
+    let wanted = renewed(rt.alloc(), halts())?;
+    assert_eq!(rt; wanted.len(), 88);
+    let image = image_of(rt.alloc(), halts())?;
     assert_eq!(rt; image.memory, 64);
     assert_eq!(rt; image.code_e.as_slice(), [0x000f_0293].as_slice());
-    let written = write(rt.alloc(), &image)?;
-    let wanted = renewed(rt.alloc(), halts())?;
-    assert_eq!(rt; written.as_slice(), wanted.as_slice());
-    assert_eq!(rt; written.len(), 88);
+    check_written(&rt, rt.alloc(), &image, wanted.as_slice())?;
     Ok(())
 }
 
 /// A load of another offset in the code, and the data.
 fn check_adds(rt: &impl Abort, alloc: Global) -> Result<(), Fail> {
     let other = changed(alloc, adds(), 80, 0x0100_2f03)?;
-    let image = read(alloc, &other)?;
+    let image = image_of(alloc, &other)?;
     assert_eq!(rt;
         image.code_a.as_slice(),
         [0x01e0_2823, 0x0100_2f03, 0x73].as_slice()
@@ -160,12 +173,22 @@ fn check_adds(rt: &impl Abort, alloc: Global) -> Result<(), Fail> {
     Ok(())
 }
 
+fn check_copies(rt: &impl Abort, alloc: Global) -> Result<(), Fail> {
+    let image = image_of(alloc, copies())?;
+    assert_eq!(rt; image.budget.cq, 1);
+    Ok(check_written(rt, alloc, &image, copies())?)
+}
+
+fn check_marked(rt: &impl Abort, alloc: Global) -> Result<(), Fail> {
+    let image = image_of(alloc, marked())?;
+    assert_eq!(rt; (image.lines.len(), image.names.len()), (3, 2));
+    Ok(check_written(rt, alloc, &image, marked())?)
+}
+
 #[test]
 fn new_versions_come_back(rt: HostRuntime) -> Result<(), Fail> {
-    let image = read_back(&rt, rt.alloc(), copies())?;
-    assert_eq!(rt; image.budget.cq, 1);
-    let image = read_back(&rt, rt.alloc(), marked())?;
-    assert_eq!(rt; (image.lines.len(), image.names.len()), (3, 2));
+    check_copies(&rt, rt.alloc())?;
+    check_marked(&rt, rt.alloc())?;
     check_adds(&rt, rt.alloc())
 }
 

@@ -1,12 +1,12 @@
 //! The worked images, and the words of a generator.
 
-ghost use Rattle.std.specs.Prelude.{◌≡◌, length};
+ghost use Rattle.std.specs.Prelude.{◌≡◌, ◌≤◌, length};
 
 use dae_base::{Depths, Queue, Side, Width};
 use dae_core::CoreAnswer;
 use dae_image::{Image, read};
 use dae_machine::{End, Entry, Machine, OpenError, Pick, Rest, Schedule, Words};
-use std::alloc::Global;
+use std::alloc::{AllocError, Global};
 use std::process::Abort;
 use std::test::*;
 
@@ -51,6 +51,10 @@ const ONES: Depths = Depths {
     cq: 1,
 };
 
+fn boxed<T: Drop>(alloc: Global, value: T) -> Result<Box<T>, AllocError> {
+    Ok(Box::new(alloc, value)?)
+}
+
 /// Up to twenty turns of a schedule, and how the machine rests then.
 fn run(machine: &mut Machine, schedule: Schedule) -> Option<Rest> {
     let mut words = Words::of(schedule);
@@ -62,8 +66,17 @@ fn run(machine: &mut Machine, schedule: Schedule) -> Option<Rest> {
     machine.rest()
 }
 
-fn opened(alloc: Global, image: &Image) -> Result<Machine, OpenError> {
-    Machine::open(alloc, image, ONES)
+/// The image of the bytes.
+fn image_of(alloc: Global, bytes: &[u8]) -> Result<Box<Image>, Fail>
+    requires { length bytes.now ≤ 536870912 }
+{
+    let image = read(alloc, bytes)?;
+    Ok(boxed(alloc, image)?)
+}
+
+fn opened(alloc: Global, image: &Image) -> Result<Box<Machine>, Fail> {
+    let machine = Machine::open(alloc, image, ONES)?;
+    Ok(boxed(alloc, machine)?)
 }
 
 /// A run of the image rests so, after so many steps, with these bytes from address 16 on.
@@ -118,6 +131,19 @@ fn schedules() -> &'static [Schedule] {
     SCHEDULES.as_slice()
 }
 
+/// A run of the image under each schedule rests so.
+fn check_schedules(
+    rt: &impl Abort,
+    alloc: Global,
+    image: &Image,
+    due: (Rest, u64, &[u8]),
+) -> Result<(), Fail> {
+    for schedule in schedules() {
+        check_run(rt, alloc, image, *schedule, due)?;
+    }
+    Ok(())
+}
+
 fn check_runs(
     rt: &impl Abort,
     alloc: Global,
@@ -125,11 +151,8 @@ fn check_runs(
     due: (Rest, u64, &[u8]),
 ) -> Result<(), Fail> {
     assert!(rt; bytes.len() <= 108);
-    let image = read(alloc, bytes)?;
-    for schedule in schedules() {
-        check_run(rt, alloc, &image, *schedule, due)?;
-    }
-    Ok(())
+    let image = image_of(alloc, bytes)?;
+    check_schedules(rt, alloc, &image, due)
 }
 
 fn check_worked(rt: &impl Abort, alloc: Global, rows: &[Worked]) -> Result<(), Fail> {
@@ -156,14 +179,10 @@ fn check_step(rt: &impl Abort, machine: &mut Machine, pick: Pick) {
     assert!(rt; machine.step(pick).is_empty());
 }
 
-/// The machine after a store's address and a load, whose word has come.
-fn loaded(rt: &impl Abort, alloc: Global) -> Result<Machine, Fail> {
-    let image = read(alloc, stores_beside())?;
-    let mut machine = opened(alloc, &image)?;
-    for pick in [Pick::A, Pick::A, Pick::Fill(Side::E, 0)] {
-        check_step(rt, &mut machine, pick);
-    }
-    Ok(machine)
+/// The machine of the store beside a load before its first step.
+fn opened_beside(alloc: Global) -> Result<Box<Machine>, Fail> {
+    let image = image_of(alloc, stores_beside())?;
+    opened(alloc, &image)
 }
 
 fn check_entries(rt: &impl Abort, machine: &Machine) {
@@ -188,16 +207,24 @@ fn check_entries(rt: &impl Abort, machine: &Machine) {
     }
 }
 
-#[test]
-fn a_load_passes_an_older_store_beside_it(rt: HostRuntime) -> Result<(), Fail> {
-    let machine = loaded(&rt, rt.alloc())?;
+/// The machine after a store's address and a load, whose word has come.
+fn check_loaded(rt: &impl Abort, machine: &Machine) {
     assert!(rt; !machine.enabled(Pick::Drain));
     assert!(rt; matches!(machine.answer(Side::A), CoreAnswer::Did(_)));
     assert_eq!(rt; machine.counter(Side::A), 8);
     assert_eq!(rt; machine.register(Side::E, 10), 0);
     assert_eq!(rt; (machine.len(Queue::Ld), machine.len(Queue::Sa)), (1, 1));
-    check_entries(&rt, &machine);
+    check_entries(rt, machine);
     assert_eq!(rt; machine.filling(Side::E, 0), None);
+}
+
+#[test]
+fn a_load_passes_an_older_store_beside_it(rt: HostRuntime) -> Result<(), Fail> {
+    let mut machine = opened_beside(rt.alloc())?;
+    check_step(&rt, &mut machine, Pick::A);
+    check_step(&rt, &mut machine, Pick::A);
+    check_step(&rt, &mut machine, Pick::Fill(Side::E, 0));
+    check_loaded(&rt, &machine);
     Ok(())
 }
 
@@ -205,7 +232,7 @@ fn a_load_passes_an_older_store_beside_it(rt: HostRuntime) -> Result<(), Fail> {
 fn a_depth_below_the_budget_is_refused(rt: HostRuntime) -> Result<(), Fail> {
     let mut bytes = Vec::from_slice(rt.alloc(), stores_beside())?;
     bytes.as_mut_slice()[8] = 2;
-    let image = read(rt.alloc(), bytes.as_slice())?;
+    let image = image_of(rt.alloc(), bytes.as_slice())?;
     let refusal = Machine::open(rt.alloc(), &image, ONES).err();
     assert_eq!(rt; refusal, Some(OpenError::DepthBelow(Queue::Ld, 2, 1)));
     Ok(())

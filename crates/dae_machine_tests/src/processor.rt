@@ -8,7 +8,6 @@ use dae_core::{Core, CoreAnswer, Fault, Halt, Ports, Queues, load, store};
 use dae_encode::QueueUse;
 use std::alloc::{AllocError, Global};
 use std::process::Abort;
-use std::test::*;
 
 /// No queues at all.
 #[derive(Drop)]
@@ -47,8 +46,9 @@ fn has_printed(answer: &CoreAnswer, text: &[u8]) -> bool {
 }
 
 /// A processor of the side E at the first word of the code.
-fn opened(alloc: Global, code: &[u32]) -> Result<Core, AllocError> {
-    Core::open(alloc, Side::E, 0, 0, false, code)
+fn opened(alloc: Global, code: &[u32]) -> Result<Box<Core>, AllocError> {
+    let core = Core::open(alloc, Side::E, 0, 0, false, code)?;
+    Ok(Box::new(alloc, core)?)
 }
 
 fn step(core: &mut Core) -> CoreAnswer {
@@ -59,8 +59,24 @@ fn look(core: &Core) -> CoreAnswer {
     core.look(64, &NoQueues)
 }
 
+/// Each of five steps prints nothing, but the third prints the text.
+fn check_steps(rt: &impl Abort, core: &mut Core, text: &[u8]) {
+    for at in 0..5 {
+        let answer = step(core);
+        assert!(rt; has_printed(&answer, if at == 2 { text } else { b"" }));
+    }
+}
+
+/// The call that ends a run has done so with the number -7.
+fn check_end(rt: &impl Abort, core: &mut Core) {
+    assert_eq!(rt; core.register(10), 0xFFFF_FFF9);
+    assert_eq!(rt; core.counter(), 20);
+    assert_eq!(rt; core.halted(), Some(Halt::Status(0xFFFF_FFF9)));
+    assert!(rt; matches!(step(core), CoreAnswer::Halted));
+}
+
 /// A call by the selector prints the text for the number -7, and the call after it ends the run with that number.
-fn check_call(rt: &impl Abort, alloc: Global, selector: u8, text: &[u8]) -> Result<(), Fail> {
+fn check_call(rt: &impl Abort, alloc: Global, selector: u8, text: &[u8]) -> Result<(), AllocError> {
     // addi x17, x0, selector; addi x10, x0, -7; ecall; addi x17, x0, 0; ecall
     let code = [
         0x0000_0893 + u32::from(selector) * 0x0010_0000,
@@ -70,29 +86,17 @@ fn check_call(rt: &impl Abort, alloc: Global, selector: u8, text: &[u8]) -> Resu
         0x0000_0073,
     ];
     let mut core = opened(alloc, &code)?;
-    for at in 0..5 {
-        let answer = step(&mut core);
-        assert!(rt; has_printed(&answer, if at == 2 { text } else { b"" }));
-    }
-    assert_eq!(rt; core.register(10), 0xFFFF_FFF9);
-    assert_eq!(rt; core.counter(), 20);
-    assert_eq!(rt; core.halted(), Some(Halt::Status(0xFFFF_FFF9)));
-    assert!(rt; matches!(step(&mut core), CoreAnswer::Halted));
+    check_steps(rt, &mut core, text);
+    check_end(rt, &mut core);
     Ok(())
 }
 
 #[test]
-fn calls_print_and_halt(rt: HostRuntime) -> Result<(), Fail> {
-    let rows: [(u8, &[u8]); 4] = [
-        (1, &[249]),
-        (2, b"-7"),
-        (3, b"4294967289"),
-        (4, b"fffffff9"),
-    ];
-    for (selector, text) in rows {
-        check_call(&rt, rt.alloc(), selector, text)?;
-    }
-    Ok(())
+fn calls_print_and_halt(rt: HostRuntime) -> Result<(), AllocError> {
+    check_call(&rt, rt.alloc(), 1, &[249])?;
+    check_call(&rt, rt.alloc(), 2, b"-7")?;
+    check_call(&rt, rt.alloc(), 3, b"4294967289")?;
+    check_call(&rt, rt.alloc(), 4, b"fffffff9")
 }
 
 /// The word faults so, or waits for the queue of loaded words.
@@ -111,22 +115,22 @@ fn check_look(
     Ok(())
 }
 
-#[test]
-fn a_fault_comes_before_a_wait(rt: HostRuntime) -> Result<(), Fail> {
-    let rows = [
-        // addi x1, x30, 0; sw x30, 0(x0); lw x1, 0(x30); add x1, x30, x29; fence.i
-        (0x000F_0093, None),
-        (0x01E0_2023, Some(Fault::Private)),
-        (0x000F_2083, None),
-        (0x01DF_00B3, Some(Fault::Illegal)),
-        (0x0000_100F, Some(Fault::Illegal)),
-    ];
-    for (word, fault) in rows {
-        check_look(&rt, rt.alloc(), word, fault)?;
-    }
-    let core = Core::open(rt.alloc(), Side::A, 4, 0, false, &[0x73])?;
+/// A counter behind the code's last word is no place of an instruction.
+fn check_look_behind(rt: &impl Abort, alloc: Global) -> Result<(), AllocError> {
+    let core = Core::open(alloc, Side::A, 4, 0, false, &[0x73])?;
     assert!(rt; matches!(look(&core), CoreAnswer::Faulted(Fault::BadPc)));
     Ok(())
+}
+
+#[test]
+fn a_fault_comes_before_a_wait(rt: HostRuntime) -> Result<(), AllocError> {
+    // addi x1, x30, 0; sw x30, 0(x0); lw x1, 0(x30); add x1, x30, x29; fence.i
+    check_look(&rt, rt.alloc(), 0x000F_0093, None)?;
+    check_look(&rt, rt.alloc(), 0x01E0_2023, Some(Fault::Private))?;
+    check_look(&rt, rt.alloc(), 0x000F_2083, None)?;
+    check_look(&rt, rt.alloc(), 0x01DF_00B3, Some(Fault::Illegal))?;
+    check_look(&rt, rt.alloc(), 0x0000_100F, Some(Fault::Illegal))?;
+    check_look_behind(&rt, rt.alloc())
 }
 
 const ONES: Depths = Depths {
@@ -140,11 +144,6 @@ const ONES: Depths = Depths {
 };
 
 const PUSH: QueueUse = QueueUse::Push(Queue::Ab);
-
-/// Queues without a message.
-fn empty(alloc: Global) -> Result<Queues, AllocError> {
-    Queues::with_depths(alloc, ONES)
-}
 
 /// Queues with a message, if there is room for it.
 fn with_message(alloc: Global, word: u32) -> Result<Queues, AllocError> {
@@ -161,19 +160,29 @@ fn check_offers(rt: &impl Abort, queues: &Queues, rows: &[(QueueUse, Option<u32>
     }
 }
 
-#[test]
-fn a_message_waits_to_be_taken(rt: HostRuntime) -> Result<(), Fail> {
-    let take = QueueUse::Take(Queue::Ab);
-    let queues = empty(rt.alloc())?;
-    check_offers(&rt, &queues, &[(PUSH, Some(0)), (take, None)]);
-    let queues = with_message(rt.alloc(), 5)?;
-    let other = QueueUse::Push(Queue::Ld);
-    check_offers(
-        &rt,
-        &queues,
-        &[(PUSH, None), (take, Some(5)), (other, None)],
-    );
+const TAKE: QueueUse = QueueUse::Take(Queue::Ab);
+
+/// Queues without a message take one, and give none.
+fn check_without_message(rt: &impl Abort, alloc: Global) -> Result<(), AllocError> {
+    let queues = Queues::with_depths(alloc, ONES)?;
+    let queues = Box::new(alloc, queues)?;
+    check_offers(rt, &queues, &[(PUSH, Some(0)), (TAKE, None)]);
     Ok(())
+}
+
+/// Queues with a message give it, and take no other.
+fn check_with_message(rt: &impl Abort, alloc: Global) -> Result<(), AllocError> {
+    let queues = with_message(alloc, 5)?;
+    let queues = Box::new(alloc, queues)?;
+    let other = QueueUse::Push(Queue::Ld);
+    check_offers(rt, &queues, &[(PUSH, None), (TAKE, Some(5)), (other, None)]);
+    Ok(())
+}
+
+#[test]
+fn a_message_waits_to_be_taken(rt: HostRuntime) -> Result<(), AllocError> {
+    check_without_message(&rt, rt.alloc())?;
+    check_with_message(&rt, rt.alloc())
 }
 
 #[test]

@@ -3,8 +3,8 @@
 use dae_base::{LoadKind, Width};
 use dae_queues::laws::item_push_and_take;
 use dae_queues::{Fifo, PlainFifo, RingFifo, Slot, SlotQueue, StoreAt, StoreQueue, overlap};
-use std::alloc::AllocError;
-use std::test::Fail;
+use std::alloc::{AllocError, Global};
+use std::process::Abort;
 
 const DEPTH: usize = 5;
 
@@ -34,36 +34,59 @@ fn call_list(list: &mut Vec<u32>, word: u32) -> Result<Option<u32>, AllocError> 
     Ok(None)
 }
 
-#[test]
-fn fifos_are_lists(rt: HostRuntime) -> Result<(), Fail> {
-    item_push_and_take::<u32, PlainFifo<u32>>();
-    item_push_and_take::<u32, RingFifo<u32>>();
-    let mut plain = PlainFifo::with_depth(rt.alloc(), DEPTH as u16)?;
-    let mut ring = RingFifo::with_depth(rt.alloc(), DEPTH as u16)?;
-    let mut list = Vec::new(rt.alloc());
+/// Both queues of words, and a list that does what they are to do.
+#[derive(Drop)]
+struct Fifos {
+    plain: PlainFifo<u32>,
+    ring: RingFifo<u32>,
+    list: Vec<u32>,
+}
+
+fn make_fifos(alloc: Global) -> Result<Box<Fifos>, AllocError> {
+    let plain = PlainFifo::with_depth(alloc, DEPTH as u16)?;
+    let ring = RingFifo::with_depth(alloc, DEPTH as u16)?;
+    let list = Vec::new(alloc);
+    Ok(Box::new(alloc, Fifos { plain, ring, list })?)
+}
+
+/// A call of each queue answers as the list does.
+fn check_fifos(rt: &impl Abort, of: &mut Fifos, word: u32, turn: u32) -> Result<(), AllocError> {
+    let want = call_list(&mut of.list, word)?;
+    let has_room = of.list.len() < DEPTH;
+    let from_plain = call_fifo(&mut of.plain, word);
+    assert_eq!(rt;
+        (from_plain, of.plain.has_room()),
+        (want, has_room),
+        "plain, call {turn}"
+    );
+    let from_ring = call_fifo(&mut of.ring, word);
+    assert_eq!(rt;
+        (from_ring, of.ring.has_room()),
+        (want, has_room),
+        "ring, call {turn}"
+    );
+    Ok(())
+}
+
+fn check_calls_of_fifos(rt: &impl Abort, of: &mut Fifos) -> Result<(), AllocError> {
     let mut seed = 1;
     for turn in 0..1000 {
         seed = next(seed);
-        let want = call_list(&mut list, seed / 65_536)?;
-        let has_room = list.len() < DEPTH;
-        let from_plain = call_fifo(&mut plain, seed / 65_536);
-        assert_eq!(rt;
-            (from_plain, plain.has_room()),
-            (want, has_room),
-            "plain, call {turn}"
-        );
-        let from_ring = call_fifo(&mut ring, seed / 65_536);
-        assert_eq!(rt;
-            (from_ring, ring.has_room()),
-            (want, has_room),
-            "ring, call {turn}"
-        );
+        check_fifos(rt, of, seed / 65_536, turn)?;
     }
     assert_eq!(rt;
-        (usize::from(plain.len()), usize::from(ring.len())),
-        (list.len(), list.len())
+        (usize::from(of.plain.len()), usize::from(of.ring.len())),
+        (of.list.len(), of.list.len())
     );
     Ok(())
+}
+
+#[test]
+fn fifos_are_lists(rt: HostRuntime) -> Result<(), AllocError> {
+    item_push_and_take::<u32, PlainFifo<u32>>();
+    item_push_and_take::<u32, RingFifo<u32>>();
+    let mut of = make_fifos(rt.alloc())?;
+    check_calls_of_fifos(&rt, &mut of)
 }
 
 fn call_slots(queue: &mut SlotQueue, word: u32) -> Option<u64> {
@@ -137,24 +160,33 @@ impl Listed {
     }
 }
 
-#[test]
-fn load_queues_are_lists(rt: HostRuntime) -> Result<(), Fail> {
-    let mut queue = SlotQueue::with_depth(rt.alloc(), DEPTH as u16)?;
-    let mut list = Listed {
-        slots: Vec::new(rt.alloc()),
-        taken: 0,
-        reserved: 0,
-    };
+/// A call of the queue answers as the list does.
+fn check_slots(
+    rt: &impl Abort,
+    queue: &mut SlotQueue,
+    list: &mut Listed,
+    word: u32,
+    turn: u32,
+) -> Result<(), AllocError> {
+    let want = list.call(word)?;
+    let front = list.slots.first().and_then(|slot| slot.value);
+    assert_eq!(rt;
+        (call_slots(queue, word), queue.front()),
+        (want, front),
+        "call {turn}"
+    );
+    Ok(())
+}
+
+fn check_calls_of_slots(
+    rt: &impl Abort,
+    queue: &mut SlotQueue,
+    list: &mut Listed,
+) -> Result<(), AllocError> {
     let mut seed = 1;
     for turn in 0..1000 {
         seed = next(seed);
-        let want = list.call(seed / 65_536)?;
-        let front = list.slots.first().and_then(|slot| slot.value);
-        assert_eq!(rt;
-            (call_slots(&mut queue, seed / 65_536), queue.front()),
-            (want, front),
-            "call {turn}"
-        );
+        check_slots(rt, queue, list, seed / 65_536, turn)?;
     }
     assert_eq!(rt;
         (queue.taken(), queue.reserved()),
@@ -162,6 +194,17 @@ fn load_queues_are_lists(rt: HostRuntime) -> Result<(), Fail> {
     );
     assert_eq!(rt; usize::from(queue.len()), list.slots.len());
     Ok(())
+}
+
+#[test]
+fn load_queues_are_lists(rt: HostRuntime) -> Result<(), AllocError> {
+    let mut queue = SlotQueue::with_depth(rt.alloc(), DEPTH as u16)?;
+    let mut list = Listed {
+        slots: Vec::new(rt.alloc()),
+        taken: 0,
+        reserved: 0,
+    };
+    check_calls_of_slots(&rt, &mut queue, &mut list)
 }
 
 fn call_stores(queue: &mut StoreQueue, word: u32) -> Option<(StoreAt, u32)> {
@@ -221,28 +264,37 @@ impl ListedStores {
     }
 }
 
-#[test]
-fn store_queues_are_lists(rt: HostRuntime) -> Result<(), Fail> {
-    let mut queue = StoreQueue::with_depths(rt.alloc(), DEPTH as u16, DEPTH as u16)?;
-    let mut list = ListedStores {
-        addresses: Vec::new(rt.alloc()),
-        data: Vec::new(rt.alloc()),
-        issued: 0,
-    };
+/// A call of the queue answers as the lists do.
+fn check_stores(
+    rt: &impl Abort,
+    queue: &mut StoreQueue,
+    list: &mut ListedStores,
+    word: u32,
+    turn: u32,
+) -> Result<(), AllocError> {
+    let want = list.call(word)?;
+    let front = list
+        .addresses
+        .first()
+        .copied()
+        .zip(list.data.first().copied());
+    assert_eq!(rt;
+        (call_stores(queue, word), queue.front()),
+        (want, front),
+        "call {turn}"
+    );
+    Ok(())
+}
+
+fn check_calls_of_stores(
+    rt: &impl Abort,
+    queue: &mut StoreQueue,
+    list: &mut ListedStores,
+) -> Result<(), AllocError> {
     let mut seed = 1;
     for turn in 0..1000 {
         seed = next(seed);
-        let want = list.call(seed / 65_536)?;
-        let front = list
-            .addresses
-            .first()
-            .copied()
-            .zip(list.data.first().copied());
-        assert_eq!(rt;
-            (call_stores(&mut queue, seed / 65_536), queue.front()),
-            (want, front),
-            "call {turn}"
-        );
+        check_stores(rt, queue, list, seed / 65_536, turn)?;
     }
     assert_eq!(rt;
         (
@@ -253,6 +305,17 @@ fn store_queues_are_lists(rt: HostRuntime) -> Result<(), Fail> {
         (list.addresses.len(), list.data.len(), list.issued)
     );
     Ok(())
+}
+
+#[test]
+fn store_queues_are_lists(rt: HostRuntime) -> Result<(), AllocError> {
+    let mut queue = StoreQueue::with_depths(rt.alloc(), DEPTH as u16, DEPTH as u16)?;
+    let mut list = ListedStores {
+        addresses: Vec::new(rt.alloc()),
+        data: Vec::new(rt.alloc()),
+        issued: 0,
+    };
+    check_calls_of_stores(&rt, &mut queue, &mut list)
 }
 
 #[test]
@@ -276,34 +339,47 @@ fn ranges_share_bytes(rt: HostRuntime) {
 
 // A store to the bytes 16 to 19 waits. It is older than the first load, which reads one of them, and than the second,
 // which reads another byte.
+fn check_bars(rt: &impl Abort, stores: &StoreQueue, loads: &SlotQueue) {
+    match (loads.at(0), loads.nth_fillable(stores, 0)) {
+        (Some(first), Some(other)) => {
+            assert_eq!(rt; (stores.blocks(&first), loads.fillable(stores)), (true, 1));
+            assert_eq!(rt; (other.number, other.addr), (1, 20));
+        }
+        _ => panic!(rt; "no slot"),
+    }
+    assert_eq!(rt;
+        (loads.depth(), loads.has_room(), stores.has_room()),
+        (2, false, false)
+    );
+}
+
 #[test]
-fn older_stores_bar_fills(rt: HostRuntime) -> Result<(), Fail> {
+fn older_stores_bar_fills(rt: HostRuntime) -> Result<(), AllocError> {
     let mut stores = StoreQueue::with_depths(rt.alloc(), 1, 1)?;
     let mut loads = SlotQueue::with_depth(rt.alloc(), 2)?;
     assert!(rt; stores.push_address(16, Width::B4));
     let _ = loads.reserve(18, LoadKind::U8, stores.issued());
     let _ = loads.reserve(20, LoadKind::U8, stores.issued());
-    let first = loads.at(0).ok_or("no slot")?;
-    assert_eq!(rt; (stores.blocks(&first), loads.fillable(&stores)), (true, 1));
-    let other = loads.nth_fillable(&stores, 0).ok_or("no slot")?;
-    assert_eq!(rt; (other.number, other.addr), (1, 20));
-    assert_eq!(rt;
-        (loads.depth(), loads.has_room(), stores.has_room()),
-        (2, false, false)
-    );
+    check_bars(&rt, &stores, &loads);
     Ok(())
 }
 
 // A load of byte 18 waits and is older than a store to the bytes 16 to 19.
+fn check_holds(rt: &impl Abort, stores: &mut StoreQueue, loads: &mut SlotQueue) {
+    let Some(store) = stores.address_at(0) else {
+        panic!(rt; "no store");
+    };
+    assert!(rt; loads.holds(&store) && !stores.has_datum_room());
+    assert!(rt; loads.fill(0, 7) && !loads.holds(&store));
+    assert_eq!(rt; (stores.drain(), stores.drained()), (Some((store, 9)), 1));
+}
+
 #[test]
-fn older_loads_hold_drains(rt: HostRuntime) -> Result<(), Fail> {
+fn older_loads_hold_drains(rt: HostRuntime) -> Result<(), AllocError> {
     let mut stores = StoreQueue::with_depths(rt.alloc(), 1, 1)?;
     let mut loads = SlotQueue::with_depth(rt.alloc(), 2)?;
     let _ = loads.reserve(18, LoadKind::U8, stores.issued());
     assert!(rt; stores.push_address(16, Width::B4) && stores.push_datum(9));
-    let store = stores.address_at(0).ok_or("no store")?;
-    assert!(rt; loads.holds(&store) && !stores.has_datum_room());
-    assert!(rt; loads.fill(0, 7) && !loads.holds(&store));
-    assert_eq!(rt; (stores.drain(), stores.drained()), (Some((store, 9)), 1));
+    check_holds(&rt, &mut stores, &mut loads);
     Ok(())
 }

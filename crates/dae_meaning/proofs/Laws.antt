@@ -1,8 +1,20 @@
 -- Laws for the crates above: what ends alike goes on alike, and what each step of a world keeps is kept by whole stretches.
-use Rattle.std.proofs.Common.{◌≡◌, ℕ, zero, suc, ◌+◌, Bool, true, false, if◌then◌else◌, List, [], ◌++◌, Option, Some, None, refl, ap, sym, ◌∙◌, subst, append_assoc, append-nil}
+use Rattle.std.proofs.Common.{◌≡◌, ℕ, zero, suc, ◌+◌, Bool, true, false, if◌then◌else◌, nat_eq, List, [], ◌++◌, Option, Some, None, refl, ap, sym, ◌∙◌, subst, arith, append_assoc, append-nil}
+use Rattle.std.proofs.Math.Path.{fun_ext}
+use Rattle.std.proofs.lemmas.Bool.Decides.{nat_tests}
+use Rattle.dae_meaning.specs.Variables.{Env, put}
 use Rattle.dae_meaning.specs.Worlds.{World, KeepsMemory, ticked}
 use Rattle.dae_meaning.specs.Results.{End, Halted, Trapped, Result, At, Over, Next, Leaves, Skips, Returns, Going, Astray, Run, ◌▷◌, ◌↻◌, turns, world_of, within, checked}
 use Rattle.dae_meaning.specs.Alike.{Alike, BothAt, BothOver, FirstStrays, Alikes, IsFront, IsUnder, Stays, Grows}
+
+-- ---- variables
+
+-- a variable that gets its own word
+pub own_put : (v : ℕ) (e : Env) → put true v (e v) e ≡ e
+own_put v e = fun_ext (λ u. by u (nat_eq u v) refl) where
+  by : (u : ℕ) (b : Bool) → nat_eq u v ≡ b → (if b then e v else e u) ≡ e u
+  by u true h = let same : u ≡ v = grind (arith, nat_tests) in ap e (sym same)
+  by u false h = refl
 
 -- ---- what ends alike
 

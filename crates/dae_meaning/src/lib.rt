@@ -10,7 +10,7 @@ mod memory;
 /// An operation of C on two words (C90 6.3.5 to 6.3.12). Sums, differences and products wrap. A shift counts by the low
 /// five bits of its amount, and the right shift of a signed word copies the sign. By 0 a division gives the word of all
 /// ones, and a remainder what was to be divided, as the processors do (RISC-V unprivileged manual, "M").
-#[derive(Clone, Copy, PartialEq, Eq, Debug)]
+#[derive(Clone, Copy, PartialEq, Eq)]
 pub enum Operator {
     Add,
     Subtract,
@@ -28,7 +28,7 @@ pub enum Operator {
 }
 
 /// A comparison of two words (C90 6.3.8, 6.3.9).
-#[derive(Clone, Copy, PartialEq, Eq, Debug)]
+#[derive(Clone, Copy, PartialEq, Eq)]
 pub enum Comparison {
     Equal,
     NotEqual,
@@ -40,7 +40,7 @@ pub enum Comparison {
 
 /// How a printed word is spelled: its low byte, in decimal as a signed or an unsigned number, or in hexadecimal
 /// (C90 7.9.6.1).
-#[derive(Clone, Copy, PartialEq, Eq, Debug)]
+#[derive(Clone, Copy, PartialEq, Eq)]
 pub enum Spelling {
     Byte,
     Signed,

@@ -1,8 +1,11 @@
 -- What the grammar's machine does, by what the machine in memory does.
 use Rattle.std.proofs.Common.{◌∷◌}
+use Rattle.std.specs.Prelude.{Box}
+use Rattle.std.specs.declared.alloc.Global.{Global}
 use Rattle.dae_parse_nodes.specs.Parts.{ShowsOperand, ShowsOptional, ShowsSpecified, ShowsEnumerators, ShowsDeclared, ShowsItems, ShowsStatement, ShowsLoop}
 use Rattle.dae_parse_grammar.specs.Frames as plain
 use Rattle.dae_parse_nodes.specs.declared.values.DoParts.{DoParts}
+use Rattle.dae_parse_nodes.specs.declared.values.Loop.{Loop}
 use Rattle.dae_parse_states.specs.declared.frames.Doing.TheVariants as doing
 use Rattle.dae_parse_states.specs.Frames.{ShowsBefore, ShowsBody, ShowsDoing, is_structure_kind, manner_of}
 
@@ -61,7 +64,7 @@ pub does_testing : (p : _) (r : _) (a : _) (v : _) (P : plain.Doing → Type 0) 
 does_testing p r a v P (plain.testing q u e w) shows next = rw (← shows.0, ← shows.1, ← shows.3) (next e shows.2)
 does_testing p r a v P _ shows next = absurd shows
 
-pub does_stepping : (l : _) (P : plain.Doing → Type 0) (does : plain.Doing) → ShowsDoing (doing.Stepping l) does
-    → ((a : _) → ShowsLoop l a → P (plain.stepping a)) → P does
+pub does_stepping : (l : Box Loop Global) (P : plain.Doing → Type 0) (does : plain.Doing) → ShowsDoing (doing.Stepping l) does
+    → ((a : _) → ShowsLoop l.value a → P (plain.stepping a)) → P does
 does_stepping l P (plain.stepping a) shows next = next a shows
 does_stepping l P _ shows next = absurd shows

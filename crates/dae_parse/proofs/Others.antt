@@ -4,8 +4,8 @@ use Rattle.dae_tree.specs.Marks.{Mark}
 use Rattle.dae_tree.specs.Names.{Names}
 use Rattle.dae_parse_grammar.specs.Frames as plain
 use Rattle.dae_parse_grammar.specs.Machine.{given, specifiers_taken, declarator_taken, initialiser_taken, declaration_taken, statement_taken}
-use Rattle.dae_parse_states.specs.declared.frames.Frame.{Frame}
-use Rattle.dae_parse_states.specs.declared.frames.Frame.TheVariants as frame
+use Rattle.dae_parse_states.specs.Kept.{Frame}
+use Rattle.dae_parse_states.specs.Kept as frame
 use Rattle.dae_parse_states.specs.Frames.{ShowsStack}
 
 pub other_expression : (e : _) (fs : List Frame) (s : List plain.Frame) (names : Names) (ts : List Mark) → ShowsStack fs s

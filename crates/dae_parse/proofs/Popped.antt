@@ -1,9 +1,12 @@
 -- What stands on the stack of the grammar's machine, by the top frame in memory.
 use Rattle.std.proofs.Common.{List, [], ◌∷◌}
+use Rattle.std.specs.Prelude.{Box}
+use Rattle.std.specs.declared.alloc.Global.{Global}
+use Rattle.dae_parse_nodes.specs.declared.values.Loop.{Loop}
 use Rattle.dae_parse_nodes.specs.Parts.{ShowsOptional, ShowsSpecified, ShowsDeclared, ShowsLoop}
 use Rattle.dae_parse_grammar.specs.Frames as plain
-use Rattle.dae_parse_states.specs.declared.frames.Frame.{Frame}
-use Rattle.dae_parse_states.specs.declared.frames.Frame.TheVariants as frame
+use Rattle.dae_parse_states.specs.Kept.{Frame}
+use Rattle.dae_parse_states.specs.Kept as frame
 use Rattle.dae_parse_states.specs.declared.frames.ExpressionFrame.TheVariants as expression
 use Rattle.dae_parse_states.specs.declared.frames.DeclaratorFrame.TheVariants as declarator
 use Rattle.dae_parse_states.specs.declared.frames.StatementFrame.TheVariants as statement
@@ -39,8 +42,8 @@ popped_in_group p m below P [] shows next = absurd shows
 popped_in_group p m below P (plain.awaits_declarator (plain.in_group q n) ∷ t) shows next = rw (← shows.0.0, ← shows.0.1) (next t shows.1)
 popped_in_group p m below P (_ ∷ t) shows next = absurd shows.0
 
-pub popped_for_body : (l : _) (a : _) (below : List Frame) (P : List plain.Frame → Type 0) (stack : List plain.Frame) → ShowsStack (frame.Statement (statement.ForBody l a) ∷ below) stack
-    → ((k : _) (e : _) (t : List plain.Frame) → ShowsLoop l k → ShowsOptional a e → ShowsStack below t → P (plain.awaits_statement (plain.for_body k e) ∷ t)) → P stack
+pub popped_for_body : (l : Box Loop Global) (a : _) (below : List Frame) (P : List plain.Frame → Type 0) (stack : List plain.Frame) → ShowsStack (frame.Statement (statement.ForBody l a) ∷ below) stack
+    → ((k : _) (e : _) (t : List plain.Frame) → ShowsLoop l.value k → ShowsOptional a e → ShowsStack below t → P (plain.awaits_statement (plain.for_body k e) ∷ t)) → P stack
 popped_for_body l a below P [] shows next = absurd shows
 popped_for_body l a below P (plain.awaits_statement (plain.for_body k e) ∷ t) shows next = next k e t shows.0.0 shows.0.1 shows.1
 popped_for_body l a below P (_ ∷ t) shows next = absurd shows.0

@@ -1,5 +1,5 @@
 -- A run of the parser's machine shows a run of the grammar's: how it goes on, and where it ends.
-use Rattle.std.proofs.Common.{◌≡◌, ℕ, suc, ◌+◌, ◌*◌, ◌<◌, ◌≤◌, arith, List, [], ◌∷◌, length, reverse, Option, Some, None, refl, sym, ap, subst, ◌∙◌, Bool}
+use Rattle.std.proofs.Common.{◌≡◌, ℕ, suc, ◌+◌, ◌*◌, ◌<◌, ◌≤◌, arith, List, [], ◌∷◌, length, map, reverse, Option, Some, None, refl, sym, ap, subst, ◌∙◌, Bool}
 use Rattle.dae_tree.specs.declared.tokens.Token.{Token}
 use Rattle.dae_tree.specs.Marks.{Mark, marks}
 use Rattle.dae_tree.specs.Names.{Names}
@@ -18,6 +18,7 @@ use Rattle.dae_parse_states.specs.declared.frames.Doing.{Doing}
 use Rattle.dae_parse_states.specs.declared.machine.Machine.{Machine}
 use Rattle.dae_parse_states.specs.declared.frames.Doing.TheVariants as doing
 use Rattle.dae_parse_states.specs.declared.frames.Frame.{Frame as Top}
+use Rattle.dae_parse_states.specs.Kept.{out_of_box}
 use Rattle.dae_parse_parts.specs.Scopes.{Scopes}
 use Rattle.dae_parse_states.specs.Frames.{ShowsFile, ShowsStack}
 use Rattle.dae_parse_states.specs.States.{Follows}
@@ -49,7 +50,7 @@ start tokens m b f e g h = record {
   stack = [];
   come = ap (state (externals []) [] []) (sym h) ∙ ap (λ (n : Names). state (externals []) [] n m.rest) (sym (ap (λ (s : Scopes Bool). s.names) g));
   shown = f;
-  stands = (subst (λ (fs : List Top). ShowsStack (reverse fs) []) (sym e) tt, ap (λ (s : Scopes Bool). s.outside) g);
+  stands = (subst (λ (fs : List Top). ShowsStack (map out_of_box (reverse fs)) []) (sym e) tt, ap (λ (s : Scopes Bool). s.outside) g);
   spent = omega (arith, ap length h);
 }
 

@@ -10,8 +10,8 @@ use Rattle.dae_tree.specs.Trees as tree
 use Rattle.dae_parse_grammar.specs.Frames as plain
 use Rattle.dae_parse_grammar.specs.Machine.{defined}
 use Rattle.dae_parse_states.specs.declared.frames.Before.{Before}
-use Rattle.dae_parse_states.specs.declared.frames.Frame.{Frame}
-use Rattle.dae_parse_states.specs.declared.frames.Frame.TheVariants as frame
+use Rattle.dae_parse_states.specs.Kept.{Frame}
+use Rattle.dae_parse_states.specs.Kept as frame
 use Rattle.dae_parse_states.specs.declared.frames.DeclarationFrame.TheVariants as declaration
 use Rattle.dae_parse_grammar.specs.Taken.{stack_taken, externals_before}
 use Rattle.std.specs.Prelude.{Box}

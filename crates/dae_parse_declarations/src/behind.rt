@@ -17,7 +17,7 @@ use dae_parse_nodes::{
     with_declarator, with_member, with_valued_enumerator,
 };
 use dae_parse_parts::{CAST, Read};
-use dae_parse_states::{DeclaratorFrame, Doing, ExpressionFrame, Frame, Machine, Manner, Presence};
+use dae_parse_states::{DeclaratorFrame, Doing, ExpressionFrame, Machine, Manner, Presence};
 use dae_tree::{Declarator, Enumerator, Member, Name, Sign};
 use std::alloc::AllocError;
 
@@ -45,7 +45,7 @@ pub fn in_size(
 pub fn in_enumerator(
     machine: &mut Machine<'_>,
     value: Operand,
-    body: Body,
+    body: Box<Body>,
     list: Read<Vec<Enumerator>>,
     name: Name,
     place: Place,
@@ -110,9 +110,7 @@ pub fn of_cast(
     if machine.rest.take_sign(Sign::RightParen).is_none() {
         return Ok(None);
     }
-    machine.push(Frame::Expression(ExpressionFrame::BehindCast(
-        place, specified, declared, level,
-    )))?;
+    machine.push_expression(ExpressionFrame::BehindCast(place, specified, declared, level))?;
     Ok(Some(Doing::Seek(CAST)))
 }
 
@@ -143,7 +141,7 @@ pub fn of_sizeof(
 pub fn of_member(
     machine: &mut Machine<'_>,
     declared: Declared,
-    body: Body,
+    body: Box<Body>,
     members: Read<Vec<Member>>,
     specified: Specified,
     before: Read<Vec<Declarator>>,
@@ -156,7 +154,7 @@ pub fn of_member(
 {
     let list = with_declarator(before, declared)?;
     if machine.rest.take_sign(Sign::Comma).is_some() {
-        machine.push(Frame::Declarator(DeclaratorFrame::OfMember(body, members, specified, list)))?;
+        machine.push_declarator(DeclaratorFrame::OfMember(body, members, specified, list))?;
         return Ok(Some(Doing::Declaring(Manner::ByName, Presence::Optional)));
     }
     let Some(end) = machine.rest.take_sign(Sign::Semicolon) else {

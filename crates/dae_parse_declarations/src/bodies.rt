@@ -18,7 +18,7 @@ use dae_parse_nodes::{
     with_enumeration_body, with_plain_enumerator, with_structure, with_structure_body,
 };
 use dae_parse_parts::{CONDITIONAL, Read};
-use dae_parse_states::{Doing, ExpressionFrame, Frame, Machine, SpecifiersFrame, TagKind};
+use dae_parse_states::{Doing, ExpressionFrame, Machine, SpecifiersFrame, TagKind};
 use dae_tree::{Enumerator, Member, Name, Seen, Sign, TrailingComma};
 use std::alloc::{AllocError, Global};
 
@@ -48,11 +48,12 @@ pub fn read_tag(
         seen,
         before,
     };
+    let body = Box::new(machine.alloc, body)?;
     Ok(Some(open_body(machine, kind, body)))
 }
 
 /// Behind the brace of a body.
-fn open_body(machine: &Machine<'_>, kind: TagKind, body: Body) -> Doing
+fn open_body(machine: &Machine<'_>, kind: TagKind, body: Box<Body>) -> Doing
     ensures { (b : plain.Body) (s : List PlainFrame) → ShowsBody body b
         → Stands machine.now s (outside_stack s)
         → ShowsState result machine.now
@@ -87,6 +88,7 @@ pub fn read_body(
             seen,
             before,
         };
+        let body = Box::new(machine.alloc, body)?;
         return Ok(Some(open_body(machine, kind, body)));
     }
     let more = with_tag(machine.alloc, kind, before, place, name)?;
@@ -115,33 +117,30 @@ fn with_tag(
 #[tactic(auto, using(crate::proofs::OtherwiseDeclarators::members_otherwise))]
 pub fn read_member(
     machine: &mut Machine<'_>,
-    body: Body,
+    body: Box<Body>,
     members: Read<Vec<Member>>,
 ) -> Result<Option<Doing>, AllocError>
     ensures { (b : plain.Body) (ms : List lists.MemberLine) → ShowsBody body b
         → ShowsMembers members ms → Steps machine.old result machine.new (members_followed b ms) }
 {
     if has_members(&members) && machine.rest.take_sign(Sign::RightBrace).is_some() {
-        return Ok(Some(close_structure(machine.alloc, body, members)?));
+        return Ok(Some(close_structure(body, members)?));
     }
-    machine.push(Frame::Specifiers(SpecifiersFrame::ForMember(body, members)))?;
+    machine.push_specifiers(SpecifiersFrame::ForMember(body, members))?;
     let before = no_specifiers(machine.alloc);
     Ok(Some(Doing::Specifying(Seen::nothing(), before)))
 }
 
 /// Behind the brace that closes a structure.
-fn close_structure(
-    alloc: Global,
-    body: Body,
-    members: Read<Vec<Member>>,
-) -> Result<Doing, AllocError>
+fn close_structure(body: Box<Body>, members: Read<Vec<Member>>) -> Result<Doing, AllocError>
     ensures { (b : plain.Body) (ms : List lists.MemberLine) → ShowsBody body b
         → ShowsMembers members ms
         → IfOk result (λ d. ShowsDoing d (plain.specifying (with_whole b.seen)
         (StructureBody b.place b.tag b.brace (members_onto ms no_members_tree) ∷ b.before))) }
 {
+    let body = Box::into_inner(body);
     let seen = body.seen;
-    let more = with_structure_body(alloc, body, members)?;
+    let more = with_structure_body(body, members)?;
     Ok(Doing::Specifying(seen.with_whole(), more))
 }
 
@@ -149,7 +148,7 @@ fn close_structure(
 #[tactic(auto, using(crate::proofs::OtherwiseDeclarators::enumerator_or_none))]
 pub fn read_enumerator(
     machine: &mut Machine<'_>,
-    body: Body,
+    body: Box<Body>,
     list: Read<Vec<Enumerator>>,
 ) -> Result<Option<Doing>, AllocError>
     ensures { (b : plain.Body) (es : List lists.Entry) → ShowsBody body b → ShowsEnumerators list es
@@ -165,7 +164,7 @@ pub fn read_enumerator(
 #[tactic(auto, using(crate::proofs::OtherwiseDeclarators::enumerator_otherwise))]
 pub fn read_enumerator_value(
     machine: &mut Machine<'_>,
-    body: Body,
+    body: Box<Body>,
     list: Read<Vec<Enumerator>>,
     name: Name,
 ) -> Result<Option<Doing>, AllocError>
@@ -173,7 +172,7 @@ pub fn read_enumerator_value(
         → Steps machine.old result machine.new (enumerator_followed b es name) }
 {
     if let Some(place) = machine.rest.take_sign(Sign::Assign) {
-        machine.push(Frame::Expression(ExpressionFrame::InEnumerator(body, list, name, place)))?;
+        machine.push_expression(ExpressionFrame::InEnumerator(body, list, name, place))?;
         return Ok(Some(Doing::Seek(CONDITIONAL)));
     }
     machine.scope.bind(name.number, false)?;
@@ -185,7 +184,7 @@ pub fn read_enumerator_value(
 #[tactic(auto, using(crate::proofs::OtherwiseDeclarators::entry_or_none))]
 pub fn read_behind_enumerator(
     machine: &mut Machine<'_>,
-    body: Body,
+    body: Box<Body>,
     list: Read<Vec<Enumerator>>,
 ) -> Result<Option<Doing>, AllocError>
     ensures { (b : plain.Body) (es : List lists.Entry) (e : lists.Entry) → ShowsBody body b
@@ -196,7 +195,7 @@ pub fn read_behind_enumerator(
         return Ok(Some(Doing::Entering(body, list)));
     }
     if machine.rest.take_sign(Sign::RightBrace).is_some() {
-        return Ok(Some(close_enumeration(machine.alloc, body, list, TrailingComma::Absent)?));
+        return Ok(Some(close_enumeration(body, list, TrailingComma::Absent)?));
     }
     Ok(None)
 }
@@ -205,7 +204,7 @@ pub fn read_behind_enumerator(
 #[tactic(auto, using(crate::proofs::OtherwiseDeclarators::comma_otherwise))]
 pub fn read_behind_comma(
     machine: &mut Machine<'_>,
-    body: Body,
+    body: Box<Body>,
     list: Read<Vec<Enumerator>>,
 ) -> Result<Option<Doing>, AllocError>
     ensures { (b : plain.Body) (es : List lists.Entry) (e : lists.Entry) → ShowsBody body b
@@ -213,15 +212,14 @@ pub fn read_behind_comma(
         → Steps machine.old result machine.new (comma_followed b es e) }
 {
     if machine.rest.take_sign(Sign::RightBrace).is_some() {
-        return Ok(Some(close_enumeration(machine.alloc, body, list, TrailingComma::Present)?));
+        return Ok(Some(close_enumeration(body, list, TrailingComma::Present)?));
     }
     Ok(Some(Doing::Enumerating(body, list)))
 }
 
 /// Behind the brace that closes an enumeration.
 fn close_enumeration(
-    alloc: Global,
-    body: Body,
+    body: Box<Body>,
     list: Read<Vec<Enumerator>>,
     comma: TrailingComma,
 ) -> Result<Doing, AllocError>
@@ -230,7 +228,8 @@ fn close_enumeration(
         (plain.specifying (with_whole b.seen) (EnumerationBody b.place b.tag b.brace
         (enumerators_onto es no_enumerators_tree) (has_comma comma) ∷ b.before))) }
 {
+    let body = Box::into_inner(body);
     let seen = body.seen;
-    let more = with_enumeration_body(alloc, body, list, comma)?;
+    let more = with_enumeration_body(body, list, comma)?;
     Ok(Doing::Specifying(seen.with_whole(), more))
 }

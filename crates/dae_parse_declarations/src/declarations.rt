@@ -20,8 +20,8 @@ use dae_parse_nodes::{
 };
 use dae_parse_parts::Read;
 use dae_parse_states::{
-    Before, DeclarationFrame, DeclaratorFrame, Doing, Frame, FunctionBody, InitialiserFrame,
-    Inside, Machine, Manner, Presence, SpecifiersFrame, StatementFrame,
+    Before, DeclarationFrame, DeclaratorFrame, Doing, FunctionBody, InitialiserFrame, Inside,
+    Machine, Manner, Presence, SpecifiersFrame, StatementFrame,
 };
 use dae_tree::{Declaration, Initialiser, Item, Seen, Sign};
 use std::alloc::AllocError;
@@ -39,10 +39,10 @@ pub fn for_declaration(
 {
     let none = no_items(machine.alloc);
     if let Some(end) = machine.rest.take_sign(Sign::Semicolon) {
-        let whole = declaration(machine.alloc, specified, none, end)?;
+        let whole = declaration(specified, none, end)?;
         return Ok(Some(Doing::GaveDeclaration(whole)));
     }
-    machine.push(Frame::Declarator(DeclaratorFrame::OfItem(function_body, specified, none)))?;
+    machine.push_declarator(DeclaratorFrame::OfItem(function_body, specified, none))?;
     Ok(Some(Doing::Declaring(Manner::ByName, Presence::Optional)))
 }
 
@@ -76,9 +76,7 @@ fn read_behind_declarator(
         → Steps machine.old result machine.new (item_given (is_allowed function_body) d ws is) }
 {
     if let Some(place) = machine.rest.take_sign(Sign::Assign) {
-        machine.push(Frame::Initialiser(InitialiserFrame::OfValue(
-            specified, items, declared, place,
-        )))?;
+        machine.push_initialiser(InitialiserFrame::OfValue(specified, items, declared, place))?;
         return Ok(Some(Doing::Initialising));
     }
     match function_body {
@@ -161,7 +159,7 @@ fn begin_definition(
     machine.scope.open()?;
     machine.scope.bind_all(declared.parameters.as_slice())?;
     machine.scope.open()?;
-    machine.push(Frame::Statement(StatementFrame::InDefinition(specified, declared)))?;
+    machine.push_statement(StatementFrame::InDefinition(specified, declared))?;
     let place = brace;
     let declarations = no_declarations(machine.alloc);
     Ok(Some(Doing::Declarations(Inside {
@@ -202,17 +200,13 @@ pub fn read_behind_item(
         → ShowsItems items (i ∷ is) → Steps machine.old result machine.new (item_followed ws i is) }
 {
     if machine.rest.take_sign(Sign::Comma).is_some() {
-        machine.push(Frame::Declarator(DeclaratorFrame::OfItem(
-            FunctionBody::Excluded,
-            specified,
-            items,
-        )))?;
+        machine.push_declarator(DeclaratorFrame::OfItem(FunctionBody::Excluded, specified, items))?;
         return Ok(Some(Doing::Declaring(Manner::ByName, Presence::Optional)));
     }
     let Some(end) = machine.rest.take_sign(Sign::Semicolon) else {
         return Ok(None);
     };
-    let whole = declaration(machine.alloc, specified, items, end)?;
+    let whole = declaration(specified, items, end)?;
     Ok(Some(Doing::GaveDeclaration(whole)))
 }
 
@@ -281,8 +275,8 @@ pub fn read_external(machine: &mut Machine<'_>, before: Before) -> Result<Option
     if machine.rest.len() == 0 {
         return Ok(None);
     }
-    machine.push(Frame::Declaration(DeclarationFrame::InFile(before)))?;
-    machine.push(Frame::Specifiers(SpecifiersFrame::ForDeclaration(FunctionBody::Allowed)))?;
+    machine.push_declaration(DeclarationFrame::InFile(before))?;
+    machine.push_specifiers(SpecifiersFrame::ForDeclaration(FunctionBody::Allowed))?;
     let before = no_specifiers(machine.alloc);
     Ok(Some(Doing::Specifying(Seen::nothing(), before)))
 }

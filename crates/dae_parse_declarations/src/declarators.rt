@@ -19,7 +19,7 @@ use dae_parse_nodes::{
 };
 use dae_parse_parts::{CONDITIONAL, Scope};
 use dae_parse_states::{
-    DeclaratorFrame, Doing, ExpressionFrame, Frame, Machine, Manner, Open, Presence, Rest,
+    DeclaratorFrame, Doing, ExpressionFrame, Machine, Manner, Open, Presence, Rest,
     SpecifiersFrame, begins_specifiers,
 };
 use dae_tree::{Keyword, Seen, Sign};
@@ -39,39 +39,49 @@ pub fn read_declarator(
     }
     match machine.rest.sign() {
         Some(Sign::LeftParen) => read_parenthesis(machine, manner, presence),
-        Some(Sign::LeftBracket) => Ok(read_bracket(machine, manner, presence)),
+        Some(Sign::LeftBracket) => read_bracket(machine, manner, presence),
         _ => read_name_or_nothing(machine, manner, presence),
     }
 }
 
 /// Before a bracket: the suffix of no part, where a name may be lacking.
 #[tactic(auto, using(crate::proofs::OtherwiseDeclarators::bracket_by_name, crate::proofs::OtherwiseDeclarators::bracket_without, crate::proofs::OtherwiseDeclarators::bracket_either))]
-fn read_bracket(machine: &Machine<'_>, manner: Manner, presence: Presence) -> Option<Doing>
+fn read_bracket(
+    machine: &Machine<'_>,
+    manner: Manner,
+    presence: Presence,
+) -> Result<Option<Doing>, AllocError>
     ensures { (s : List PlainFrame) → sign_at machine.now.rest ≡ Some signs.LeftBracket
         → Stands machine.now s (outside_stack s)
-        → Follows result machine.now (declared_of
-        (manner_of manner) (is_required presence) s machine.now.scope.names machine.now.rest) }
+        → IfOk result
+        (λ r. Follows r machine.now (declared_of
+        (manner_of manner) (is_required presence) s machine.now.scope.names machine.now.rest)) }
 {
     match manner {
-        Manner::ByName => None,
-        Manner::WithoutName | Manner::EitherWay => Some(Doing::Suffixing(
+        Manner::ByName => Ok(None),
+        Manner::WithoutName | Manner::EitherWay => Ok(Some(Doing::Suffixing(
             manner,
-            absent(machine.alloc),
-        )),
+            absent(machine.alloc)?,
+        ))),
     }
 }
 
 /// No part, where none is required and a name may be lacking.
-fn read_nothing(machine: &Machine<'_>, manner: Manner, presence: Presence) -> Option<Doing>
+fn read_nothing(
+    machine: &Machine<'_>,
+    manner: Manner,
+    presence: Presence,
+) -> Result<Option<Doing>, AllocError>
     ensures { (s : List PlainFrame) → Stands machine.now s (outside_stack s)
-        → Follows result machine.now (nothing_declared
-        (manner_of manner) (is_required presence) s machine.now.scope.names machine.now.rest) }
+        → IfOk result
+        (λ r. Follows r machine.now (nothing_declared
+        (manner_of manner) (is_required presence) s machine.now.scope.names machine.now.rest)) }
 {
     match manner {
-        Manner::ByName => None,
+        Manner::ByName => Ok(None),
         Manner::WithoutName | Manner::EitherWay => match presence {
-            Presence::Required => None,
-            Presence::Optional => Some(Doing::GaveDeclarator(absent(machine.alloc))),
+            Presence::Required => Ok(None),
+            Presence::Optional => Ok(Some(Doing::GaveDeclarator(absent(machine.alloc)?))),
         },
     }
 }
@@ -90,11 +100,11 @@ fn read_name_or_nothing(
         (declared_of (manner_of manner) (is_required presence)) }
 {
     if manner == Manner::WithoutName {
-        return Ok(read_nothing(machine, manner, presence));
+        return read_nothing(machine, manner, presence);
     }
     match machine.rest.take_name() {
         Some(name) => Ok(Some(Doing::Suffixing(manner, named(machine.alloc, name)?))),
-        None => Ok(read_nothing(machine, manner, presence)),
+        None => read_nothing(machine, manner, presence),
     }
 }
 
@@ -110,12 +120,12 @@ fn read_parenthesis(
         (declared_of (manner_of manner) (is_required presence)) }
 {
     if begins_parameters(machine, manner) {
-        return Ok(Some(Doing::Suffixing(manner, absent(machine.alloc))));
+        return Ok(Some(Doing::Suffixing(manner, absent(machine.alloc)?)));
     }
     let Some(paren) = machine.rest.take_sign(Sign::LeftParen) else {
         return Ok(None);
     };
-    machine.push(Frame::Declarator(DeclaratorFrame::InGroup(paren, manner)))?;
+    machine.push_declarator(DeclaratorFrame::InGroup(paren, manner))?;
     Ok(Some(Doing::Declaring(manner, Presence::Required)))
 }
 
@@ -160,7 +170,7 @@ pub fn read_qualifier(
         qualifiers.push(qualifier)?;
         return Ok(Some(Doing::Qualifying(manner, place, qualifiers)));
     }
-    machine.push(Frame::Declarator(DeclaratorFrame::BehindStar(place, qualifiers)))?;
+    machine.push_declarator(DeclaratorFrame::BehindStar(place, qualifiers))?;
     Ok(Some(Doing::Declaring(manner, Presence::Optional)))
 }
 
@@ -198,7 +208,7 @@ pub fn read_size(
         let whole = unsized_array(machine.alloc, declared, place)?;
         return Ok(Some(Doing::Suffixing(manner, whole)));
     }
-    machine.push(Frame::Expression(ExpressionFrame::InSize(declared, place, manner)))?;
+    machine.push_expression(ExpressionFrame::InSize(declared, place, manner))?;
     Ok(Some(Doing::Seek(CONDITIONAL)))
 }
 
@@ -219,14 +229,14 @@ pub fn read_parameters(
     }
     machine.scope.open()?;
     let none = no_parameters(machine.alloc);
-    machine.push(Frame::Specifiers(SpecifiersFrame::ForParameter(
+    machine.push_specifiers(SpecifiersFrame::ForParameter(
         Open {
             declared,
             place,
             manner,
         },
         none,
-    )))?;
+    ))?;
     let before = no_specifiers(machine.alloc);
     Ok(Some(Doing::Specifying(Seen::nothing(), before)))
 }

@@ -11,7 +11,7 @@ ghost use Rattle.dae_parse_states.specs.States.{Steps};
 use dae_base::Place;
 use dae_parse_nodes::{Operand, initialiser_list, no_initialisers, value, with_initialiser};
 use dae_parse_parts::{ASSIGNMENT, Read};
-use dae_parse_states::{Doing, ExpressionFrame, Frame, InitialiserFrame, Machine};
+use dae_parse_states::{Doing, ExpressionFrame, InitialiserFrame, Machine};
 use dae_tree::{Initialiser, Sign, TrailingComma};
 use std::alloc::AllocError;
 
@@ -21,13 +21,10 @@ pub fn read_initialiser(machine: &mut Machine<'_>) -> Result<Option<Doing>, Allo
     ensures { Steps machine.old result machine.new initialised }
 {
     if let Some(brace) = machine.rest.take_sign(Sign::LeftBrace) {
-        machine.push(Frame::Initialiser(InitialiserFrame::InList(
-            brace,
-            no_initialisers(machine.alloc),
-        )))?;
+        machine.push_initialiser(InitialiserFrame::InList(brace, no_initialisers(machine.alloc)))?;
         return Ok(Some(Doing::Initialising));
     }
-    machine.push(Frame::Expression(ExpressionFrame::InValue))?;
+    machine.push_expression(ExpressionFrame::InValue)?;
     Ok(Some(Doing::Seek(ASSIGNMENT)))
 }
 
@@ -42,10 +39,10 @@ pub fn read_list(
         Steps machine.old result machine.new (list_followed place xs) }
 {
     if machine.rest.take_sign(Sign::RightBrace).is_some() {
-        let whole = initialiser_list(machine.alloc, place, list, TrailingComma::Present)?;
+        let whole = initialiser_list(place, list, TrailingComma::Present)?;
         return Ok(Some(Doing::GaveInitialiser(whole)));
     }
-    machine.push(Frame::Initialiser(InitialiserFrame::InList(place, list)))?;
+    machine.push_initialiser(InitialiserFrame::InList(place, list))?;
     Ok(Some(Doing::Initialising))
 }
 
@@ -67,7 +64,7 @@ pub fn in_list(
     if machine.rest.take_sign(Sign::RightBrace).is_none() {
         return Ok(None);
     }
-    let whole = initialiser_list(machine.alloc, place, list, TrailingComma::Absent)?;
+    let whole = initialiser_list(place, list, TrailingComma::Absent)?;
     Ok(Some(Doing::GaveInitialiser(whole)))
 }
 

@@ -16,7 +16,7 @@ use dae_parse_grammar::parameters_add_names;
 use dae_parse_nodes::{
     Declared, ParameterList, Specified, function, no_specifiers, with_parameter,
 };
-use dae_parse_states::{Doing, Frame, Machine, Open, SpecifiersFrame};
+use dae_parse_states::{Doing, Machine, Open, SpecifiersFrame};
 use dae_tree::{Seen, Sign};
 use std::alloc::AllocError;
 
@@ -44,7 +44,7 @@ pub fn of_parameter(
     machine.bind(&declared, &specified)?;
     let list = with_parameter(list, specified, declared)?;
     if machine.rest.take_sign(Sign::Comma).is_some() {
-        machine.push(Frame::Specifiers(SpecifiersFrame::ForParameter(opened, list)))?;
+        machine.push_specifiers(SpecifiersFrame::ForParameter(opened, list))?;
         let before = no_specifiers(machine.alloc);
         return Ok(Some(Doing::Specifying(Seen::nothing(), before)));
     }

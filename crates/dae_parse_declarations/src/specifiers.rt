@@ -15,9 +15,7 @@ ghost use Rattle.dae_parse_states.specs.States.{Stands, Follows, ShowsState, out
 use dae_base::Place;
 use dae_parse_nodes::{Body, ParameterList, Specified, no_declarators, with_type_name, with_word};
 use dae_parse_parts::Read;
-use dae_parse_states::{
-    DeclaratorFrame, Doing, Frame, Machine, Manner, Open, Presence, TagKind, is_type,
-};
+use dae_parse_states::{DeclaratorFrame, Doing, Machine, Manner, Open, Presence, TagKind, is_type};
 use dae_tree::{Keyword, Kind, Member, Name, Seen};
 use std::alloc::AllocError;
 
@@ -128,7 +126,7 @@ pub fn for_cast(
     ensures { (ws : Specifiers) → ShowsSpecified specified ws →
         Steps machine.old result machine.new (specifiers_given ws (plain.for_cast place level)) }
 {
-    machine.push(Frame::Declarator(DeclaratorFrame::OfCast(place, specified, level)))?;
+    machine.push_declarator(DeclaratorFrame::OfCast(place, specified, level))?;
     Ok(Some(Doing::Declaring(Manner::WithoutName, Presence::Optional)))
 }
 
@@ -144,7 +142,7 @@ pub fn for_sizeof(
         → Steps machine.old result machine.new
         (specifiers_given ws (plain.for_sizeof place paren level)) }
 {
-    machine.push(Frame::Declarator(DeclaratorFrame::OfSizeof(place, paren, specified, level)))?;
+    machine.push_declarator(DeclaratorFrame::OfSizeof(place, paren, specified, level))?;
     Ok(Some(Doing::Declaring(Manner::WithoutName, Presence::Optional)))
 }
 
@@ -162,7 +160,7 @@ pub fn for_parameter(
         → IfOk result (λ r. Follows r machine.new (specifiers_given ws
         (plain.for_parameter o ps) s machine.old.scope.names machine.old.rest)) }
 {
-    machine.push(Frame::Declarator(DeclaratorFrame::OfParameter(opened, list, specified)))?;
+    machine.push_declarator(DeclaratorFrame::OfParameter(opened, list, specified))?;
     Ok(Some(Doing::Declaring(Manner::EitherWay, Presence::Optional)))
 }
 
@@ -170,7 +168,7 @@ pub fn for_parameter(
 pub fn for_member(
     machine: &mut Machine<'_>,
     specified: Specified,
-    body: Body,
+    body: Box<Body>,
     members: Read<Vec<Member>>,
 ) -> Result<Option<Doing>, AllocError>
     ensures { (ws : Specifiers) (b : plain.Body) (ms : List lists.MemberLine)
@@ -178,6 +176,6 @@ pub fn for_member(
         → Steps machine.old result machine.new (specifiers_given ws (plain.for_member b ms)) }
 {
     let none = no_declarators(machine.alloc);
-    machine.push(Frame::Declarator(DeclaratorFrame::OfMember(body, members, specified, none)))?;
+    machine.push_declarator(DeclaratorFrame::OfMember(body, members, specified, none))?;
     Ok(Some(Doing::Declaring(Manner::ByName, Presence::Optional)))
 }

@@ -1,7 +1,8 @@
 -- What is kept beside the trees of declarators, parameters and definitions.
 use Rattle.std.proofs.Common.{◌≡◌, Bool, true, false, ◌||◌, List, [], ◌∷◌, Some, None, refl, ap, ◌∙◌, arith}
-use Rattle.std.specs.Prelude.{slice_get, if◌then◌else◌}
+use Rattle.std.specs.Prelude.{Box, slice_get, if◌then◌else◌}
 use Rattle.std.specs.Option.{unwrap_or}
+use Rattle.std.specs.declared.alloc.Global.{Global}
 use Rattle.dae_base.specs.declared.Place.{Place}
 use Rattle.dae_tree.specs.declared.expressions.Declarator.{Declarator}
 use Rattle.dae_tree.specs.Trees as tree
@@ -25,7 +26,7 @@ first_of (tree.Empty d p) q = refl
 first_of (tree.Void d p r) q = refl
 first_of (tree.Function d p ps) q = refl
 
-pub place_at_first : (read : Read Declarator) (d : tree.Declarator) (q : Place) → ShowsDeclarator read d → unwrap_or (slice_get read.depths.places.items 0) q ≡ place_before d q
+pub place_at_first : (read : Read (Box Declarator Global)) (d : tree.Declarator) (q : Place) → ShowsDeclarator read d → unwrap_or (slice_get read.depths.places.items 0) q ≡ place_before d q
 place_at_first read d q h = ap (λ o. unwrap_or o q) (h.holds.places.entries 0 (omega arith)) ∙ first_of d q
 
 pub chosen_then : {A : Type 0} (b : Bool) (x y z : A) → b ≡ true → x ≡ z → (if b then x else y) ≡ z

@@ -18,7 +18,7 @@ use Rattle.dae_tree.specs.declared.statements.Declaration.{Declaration}
 use Rattle.dae_tree.specs.declared.statements.Statement.{Statement}
 use Rattle.dae_tree.specs.declared.statements.External.{External}
 use Rattle.dae_tree.specs.Trees as tree
-use Rattle.dae_tree.specs.Views.{view, view_optional, views_specifiers, view_specifier, view_declarator, views_declarators}
+use Rattle.dae_tree.specs.Views.{view, views_specifiers, view_specifier, view_declarator, views_declarators}
 use Rattle.dae_tree.specs.FileViews.{view_initialiser, view_item, view_declaration, view_statement, view_external}
 use Rattle.dae_tree.specs.Depth.{place_of, place_of_specifier}
 use Rattle.dae_tree.specs.Names.{Names, declared_name, is_typedef_word, has_typedef, is_bare, with_parameters}
@@ -33,7 +33,7 @@ use Rattle.dae_parse_nodes.specs.declared.values.Specified.{Specified}
 use Rattle.dae_parse_nodes.specs.declared.values.Declared.{Declared}
 use Rattle.dae_parse_nodes.specs.declared.values.ParameterList.{ParameterList}
 use Rattle.dae_parse_nodes.specs.declared.values.Loop.{Loop}
-use Rattle.dae_parse_parts.specs.Shown.{Shows, ShowsList, in_box, box_value}
+use Rattle.dae_parse_parts.specs.Shown.{Shows, ShowsList, in_box}
 use Rattle.dae_parse_parts.specs.ShownNames.{bound_all}
 
 -- ---- expressions
@@ -48,10 +48,6 @@ pub record ShowsOperand (o : Operand) (e : tree.Expression) : Type 0 where
 
 abbrev pub ShowsArguments : Read (Vec Expression Global) → List tree.Expression → Type 0
 ShowsArguments = ShowsList view firsts
-
--- an expression that may be lacking, in a box
-abbrev pub view_boxed : Option (Box Expression Global) → Option tree.Expression
-view_boxed e = view_optional (box_value e)
 
 -- an operand that may be lacking
 abbrev pub ShowsOptional : Option Operand → Option tree.Expression → Type 0
@@ -112,8 +108,8 @@ ShowsEnumerators = ShowsList view_entry firsts_entry
 
 -- ---- declarators
 
-abbrev pub ShowsDeclarator : Read Declarator → tree.Declarator → Type 0
-ShowsDeclarator = Shows view_declarator firsts_declarator
+abbrev pub ShowsDeclarator : Read (Box Declarator Global) → tree.Declarator → Type 0
+ShowsDeclarator = Shows (in_box view_declarator) firsts_declarator
 
 abbrev pub number_of : Option Name → Option ℕ
 number_of None = None

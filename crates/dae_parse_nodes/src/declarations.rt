@@ -24,7 +24,7 @@ pub fn value(operand: Operand) -> Read<Initialiser>
 {
     let Read { tree, depths } = operand.read;
     let tree = match tree {
-        Some(value) => Some(Initialiser::Value(Box::into_inner(value))),
+        Some(value) => Some(Initialiser::Value(value)),
         None => None,
     };
     Read { tree, depths }
@@ -43,7 +43,6 @@ pub fn with_initialiser(
 
 /// Initialisers in braces, and whether a comma stands behind the last (C90 6.5.7).
 pub fn initialiser_list(
-    alloc: Global,
     place: Place,
     list: Read<Vec<Initialiser>>,
     comma: TrailingComma,
@@ -53,7 +52,7 @@ pub fn initialiser_list(
         (λ r. ShowsInitialiser r
         (tree.Listed place (initialisers_onto xs tree.no_initialisers) (has_comma comma))) }
 {
-    let Read { tree, depths } = over(alloc, place, list)?;
+    let Read { tree, depths } = over(place, list)?;
     let tree = match tree {
         Some(list) => Some(Initialiser::List(place, list, comma)),
         None => None,
@@ -106,7 +105,6 @@ pub fn with_valued_item(
 
 /// A declaration, at its semicolon (C90 6.5).
 pub fn declaration(
-    alloc: Global,
     specified: Specified,
     items: Read<Vec<Item>>,
     end: Place,
@@ -118,7 +116,7 @@ pub fn declaration(
 {
     let first = specified.place.unwrap_or(end);
     let parts = beside(specified.read, items)?;
-    let Read { tree, depths } = over(alloc, first, parts)?;
+    let Read { tree, depths } = over(first, parts)?;
     let tree = match tree {
         Some((specifiers, items)) => Some(Declaration {
             specifiers,
@@ -182,7 +180,6 @@ fn block_of(statement: Statement) -> Option<Block>
 
 /// The definition of a function that begins at a place.
 fn definition_at(
-    alloc: Global,
     place: Place,
     specified: Specified,
     declared: Declared,
@@ -195,7 +192,7 @@ fn definition_at(
 {
     let rest = beside(declared.read, body)?;
     let parts = beside(specified.read, rest)?;
-    let Read { tree, depths } = over(alloc, place, parts)?;
+    let Read { tree, depths } = over(place, parts)?;
     let tree = match tree {
         Some((specifiers, rest)) => {
             let (declarator, body) = rest;
@@ -222,9 +219,9 @@ pub fn definition(
         → IfOk result (λ r. ShowsExternal r (tree.Defined ws d p ds ss)) }
 {
     match specified.place {
-        Some(place) => definition_at(alloc, place, specified, declared, body),
+        Some(place) => definition_at(place, specified, declared, body),
         None => match body.depths.first() {
-            Some(place) => definition_at(alloc, place, specified, declared, body),
+            Some(place) => definition_at(place, specified, declared, body),
             None => Ok(Read {
                 tree: None,
                 depths: Depths::none(alloc),

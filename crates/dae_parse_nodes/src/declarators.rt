@@ -12,35 +12,38 @@ ghost use Rattle.dae_parse_nodes.specs.Parts.{ShowsOperand, ShowsSpecified, Show
 
 use crate::values::{Declared, Operand, ParameterList, Specified};
 use dae_base::Place;
-use dae_parse_parts::{Binding, Read, beside, flat, longer, over};
+use dae_parse_parts::{Binding, Read, beside, flat, longer, node, over};
 use dae_tree::{Declarator, Name, Parameter};
 use std::alloc::{AllocError, Global};
 
 /// No part of a declarator.
-pub fn absent(alloc: Global) -> Declared
-    ensures { ShowsDeclared result tree.Absent }
+pub fn absent(alloc: Global) -> Result<Declared, AllocError>
+    ensures { IfOk result (λ r. ShowsDeclared r tree.Absent) }
 {
-    Declared {
-        read: flat(alloc, Declarator::Absent),
+    let tree = Box::new(alloc, Declarator::Absent)?;
+    let parameters = Vec::new(alloc);
+    Ok(Declared {
+        read: flat(alloc, tree),
         name: None,
         present: false,
         bare: false,
-        parameters: Vec::new(alloc),
-    }
+        parameters,
+    })
 }
 
 /// A declared name.
 pub fn named(alloc: Global, name: Name) -> Result<Declared, AllocError>
     ensures { IfOk result (λ r. ShowsDeclared r (tree.Named name)) }
 {
-    let place = name.place;
-    let read = over(alloc, place, flat(alloc, Declarator::Named(name)))?;
+    let tree = Box::new(alloc, Declarator::Named(name))?;
+    let read = over(name.place, flat(alloc, tree))?;
+    let parameters = Vec::new(alloc);
     Ok(Declared {
         read,
         name: Some(name.number),
         present: true,
         bare: true,
-        parameters: Vec::new(alloc),
+        parameters,
     })
 }
 
@@ -61,9 +64,12 @@ pub fn pointer(
         bare: _,
         parameters,
     } = declared;
-    let Read { tree, depths } = over(alloc, place, read)?;
+    let Read { tree, depths } = over(place, read)?;
     let tree = match tree {
-        Some(d) => Some(Declarator::Pointer(place, qualifiers, Box::new(alloc, d)?)),
+        Some(d) => {
+            let whole = Declarator::Pointer(place, qualifiers, d);
+            Some(Box::new(alloc, whole)?)
+        }
         None => None,
     };
     Ok(Declared {
@@ -87,13 +93,9 @@ pub fn grouped(alloc: Global, place: Place, declared: Declared) -> Result<Declar
         bare,
         parameters,
     } = declared;
-    let Read { tree, depths } = over(alloc, place, read)?;
-    let tree = match tree {
-        Some(d) => Some(Declarator::Grouped(place, Box::new(alloc, d)?)),
-        None => None,
-    };
+    let read = node(alloc, place, read, |d| Declarator::Grouped(place, d))?;
     Ok(Declared {
-        read: Read { tree, depths },
+        read,
         name,
         present: true,
         bare,
@@ -118,13 +120,9 @@ pub fn unsized_array(
         parameters,
     } = declared;
     let first = read.depths.first_or(place);
-    let Read { tree, depths } = over(alloc, first, read)?;
-    let tree = match tree {
-        Some(d) => Some(Declarator::Unsized(Box::new(alloc, d)?, place)),
-        None => None,
-    };
+    let read = node(alloc, first, read, |d| Declarator::Unsized(d, place))?;
     Ok(Declared {
-        read: Read { tree, depths },
+        read,
         name,
         present: true,
         bare: false,
@@ -151,13 +149,11 @@ pub fn sized_array(
     } = declared;
     let first = read.depths.first_or(place);
     let parts = beside(read, size.read)?;
-    let Read { tree, depths } = over(alloc, first, parts)?;
-    let tree = match tree {
-        Some((d, size)) => Some(Declarator::Sized(Box::new(alloc, d)?, place, size)),
-        None => None,
-    };
+    let read = node(alloc, first, parts, |(d, size)| {
+        Declarator::Sized(d, place, size)
+    })?;
     Ok(Declared {
-        read: Read { tree, depths },
+        read,
         name,
         present: true,
         bare: false,
@@ -182,13 +178,9 @@ pub fn empty_function(
         parameters,
     } = declared;
     let first = read.depths.first_or(place);
-    let Read { tree, depths } = over(alloc, first, read)?;
-    let tree = match tree {
-        Some(d) => Some(Declarator::Empty(Box::new(alloc, d)?, place)),
-        None => None,
-    };
+    let read = node(alloc, first, read, |d| Declarator::Empty(d, place))?;
     Ok(Declared {
-        read: Read { tree, depths },
+        read,
         name,
         present: true,
         bare: false,
@@ -214,13 +206,9 @@ fn void_function(
         parameters,
     } = declared;
     let first = read.depths.first_or(place);
-    let Read { tree, depths } = over(alloc, first, read)?;
-    let tree = match tree {
-        Some(d) => Some(Declarator::Void(Box::new(alloc, d)?, place, void)),
-        None => None,
-    };
+    let read = node(alloc, first, read, |d| Declarator::Void(d, place, void))?;
     Ok(Declared {
-        read: Read { tree, depths },
+        read,
         name,
         present: true,
         bare: false,
@@ -253,14 +241,12 @@ fn parameter_function(
     } = declared;
     let first = read.depths.first_or(place);
     let parts = beside(read, list)?;
-    let Read { tree, depths } = over(alloc, first, parts)?;
-    let tree = match tree {
-        Some((d, list)) => Some(Declarator::Function(Box::new(alloc, d)?, place, list)),
-        None => None,
-    };
+    let read = node(alloc, first, parts, |(d, list)| {
+        Declarator::Function(d, place, list)
+    })?;
     let parameters = if bare { inner } else { parameters };
     Ok(Declared {
-        read: Read { tree, depths },
+        read,
         name,
         present: true,
         bare: false,
@@ -327,7 +313,7 @@ pub fn with_parameter(
     let tree = match tree {
         Some((specifiers, declarator)) => Some(Parameter {
             specifiers,
-            declarator,
+            declarator: Box::into_inner(declarator),
         }),
         None => None,
     };

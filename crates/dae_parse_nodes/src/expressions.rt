@@ -25,7 +25,6 @@ pub fn identifier(alloc: Global, name: Name) -> Result<Operand, AllocError>
 {
     let place = name.place;
     let read = over(
-        alloc,
         place,
         flat(alloc, Box::new(alloc, Expression::Identifier(name))?),
     )?;
@@ -41,7 +40,6 @@ pub fn constant(alloc: Global, place: Place, constant: Constant) -> Result<Opera
     ensures { IfOk result (λ r. ShowsOperand r (tree.Number place constant)) }
 {
     let read = over(
-        alloc,
         place,
         flat(
             alloc,
@@ -60,7 +58,6 @@ pub fn literal(alloc: Global, place: Place, number: u32) -> Result<Operand, Allo
     ensures { IfOk result (λ r. ShowsOperand r (tree.Literal place number)) }
 {
     let read = over(
-        alloc,
         place,
         flat(alloc, Box::new(alloc, Expression::Literal(place, number))?),
     )?;
@@ -222,12 +219,12 @@ pub fn sizeof_type(
         → IfOk result (λ r. ShowsOperand r (tree.SizeofType place paren ws d)) }
 {
     let parts = beside(specified.read, declared.read)?;
-    let Read { tree, depths } = over(alloc, place, parts)?;
+    let Read { tree, depths } = over(place, parts)?;
     let tree = match tree {
         Some((specifiers, declarator)) => {
             let name = TypeName {
                 specifiers,
-                declarator,
+                declarator: Box::into_inner(declarator),
             };
             let name = Box::new(alloc, name)?;
             Some(Box::new(alloc, Expression::SizeofType(place, paren, name))?)
@@ -255,13 +252,13 @@ pub fn cast(
 {
     let rest = beside(declared.read, operand.read)?;
     let parts = beside(specified.read, rest)?;
-    let Read { tree, depths } = over(alloc, place, parts)?;
+    let Read { tree, depths } = over(place, parts)?;
     let tree = match tree {
         Some((specifiers, rest)) => {
             let (declarator, operand) = rest;
             let name = TypeName {
                 specifiers,
-                declarator,
+                declarator: Box::into_inner(declarator),
             };
             let name = Box::new(alloc, name)?;
             Some(Box::new(alloc, Expression::Cast(place, name, operand))?)

@@ -11,7 +11,7 @@ ghost use Rattle.dae_parse_nodes.specs.Parts.{specifier_word, says_typedef, void
 
 use crate::values::{Body, Declared, Operand, Specified};
 use dae_base::Place;
-use dae_parse_parts::{Read, beside, flat, longer, over};
+use dae_parse_parts::{Read, beside, flat, longer, over, unbox};
 use dae_tree::{Declarator, Enumerator, Keyword, Member, Name, Specifier, TrailingComma};
 use std::alloc::{AllocError, Global};
 
@@ -148,11 +148,7 @@ pub fn with_enumeration(
 }
 
 /// A structure with its members more (C90 6.5.2.1).
-pub fn with_structure_body(
-    alloc: Global,
-    body: Body,
-    members: Read<Vec<Member>>,
-) -> Result<Specified, AllocError>
+pub fn with_structure_body(body: Body, members: Read<Vec<Member>>) -> Result<Specified, AllocError>
     ensures { (ws : List tree.Specifier) (ms : List lists.MemberLine)
         → ShowsSpecified body.before (specifiers_onto ws tree.no_specifiers)
         → ShowsMembers members ms
@@ -169,7 +165,7 @@ pub fn with_structure_body(
         seen: _,
         before,
     } = body;
-    let Read { tree, depths } = over(alloc, place, members)?;
+    let Read { tree, depths } = over(place, members)?;
     let tree = match tree {
         Some(members) => Some(Specifier::StructureBody(place, tag, brace, members)),
         None => None,
@@ -179,7 +175,6 @@ pub fn with_structure_body(
 
 /// An enumeration with its enumerators more, and whether a comma stands behind the last (C90 6.5.2.2).
 pub fn with_enumeration_body(
-    alloc: Global,
     body: Body,
     enumerators: Read<Vec<Enumerator>>,
     comma: TrailingComma,
@@ -201,7 +196,7 @@ pub fn with_enumeration_body(
         seen: _,
         before,
     } = body;
-    let Read { tree, depths } = over(alloc, place, enumerators)?;
+    let Read { tree, depths } = over(place, enumerators)?;
     let tree = match tree {
         Some(enumerators) => Some(Specifier::EnumerationBody(
             place,
@@ -223,7 +218,7 @@ pub fn with_declarator(
     ensures { (ds : List tree.Declarator) (d : tree.Declarator) → ShowsDeclarators before ds
         → ShowsDeclared declared d → IfOk result (λ r. ShowsDeclarators r (d ∷ ds)) }
 {
-    longer(before, declared.read)
+    longer(before, unbox(declared.read))
 }
 
 /// A declaration of members more.

@@ -26,7 +26,7 @@ pub struct Specified {
 /// A declarator that was read.
 #[derive(Drop)]
 pub struct Declared {
-    pub read: Read<Declarator>,
+    pub read: Read<Box<Declarator>>,
     pub name: Option<u32>,
     pub present: bool,
     /// A name with nothing but parentheses round it.

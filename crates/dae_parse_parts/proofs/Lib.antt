@@ -1,4 +1,4 @@
 mod Holding
 pub mod Laws
-mod Cutting
 mod NamesShown
+mod Reaching

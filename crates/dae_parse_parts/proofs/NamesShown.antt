@@ -1,9 +1,12 @@
 -- Tables of names as lists.
-use Rattle.std.proofs.Common.{◌≡◌, ℕ, ◌+◌, ◌-◌, ◌<◌, ◌≤◌, List, [], ◌∷◌, ◌++◌, map, length, take, drop, get_or, reverse, subst, refl, ap, sym, ◌∙◌, append_assoc, append-nil, arith}
-use Rattle.std.proofs.lemmas.List.{take_rest, get_or-reverse, reverse-append, take-append-le, take-append-drop, take_more, length-take}
+use Rattle.std.proofs.Common.{◌≡◌, ℕ, ◌+◌, ◌-◌, ◌<◌, ◌≤◌, Bool, true, false, cond, nat_eq, List, [], ◌∷◌, ◌++◌, map, length, take, drop, get_or, reverse, find, Option, Some, None, subst, refl, ap, sym, ◌∙◌, append_assoc, append-nil, length-append, arith}
+use Rattle.std.proofs.lemmas.List.{take_rest, get_or-reverse, reverse-append, take-append-le, take-append-drop, take_more, length-take, map_push, take-map}
+use Rattle.std.proofs.lemmas.Option.{slice_get-get_or}
+use Rattle.dae_names.specs.Latest.{latest_of}
+use Rattle.dae_names.proofs.Rows.{latest_found, latest_inside, pop_undoes_push}
 use Rattle.dae_parse_parts.specs.declared.scope.Binding.{Binding}
-use Rattle.dae_parse_parts.specs.Scopes.{Scopes, bound, closed, innermost}
-use Rattle.dae_parse_parts.specs.ShownNames.{pair_of, shown, cuts, shown_outside, bound_all, Fall, AreWithin}
+use Rattle.dae_parse_parts.specs.Scopes.{Scopes, bound, bound_to, closed, innermost}
+use Rattle.dae_parse_parts.specs.ShownNames.{pair_of, shown, cuts, shown_outside, bound_all, Fall, AreWithin, IsScope, number_of, numbers_of}
 
 pub shown_more : {B : Type 0} → (bs : List (Binding B)) (b : Binding B) → shown (bs ++ b ∷ []) ≡ pair_of b ∷ shown bs
 shown_more bs b = ap (map pair_of) (reverse-append bs (b ∷ []))
@@ -84,3 +87,74 @@ pub inner_shown : {B : Type 0} → (bs : List (Binding B)) (starts : List ℕ) (
 inner_shown bs starts k e =
     let o : innermost (shown_outside bs starts) ≡ shown (take k bs) = innermost_at bs (reverse starts) ∙ ap (λ (n : ℕ). shown (take n bs)) (last_first starts ∙ sym e) in
     rw (take_rest bs k, o) (shown_split bs k)
+
+-- ---- what a name is bound to, by the binding that is found
+
+abbrev bound_of : {B : Type 0} → Option (Binding B) → Option B
+bound_of None = None
+bound_of (Some b) = Some b.bound
+
+bound_as_found : {B : Type 0} → (rs : List (Binding B)) (name : ℕ) → bound_to (map pair_of rs) name ≡ bound_of (find (λ b. nat_eq (number_of b) name) rs)
+bound_as_found [] name = refl
+bound_as_found (r ∷ rs) name = by (nat_eq r.name name) (bound_as_found rs name)
+  where
+    by : (t : Bool) → bound_to (map pair_of rs) name ≡ bound_of (find (λ b. nat_eq (number_of b) name) rs) → cond t (Some r.bound) (bound_to (map pair_of rs) name) ≡ bound_of (cond t (Some r) (find (λ b. nat_eq (number_of b) name) rs))
+    by true rest = refl
+    by false rest = rest
+
+-- ---- what is true of a scope, as it changes
+
+pub empty_scope : {B : Type 0} → (bs : List (Binding B)) (index starts : List ℕ) → bs ≡ [] → index ≡ [] → starts ≡ [] → IsScope bs index starts
+empty_scope bs index starts none unnamed unopened = record {
+  within = subst (AreWithin (length bs)) (sym unopened) tt;
+  indexed = unnamed ∙ sym (ap numbers_of none);
+}
+
+module _ {B : Type 0} (bs : List (Binding B)) (index starts : List ℕ) (is : IsScope bs index starts) where
+  pub scope_bound : (all : List (Binding B)) (b : Binding B) (new : List ℕ) → all ≡ bs ++ b ∷ [] → new ≡ index ++ b.name ∷ [] → IsScope all new starts
+  scope_bound all b new more pushed = record {
+    within = fall_more (length bs) (length all) (reverse starts) (omega (arith, simp length-append at (ap length more))) is.within;
+    indexed = pushed ∙ ap (λ (ns : List ℕ). ns ++ b.name ∷ []) is.indexed ∙ sym (map_push number_of bs b) ∙ sym (ap numbers_of more);
+  }
+
+  pub scope_kept : (same : List (Binding B)) (new : List ℕ) → same ≡ bs → new ≡ index → IsScope same new starts
+  scope_kept same new e f = record {
+    within = subst (λ (l : List (Binding B)). AreWithin (length l) starts) (sym e) is.within;
+    indexed = f ∙ is.indexed ∙ sym (ap numbers_of e);
+  }
+
+  pub scope_unbound : (all rest : List (Binding B)) (b : Binding B) (len : ℕ) (new : List ℕ) → len ≡ length all → all ≡ bs ++ b ∷ [] → rest ≡ take (len - 1) all → new ≡ index → IsScope rest new starts
+  scope_unbound all rest b len new long more cut f = scope_kept rest new (pop_undoes_push bs all rest b len long more cut) f
+
+  pub scope_opened : (all : List ℕ) (k : ℕ) → all ≡ starts ++ k ∷ [] → k ≡ length bs → IsScope bs index all
+  scope_opened all k more here = record {
+    within = subst (Fall (length bs)) (sym (ap reverse more ∙ reverse-append starts (k ∷ []))) (omega arith, subst (λ (n : ℕ). Fall n (reverse starts)) (sym here) is.within);
+    indexed = is.indexed;
+  }
+
+  -- a name is looked up
+  told : (name : ℕ) (o : Option ℕ) → o ≡ latest_of (reverse index) name → o ≡ latest_of (reverse (numbers_of bs)) name
+  told name o e = e ∙ ap (λ (ns : List ℕ). latest_of (reverse ns) name) is.indexed
+
+  pub bound_inside : (name at : ℕ) → Some at ≡ latest_of (reverse index) name → at < length bs
+  bound_inside name at e = latest_inside number_of bs name at (told name (Some at) e)
+
+  pub bound_found : (name at : ℕ) (b : Binding B) → Some at ≡ latest_of (reverse index) name → b ≡ get_or bs at b → Some b.bound ≡ bound_to (shown bs) name
+  bound_found name at b e read =
+      ap bound_of
+      (ap Some read ∙ sym (slice_get-get_or bs at b (bound_inside name at e)) ∙ latest_found number_of bs name (Some at) (told name (Some at) e)) ∙ sym (bound_as_found (reverse bs) name)
+
+  pub bound_nowhere : (name : ℕ) → None ≡ latest_of (reverse index) name → None ≡ bound_to (shown bs) name
+  bound_nowhere name e = ap bound_of (latest_found number_of bs name None (told name None e)) ∙ sym (bound_as_found (reverse bs) name)
+
+-- the innermost scope closes
+pub scope_closed : {B : Type 0} → (bs : List (Binding B)) (index starts all : List ℕ) (k : ℕ) → all ≡ starts ++ k ∷ [] → IsScope bs index all
+    → (front : List (Binding B)) (new : List ℕ) → front ≡ take k bs → new ≡ take k index → IsScope front new starts
+scope_closed bs index starts all k more is front new cut fewer =
+    let h : Fall (length bs) (k ∷ reverse starts) = subst (Fall (length bs)) (ap reverse more ∙ reverse-append starts (k ∷ [])) is.within in
+    let inside : k ≤ length bs = h.0 in
+    let long : k ≡ length front = omega (arith, ap length cut, length-take k bs) in
+    record {
+      within = subst (λ (n : ℕ). Fall n (reverse starts)) long h.1;
+      indexed = fewer ∙ ap (take k) is.indexed ∙ take-map number_of k bs ∙ sym (ap numbers_of cut);
+    }

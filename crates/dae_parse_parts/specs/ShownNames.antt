@@ -1,5 +1,5 @@
 -- A table of names, the latest last, with the lengths at which its open scopes began, the innermost last.
-use Rattle.std.specs.Prelude.{ℕ, ◌≤◌, List, [], ◌∷◌, map, take, reverse}
+use Rattle.std.specs.Prelude.{◌≡◌, ℕ, ◌≤◌, List, [], ◌∷◌, length, map, take, reverse}
 use Rattle.dae_parse_parts.specs.declared.scope.Binding.{Binding}
 
 abbrev pub pair_of : {B : Type 0} → Binding B → ℕ × B
@@ -22,6 +22,17 @@ Fall limit (k ∷ ks) = (k ≤ limit) × Fall k ks
 
 abbrev pub AreWithin : ℕ → List ℕ → Type 0
 AreWithin length starts = Fall length (reverse starts)
+
+abbrev pub number_of : {B : Type 0} → Binding B → ℕ
+number_of b = b.name
+
+abbrev pub numbers_of : {B : Type 0} → List (Binding B) → List ℕ
+numbers_of bindings = map number_of bindings
+
+-- no scope began behind the end, and an index has the numbers of the names
+pub record IsScope {B : Type 0} (bindings : List (Binding B)) (index starts : List ℕ) : Type 0 where
+  pub within : AreWithin (length bindings) starts
+  pub indexed : index ≡ numbers_of bindings
 
 -- the names behind these bindings, each before the next
 abbrev pub bound_all : {B : Type 0} → List (Binding B) → List (ℕ × B) → List (ℕ × B)

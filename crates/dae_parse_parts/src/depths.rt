@@ -41,15 +41,12 @@ impl Depths {
     }
 
     /// A node at this place that holds these.
-    #[tactic(auto, using(crate::proofs::Cutting::take_at_most))]
-    pub fn under(&self, alloc: Global, place: Place) -> Result<Depths, AllocError>
-        ensures { IfOk result (λ d. d.places.items ≡ place ∷ take 200 self.now.places.items) }
+    pub fn under(self, place: Place) -> Result<Depths, AllocError>
+        ensures { IfOk result (λ d. d.places.items ≡ place ∷ take 200 self.places.items) }
     {
-        let mut places = Vec::new(alloc);
-        places.push(place)?;
-        let below = self.places.as_slice();
-        let kept = below.len().min(GREATEST_DEPTH);
-        places.extend_from_slice(&below[..kept])?;
+        let Depths { mut places } = self;
+        places.truncate(GREATEST_DEPTH);
+        places.insert(0, place)?;
         Ok(Depths { places })
     }
 

@@ -26,12 +26,12 @@ pub fn flat<T: Drop>(alloc: Global, tree: T) -> Read<T>
 }
 
 /// A node at this place over a part.
-pub fn over<T: Drop>(alloc: Global, place: Place, part: Read<T>) -> Result<Read<T>, AllocError>
+pub fn over<T: Drop>(place: Place, part: Read<T>) -> Result<Read<T>, AllocError>
     ensures { (f : Places) → Holds part f
         → IfOk result (λ r. Holds r (over place f) × IsFrom part.tree r.tree) }
 {
     let Read { tree, depths } = part;
-    let depths = depths.under(alloc, place)?;
+    let depths = depths.under(place)?;
     if depths.fits() {
         Ok(Read { tree, depths })
     } else {
@@ -71,7 +71,7 @@ pub fn node<T: Drop, N: Drop, F: FnOnce(T) -> N + Drop>(
         → IfOk result
         (λ r. Holds r (over place f) × IsMade (F.post make) part.tree (box_value r.tree)) }
 {
-    let Read { tree, depths } = over(alloc, place, part)?;
+    let Read { tree, depths } = over(place, part)?;
     let tree = match tree {
         Some(part) => Some(Box::new(alloc, make(part))?),
         None => None,

@@ -1,9 +1,11 @@
-// What names stand for in scopes that open and close, the innermost first.
+// What names stand for in scopes that open and close, the innermost first. An index of the names tells where the latest
+// binding of each is, so that a look-up takes the same time however many there are.
 
 ghost use Rattle.std.specs.Prelude.{◌≡◌, ◌∷◌, [], IfOk};
 ghost use Rattle.dae_parse_parts.specs.Scopes.{bound_to, bound, opened, closed, innermost};
 ghost use Rattle.dae_parse_parts.specs.ShownNames.{bound_all};
 
+use dae_names::NameIndex;
 use std::alloc::{AllocError, Global};
 use std::marker::Model;
 
@@ -19,13 +21,13 @@ pub struct Binding<B> {
 #[derive(Drop)]
 pub struct Scope<B> {
     bindings: Vec<Binding<B>>,
+    index: NameIndex,
     starts: Vec<usize>,
 }
 
 impl<B> Model for Scope<B> {
-    ghost use Rattle.std.specs.Prelude.{length};
     ghost use Rattle.dae_parse_parts.specs.Scopes.{Scopes};
-    ghost use Rattle.dae_parse_parts.specs.ShownNames.{shown, shown_outside, AreWithin};
+    ghost use Rattle.dae_parse_parts.specs.ShownNames.{shown, shown_outside, IsScope};
 
     ghost Value = { Scopes B };
 
@@ -35,7 +37,7 @@ impl<B> Model for Scope<B> {
           outside = shown_outside s.bindings.items s.starts.items;
         } };
 
-    ghost invariant = { λ s. AreWithin (length s.bindings.items) s.starts.items };
+    ghost invariant = { λ s. IsScope s.bindings.items s.index s.starts.items };
 }
 
 impl<B: Copy> Scope<B> {
@@ -43,9 +45,13 @@ impl<B: Copy> Scope<B> {
     pub fn new(alloc: Global) -> Scope<B>
         ensures { result ≡ record { names = []; outside = [] } }
     {
+        let bindings = Vec::new(alloc);
+        let index = NameIndex::new(alloc);
+        let starts = Vec::new(alloc);
         Scope {
-            bindings: Vec::new(alloc),
-            starts: Vec::new(alloc),
+            bindings,
+            index,
+            starts,
         }
     }
 
@@ -54,7 +60,13 @@ impl<B: Copy> Scope<B> {
         ensures { IfOk result (λ _. self.new ≡ bound name to self.old) }
     {
         self.bindings.push(Binding { name, bound: to })?;
-        Ok(())
+        match self.index.push(name) {
+            Ok(()) => Ok(()),
+            Err(e) => {
+                self.bindings.pop();
+                Err(e)
+            }
+        }
     }
 
     /// Adds names, each behind the one before.
@@ -97,6 +109,7 @@ impl<B: Copy> Scope<B> {
     {
         if let Some(start) = self.starts.pop() {
             self.bindings.truncate(start);
+            self.index.truncate(start);
         }
     }
 
@@ -104,14 +117,12 @@ impl<B: Copy> Scope<B> {
     pub fn find(&self, name: u32) -> Option<B>
         ensures { result ≡ bound_to self.now.names name }
     {
-        let mut left = self.bindings.len();
-        while left > 0 {
-            left -= 1;
-            let binding = self.bindings[left];
-            if binding.name == name {
-                return Some(binding.bound);
+        match self.index.latest(name) {
+            Some(at) => {
+                let binding = self.bindings[at];
+                Some(binding.bound)
             }
+            None => None,
         }
-        None
     }
 }

@@ -18,8 +18,8 @@ use dae_base::Place;
 use dae_parse_nodes::{DoParts, Loop, Operand, no_declarations, no_specifiers, no_statements};
 use dae_parse_parts::{COMMA, CONDITIONAL, Read};
 use dae_parse_states::{
-    DeclarationFrame, Doing, ExpressionFrame, Frame, FunctionBody, Head, Inside, Machine,
-    SpecifiersFrame, StatementFrame, StatementKind, begins_specifiers,
+    DeclarationFrame, Doing, ExpressionFrame, FunctionBody, Head, Inside, Machine, SpecifiersFrame,
+    StatementFrame, StatementKind, begins_specifiers,
 };
 use dae_tree::{Keyword, Seen, Sign, Statement};
 use std::alloc::AllocError;
@@ -35,8 +35,8 @@ pub fn read_declaration(
         (block_begun i s machine.old.scope.names machine.old.rest)) }
 {
     if begins_specifiers(&machine.scope, &machine.rest) {
-        machine.push(Frame::Declaration(DeclarationFrame::InBlock(inside)))?;
-        machine.push(Frame::Specifiers(SpecifiersFrame::ForDeclaration(FunctionBody::Excluded)))?;
+        machine.push_declaration(DeclarationFrame::InBlock(inside))?;
+        machine.push_specifiers(SpecifiersFrame::ForDeclaration(FunctionBody::Excluded))?;
         let before = no_specifiers(machine.alloc);
         return Ok(Some(Doing::Specifying(Seen::nothing(), before)));
     }
@@ -65,7 +65,7 @@ pub fn read_block(
         let whole = block(machine.alloc, place, declarations, list)?;
         return Ok(Some(Doing::GaveStatement(whole, StatementKind::Block)));
     }
-    machine.push(Frame::Statement(StatementFrame::InStatements(inside, list)))?;
+    machine.push_statement(StatementFrame::InStatements(inside, list))?;
     Ok(Some(Doing::Stating))
 }
 
@@ -99,7 +99,7 @@ pub fn read_statement(machine: &mut Machine<'_>) -> Result<Option<Doing>, AllocE
 fn begin_evaluation(machine: &mut Machine<'_>) -> Result<Option<Doing>, AllocError>
     ensures { Steps machine.old result machine.new evaluation_begun }
 {
-    machine.push(Frame::Expression(ExpressionFrame::InEvaluation))?;
+    machine.push_expression(ExpressionFrame::InEvaluation)?;
     Ok(Some(Doing::Seek(COMMA)))
 }
 
@@ -116,12 +116,12 @@ fn read_statement_word(
     match word {
         Keyword::Do => {
             machine.rest.skip();
-            machine.push(Frame::Statement(StatementFrame::DoBody(place)))?;
+            machine.push_statement(StatementFrame::DoBody(place))?;
             Ok(Some(Doing::Stating))
         }
         Keyword::Case => {
             machine.rest.skip();
-            machine.push(Frame::Expression(ExpressionFrame::InCase(place)))?;
+            machine.push_expression(ExpressionFrame::InCase(place))?;
             Ok(Some(Doing::Seek(CONDITIONAL)))
         }
         Keyword::If => begin(machine, Doing::Opening(Head::If(place))),
@@ -156,7 +156,7 @@ pub fn read_test(machine: &mut Machine<'_>, head: Head) -> Result<Option<Doing>,
     let Some(paren) = machine.rest.take_sign(Sign::LeftParen) else {
         return Ok(None);
     };
-    machine.push(Frame::Expression(ExpressionFrame::InTest(head, paren)))?;
+    machine.push_expression(ExpressionFrame::InTest(head, paren))?;
     Ok(Some(Doing::Seek(COMMA)))
 }
 
@@ -184,30 +184,34 @@ pub fn read_loop_test(
         Steps machine.old result machine.new (loop_tested word paren a first) }
 {
     if let Some(second) = machine.rest.take_sign(Sign::Semicolon) {
-        return Ok(Some(Doing::Stepping(Loop {
+        let parts = Loop {
             word,
             paren,
             start,
             first,
             test: None,
             second,
-        })));
+        };
+        return Ok(Some(Doing::Stepping(Box::new(machine.alloc, parts)?)));
     }
-    machine.push(Frame::Expression(ExpressionFrame::InLoopTest(word, paren, start, first)))?;
+    machine.push_expression(ExpressionFrame::InLoopTest(word, paren, start, first))?;
     Ok(Some(Doing::Seek(COMMA)))
 }
 
 /// Behind the second semicolon of a `for`.
 #[tactic(auto, using(crate::proofs::OtherwiseStatements::stepped_otherwise))]
-pub fn read_loop_step(machine: &mut Machine<'_>, parts: Loop) -> Result<Option<Doing>, AllocError>
-    ensures { (a : plain.Loop) → ShowsLoop parts a →
+pub fn read_loop_step(
+    machine: &mut Machine<'_>,
+    parts: Box<Loop>,
+) -> Result<Option<Doing>, AllocError>
+    ensures { (a : plain.Loop) → ShowsLoop parts.value a →
         Steps machine.old result machine.new (stepped a) }
 {
     if machine.rest.take_sign(Sign::RightParen).is_some() {
-        machine.push(Frame::Statement(StatementFrame::ForBody(parts, None)))?;
+        machine.push_statement(StatementFrame::ForBody(parts, None))?;
         return Ok(Some(Doing::Stating));
     }
-    machine.push(Frame::Expression(ExpressionFrame::InStep(parts)))?;
+    machine.push_expression(ExpressionFrame::InStep(parts))?;
     Ok(Some(Doing::Seek(COMMA)))
 }
 
@@ -219,7 +223,7 @@ pub fn read_default(machine: &mut Machine<'_>, place: Place) -> Result<Option<Do
     if machine.rest.take_sign(Sign::Colon).is_none() {
         return Ok(None);
     }
-    machine.push(Frame::Statement(StatementFrame::DefaultBody(place)))?;
+    machine.push_statement(StatementFrame::DefaultBody(place))?;
     Ok(Some(Doing::Stating))
 }
 
@@ -235,7 +239,7 @@ pub fn read_loop_start(
     if let Some(first) = machine.rest.take_sign(Sign::Semicolon) {
         return Ok(Some(Doing::Testing(word, paren, None, first)));
     }
-    machine.push(Frame::Expression(ExpressionFrame::InStart(word, paren)))?;
+    machine.push_expression(ExpressionFrame::InStart(word, paren))?;
     Ok(Some(Doing::Seek(COMMA)))
 }
 
@@ -263,7 +267,7 @@ pub fn read_return(machine: &mut Machine<'_>, place: Place) -> Result<Option<Doi
         let whole = return_statement(machine.alloc, place, None, end)?;
         return Ok(Some(Doing::GaveStatement(whole, StatementKind::Other)));
     }
-    machine.push(Frame::Expression(ExpressionFrame::InReturn(place)))?;
+    machine.push_expression(ExpressionFrame::InReturn(place))?;
     Ok(Some(Doing::Seek(COMMA)))
 }
 

@@ -16,7 +16,7 @@ use crate::nodes::{
 use dae_base::Place;
 use dae_parse_nodes::{Loop, Operand};
 use dae_parse_parts::Read;
-use dae_parse_states::{Doing, Frame, Head, Inside, Machine, StatementFrame, StatementKind};
+use dae_parse_states::{Doing, Head, Inside, Machine, StatementFrame, StatementKind};
 use dae_tree::{Keyword, Statement};
 use std::alloc::AllocError;
 
@@ -33,7 +33,7 @@ pub fn then_branch(
         Steps machine.old result machine.new (statement_given b (plain.then_branch place paren e)) }
 {
     if machine.rest.take_word(Keyword::Else).is_some() {
-        machine.push(Frame::Statement(StatementFrame::ElseBranch(place, paren, test, found)))?;
+        machine.push_statement(StatementFrame::ElseBranch(place, paren, test, found))?;
         return Ok(Some(Doing::Stating));
     }
     let whole = if_statement(machine.alloc, place, paren, test, found)?;
@@ -108,14 +108,14 @@ pub fn do_body(
 pub fn for_body(
     machine: &mut Machine<'_>,
     found: Read<Box<Statement>>,
-    parts: Loop,
+    parts: Box<Loop>,
     step: Option<Operand>,
 ) -> Result<Option<Doing>, AllocError>
     ensures { (b : StatementTree) (l : plain.Loop) (e : Option Expression) → ShowsStatement found b
-        → ShowsLoop parts l → ShowsOptional step e
+        → ShowsLoop parts.value l → ShowsOptional step e
         → Steps machine.old result machine.new (statement_given b (plain.for_body l e)) }
 {
-    let whole = for_statement(machine.alloc, parts, step, found)?;
+    let whole = for_statement(machine.alloc, Box::into_inner(parts), step, found)?;
     Ok(Some(Doing::GaveStatement(whole, StatementKind::Other)))
 }
 

@@ -12,7 +12,7 @@ ghost use Rattle.dae_parse_states.specs.States.{Steps};
 use crate::nodes::{evaluation, return_statement};
 use dae_base::Place;
 use dae_parse_nodes::{DoParts, Loop, Operand};
-use dae_parse_states::{Doing, Frame, Head, Machine, StatementFrame, StatementKind};
+use dae_parse_states::{Doing, Head, Machine, StatementFrame, StatementKind};
 use dae_tree::Sign;
 use std::alloc::AllocError;
 
@@ -47,15 +47,13 @@ pub fn in_test(
         return Ok(None);
     }
     match head {
-        Head::If(place) => machine.push(Frame::Statement(StatementFrame::ThenBranch(
+        Head::If(place) => machine.push_statement(StatementFrame::ThenBranch(place, paren, test))?,
+        Head::While(place) => machine.push_statement(StatementFrame::WhileBody(
             place, paren, test,
-        )))?,
-        Head::While(place) => machine.push(Frame::Statement(StatementFrame::WhileBody(
+        ))?,
+        Head::Switch(place) => machine.push_statement(StatementFrame::SwitchBody(
             place, paren, test,
-        )))?,
-        Head::Switch(place) => machine.push(Frame::Statement(StatementFrame::SwitchBody(
-            place, paren, test,
-        )))?,
+        ))?,
         Head::Do(place, body, word) => {
             return Ok(Some(Doing::Finishing(DoParts {
                 place,
@@ -104,14 +102,15 @@ pub fn in_loop_test(
         return Ok(None);
     };
     let test = Some(test);
-    Ok(Some(Doing::Stepping(Loop {
+    let parts = Loop {
         word,
         paren,
         start,
         first,
         test,
         second,
-    })))
+    };
+    Ok(Some(Doing::Stepping(Box::new(machine.alloc, parts)?)))
 }
 
 /// Behind the third expression of a `for` (C90 6.6.5.3).
@@ -119,15 +118,15 @@ pub fn in_loop_test(
 pub fn in_step(
     machine: &mut Machine<'_>,
     step: Operand,
-    parts: Loop,
+    parts: Box<Loop>,
 ) -> Result<Option<Doing>, AllocError>
-    ensures { (e : Expression) (l : plain.Loop) → ShowsOperand step e → ShowsLoop parts l →
+    ensures { (e : Expression) (l : plain.Loop) → ShowsOperand step e → ShowsLoop parts.value l →
         Steps machine.old result machine.new (expression_given e (plain.in_step l)) }
 {
     if machine.rest.take_sign(Sign::RightParen).is_none() {
         return Ok(None);
     }
-    machine.push(Frame::Statement(StatementFrame::ForBody(parts, Some(step))))?;
+    machine.push_statement(StatementFrame::ForBody(parts, Some(step)))?;
     Ok(Some(Doing::Stating))
 }
 
@@ -161,6 +160,6 @@ pub fn in_case(
     if machine.rest.take_sign(Sign::Colon).is_none() {
         return Ok(None);
     }
-    machine.push(Frame::Statement(StatementFrame::CaseBody(place, value)))?;
+    machine.push_statement(StatementFrame::CaseBody(place, value))?;
     Ok(Some(Doing::Stating))
 }

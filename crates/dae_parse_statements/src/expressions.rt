@@ -13,7 +13,7 @@ use dae_parse_nodes::{
     parenthesised, prefix, sizeof_expression, with_argument,
 };
 use dae_parse_parts::{ASSIGNMENT, CONDITIONAL, Read};
-use dae_parse_states::{Doing, ExpressionFrame, Frame, Machine};
+use dae_parse_states::{Doing, ExpressionFrame, Machine};
 use dae_tree::{AssignmentOperator, BinaryOperator, Expression, PrefixOperator, Sign};
 use std::alloc::AllocError;
 
@@ -98,7 +98,7 @@ pub fn behind_question(
     if machine.rest.take_sign(Sign::Colon).is_none() {
         return Ok(None);
     }
-    machine.push(Frame::Expression(ExpressionFrame::BehindColon(test, place, a, level)))?;
+    machine.push_expression(ExpressionFrame::BehindColon(test, place, a, level))?;
     Ok(Some(Doing::Seek(CONDITIONAL)))
 }
 
@@ -119,9 +119,7 @@ pub fn in_arguments(
 {
     let arguments = with_argument(before, a)?;
     if machine.rest.take_sign(Sign::Comma).is_some() {
-        machine.push(Frame::Expression(ExpressionFrame::InArguments(
-            callee, place, arguments, level,
-        )))?;
+        machine.push_expression(ExpressionFrame::InArguments(callee, place, arguments, level))?;
         return Ok(Some(Doing::Seek(ASSIGNMENT)));
     }
     if machine.rest.take_sign(Sign::RightParen).is_none() {

@@ -1,12 +1,13 @@
 // Nodes of statements.
 
-ghost use Rattle.std.specs.Prelude.{◌≡◌, List, [], ◌∷◌, Option, Some, None, IfOk};
+ghost use Rattle.std.specs.Prelude.{List, [], ◌∷◌, Option, Some, None, IfOk};
 ghost use Rattle.dae_tree.specs.Trees as tree;
+ghost use Rattle.dae_tree.specs.Views.{view_optional};
 ghost use Rattle.dae_parse_grammar.specs.Frames as frames;
 ghost use Rattle.dae_parse_grammar.specs.Machine.{for_of, onto, statements_onto};
 ghost use Rattle.dae_parse_grammar.specs.FirstPlaces.{firsts_optional};
-ghost use Rattle.dae_parse_parts.specs.Shown.{Shows, box_value};
-ghost use Rattle.dae_parse_nodes.specs.Parts.{view_boxed, ShowsOperand, ShowsOptional, ShowsDeclarations, ShowsStatement, ShowsStatements, ShowsLoop};
+ghost use Rattle.dae_parse_parts.specs.Shown.{Shows};
+ghost use Rattle.dae_parse_nodes.specs.Parts.{ShowsOperand, ShowsOptional, ShowsDeclarations, ShowsStatement, ShowsStatements, ShowsLoop};
 
 use dae_base::Place;
 use dae_parse_nodes::{DoParts, Loop, Operand};
@@ -56,7 +57,6 @@ pub fn empty_statement(alloc: Global, place: Place) -> Result<Read<Box<Statement
     ensures { IfOk result (λ r. ShowsStatement r (tree.Nothing place)) }
 {
     over(
-        alloc,
         place,
         flat(alloc, Box::new(alloc, Statement::Empty(place))?),
     )
@@ -72,19 +72,8 @@ pub fn evaluation(
         → IfOk result (λ r. ShowsStatement r (tree.Evaluate e end)) }
 {
     node(alloc, operand.place, operand.read, |expression| {
-        Statement::Evaluate(Box::into_inner(expression), end)
+        Statement::Evaluate(expression, end)
     })
-}
-
-/// A test in parentheses, the first of them at this place.
-fn test_at(place: Place, expression: Box<Expression>) -> Test
-    ensures place { result.place ≡ place }
-    ensures expression { result.expression ≡ expression.value }
-{
-    Test {
-        place,
-        expression: Box::into_inner(expression),
-    }
 }
 
 /// `if` without `else` (C90 6.6.4.1).
@@ -100,7 +89,11 @@ pub fn if_statement(
 {
     let parts = beside(test.read, body)?;
     node(alloc, place, parts, |(expression, body)| {
-        Statement::If(place, test_at(paren, expression), body)
+        let test = Test {
+            place: paren,
+            expression,
+        };
+        Statement::If(place, test, body)
     })
 }
 
@@ -120,7 +113,11 @@ pub fn if_else_statement(
     let rest = beside(then, other)?;
     let parts = beside(test.read, rest)?;
     node(alloc, place, parts, |(expression, (then, other))| {
-        Statement::IfElse(place, test_at(paren, expression), then, other)
+        let test = Test {
+            place: paren,
+            expression,
+        };
+        Statement::IfElse(place, test, then, other)
     })
 }
 
@@ -138,7 +135,11 @@ pub fn switch_statement(
 {
     let parts = beside(test.read, body)?;
     node(alloc, place, parts, |(expression, body)| {
-        Statement::Switch(place, test_at(paren, expression), body)
+        let test = Test {
+            place: paren,
+            expression,
+        };
+        Statement::Switch(place, test, body)
     })
 }
 
@@ -155,7 +156,11 @@ pub fn while_statement(
 {
     let parts = beside(test.read, body)?;
     node(alloc, place, parts, |(expression, body)| {
-        Statement::While(place, test_at(paren, expression), body)
+        let test = Test {
+            place: paren,
+            expression,
+        };
+        Statement::While(place, test, body)
     })
 }
 
@@ -179,14 +184,18 @@ pub fn do_statement(
     } = parts;
     let parts = beside(body, test.read)?;
     node(alloc, place, parts, |(body, expression)| {
-        Statement::Do(place, body, word, test_at(paren, expression), end)
+        let test = Test {
+            place: paren,
+            expression,
+        };
+        Statement::Do(place, body, word, test, end)
     })
 }
 
 /// An operand that may be lacking, as a part.
 fn optional(alloc: Global, operand: Option<Operand>) -> Read<Option<Box<Expression>>>
     ensures { (e : Option tree.Expression) → ShowsOptional operand e
-        → Shows view_boxed firsts_optional result e }
+        → Shows view_optional firsts_optional result e }
 {
     match operand {
         Some(operand) => {
@@ -198,16 +207,6 @@ fn optional(alloc: Global, operand: Option<Operand>) -> Read<Option<Box<Expressi
             Read { tree, depths }
         }
         None => flat(alloc, None),
-    }
-}
-
-/// An expression that may be lacking, out of its box.
-fn unboxed_expression(expression: Option<Box<Expression>>) -> Option<Expression>
-    ensures { result ≡ box_value expression }
-{
-    match expression {
-        Some(expression) => Some(Box::into_inner(expression)),
-        None => None,
     }
 }
 
@@ -238,11 +237,11 @@ pub fn for_statement(
     let parts = beside(start, rest)?;
     node(alloc, word, parts, |(start, (test, (step, body)))| {
         let heading = Heading {
-            start: unboxed_expression(start),
+            start,
             after_start: first,
-            test: unboxed_expression(test),
+            test,
             after_test: second,
-            step: unboxed_expression(step),
+            step,
         };
         Statement::For(word, paren, heading, body)
     })
@@ -257,7 +256,6 @@ pub fn break_statement(
     ensures { IfOk result (λ r. ShowsStatement r (tree.Break place end)) }
 {
     over(
-        alloc,
         place,
         flat(alloc, Box::new(alloc, Statement::Break(place, end))?),
     )
@@ -272,7 +270,6 @@ pub fn continue_statement(
     ensures { IfOk result (λ r. ShowsStatement r (tree.Continue place end)) }
 {
     over(
-        alloc,
         place,
         flat(alloc, Box::new(alloc, Statement::Continue(place, end))?),
     )
@@ -289,7 +286,7 @@ pub fn return_statement(
         → IfOk result (λ r. ShowsStatement r (tree.Return place e end)) }
 {
     node(alloc, place, optional(alloc, value), |value| {
-        Statement::Return(place, unboxed_expression(value), end)
+        Statement::Return(place, value, end)
     })
 }
 
@@ -305,7 +302,7 @@ pub fn case_statement(
 {
     let parts = beside(value.read, body)?;
     node(alloc, place, parts, |(value, body)| {
-        Statement::Case(place, Box::into_inner(value), body)
+        Statement::Case(place, value, body)
     })
 }
 

@@ -14,7 +14,7 @@ use dae_base::Place;
 use dae_parse_nodes::{Operand, call, constant, identifier, literal, no_arguments, no_specifiers};
 use dae_parse_parts::{ASSIGNMENT, CAST, COMMA, UNARY, operand_level, prefix_operator};
 use dae_parse_states::{
-    Doing, ExpressionFrame, Frame, Machine, SpecifiersFrame, begins_specifiers, is_type,
+    Doing, ExpressionFrame, Machine, SpecifiersFrame, begins_specifiers, is_type,
 };
 use dae_tree::{Keyword, Kind, Name, Seen, Sign};
 use std::alloc::AllocError;
@@ -75,7 +75,7 @@ fn seek_sign(
         return Ok(None);
     };
     machine.rest.skip();
-    machine.push(Frame::Expression(ExpressionFrame::BehindPrefix(place, operator, level)))?;
+    machine.push_expression(ExpressionFrame::BehindPrefix(place, operator, level))?;
     Ok(Some(Doing::Seek(operand_level(operator))))
 }
 
@@ -90,11 +90,11 @@ fn seek_parenthesis(
 {
     machine.rest.skip();
     if level >= CAST && begins_specifiers(&machine.scope, &machine.rest) {
-        machine.push(Frame::Specifiers(SpecifiersFrame::ForCast(place, level)))?;
+        machine.push_specifiers(SpecifiersFrame::ForCast(place, level))?;
         let before = no_specifiers(machine.alloc);
         return Ok(Some(Doing::Specifying(Seen::nothing(), before)));
     }
-    machine.push(Frame::Expression(ExpressionFrame::InParentheses(place, level)))?;
+    machine.push_expression(ExpressionFrame::InParentheses(place, level))?;
     Ok(Some(Doing::Seek(COMMA)))
 }
 
@@ -109,12 +109,12 @@ pub fn read_sizeof(
     let inner = machine.rest.behind();
     if begins_specifiers(&machine.scope, &inner) {
         if let Some(paren) = machine.rest.take_sign(Sign::LeftParen) {
-            machine.push(Frame::Specifiers(SpecifiersFrame::ForSizeof(place, paren, level)))?;
+            machine.push_specifiers(SpecifiersFrame::ForSizeof(place, paren, level))?;
             let before = no_specifiers(machine.alloc);
             return Ok(Some(Doing::Specifying(Seen::nothing(), before)));
         }
     }
-    machine.push(Frame::Expression(ExpressionFrame::BehindSizeof(place, level)))?;
+    machine.push_expression(ExpressionFrame::BehindSizeof(place, level))?;
     Ok(Some(Doing::Seek(UNARY)))
 }
 
@@ -133,6 +133,6 @@ pub fn read_call(
         let whole = call(machine.alloc, callee, place, none)?;
         return Ok(Some(Doing::Operated(whole, level)));
     }
-    machine.push(Frame::Expression(ExpressionFrame::InArguments(callee, place, none, level)))?;
+    machine.push_expression(ExpressionFrame::InArguments(callee, place, none, level))?;
     Ok(Some(Doing::Seek(ASSIGNMENT)))
 }

@@ -12,7 +12,7 @@ ghost use Rattle.dae_parse_states.specs.States.{Steps};
 use dae_base::Place;
 use dae_parse_nodes::{Operand, member, postfix};
 use dae_parse_parts::{ASSIGNMENT, COMMA, begun_by, left_level, reach, under};
-use dae_parse_states::{Doing, ExpressionFrame, Frame, Machine};
+use dae_parse_states::{Doing, ExpressionFrame, Machine};
 use dae_tree::{Kind, MemberOperator, Operation, Sign};
 use std::alloc::AllocError;
 
@@ -51,7 +51,7 @@ fn read_comma(
         return Ok(Some(Doing::Gave(operand)));
     }
     machine.rest.skip();
-    machine.push(Frame::Expression(ExpressionFrame::BehindComma(operand, level)))?;
+    machine.push_expression(ExpressionFrame::BehindComma(operand, level))?;
     Ok(Some(Doing::Seek(ASSIGNMENT)))
 }
 
@@ -87,7 +87,7 @@ fn operate(
 {
     match operation {
         Operation::Subscript => {
-            machine.push(Frame::Expression(ExpressionFrame::InIndex(operand, place, level)))?;
+            machine.push_expression(ExpressionFrame::InIndex(operand, place, level))?;
             Ok(Some(Doing::Seek(COMMA)))
         }
         Operation::Call => Ok(Some(Doing::Calling(operand, place, level))),
@@ -97,21 +97,19 @@ fn operate(
             Ok(Some(Doing::Operated(whole, level)))
         }
         Operation::Binary(operator) => {
-            machine.push(Frame::Expression(ExpressionFrame::BehindBinary(
+            machine.push_expression(ExpressionFrame::BehindBinary(
                 operand, place, operator, level,
-            )))?;
+            ))?;
             Ok(Some(Doing::Seek(under(operator))))
         }
         Operation::Choice => {
-            machine.push(Frame::Expression(ExpressionFrame::BehindQuestion(
-                operand, place, level,
-            )))?;
+            machine.push_expression(ExpressionFrame::BehindQuestion(operand, place, level))?;
             Ok(Some(Doing::Seek(COMMA)))
         }
         Operation::Assignment(operator) => {
-            machine.push(Frame::Expression(ExpressionFrame::BehindAssignment(
+            machine.push_expression(ExpressionFrame::BehindAssignment(
                 operand, place, operator, level,
-            )))?;
+            ))?;
             Ok(Some(Doing::Seek(ASSIGNMENT)))
         }
         Operation::Ends => Ok(None),

@@ -1,5 +1,6 @@
 -- What the machine's frames show of those of the grammar's machine.
-use Rattle.std.specs.Prelude.{◌≡◌, ℕ, Bool, true, false, List, [], ◌∷◌, Option, Some, None, length}
+use Rattle.std.specs.Prelude.{◌≡◌, ℕ, Bool, true, false, List, [], ◌∷◌, Option, Some, None, Box, length}
+use Rattle.std.specs.declared.alloc.Global.{Global}
 use Rattle.dae_tree.specs.Grammar as manners
 use Rattle.dae_tree.specs.Depth.{first_too_long}
 use Rattle.dae_tree.specs.Trees.{no_specifiers}
@@ -37,8 +38,8 @@ use Rattle.dae_parse_states.specs.declared.frames.DeclarationFrame.{DeclarationF
 use Rattle.dae_parse_states.specs.declared.frames.DeclarationFrame.TheVariants as declaration
 use Rattle.dae_parse_states.specs.declared.frames.StatementFrame.{StatementFrame}
 use Rattle.dae_parse_states.specs.declared.frames.StatementFrame.TheVariants as statement
-use Rattle.dae_parse_states.specs.declared.frames.Frame.{Frame}
-use Rattle.dae_parse_states.specs.declared.frames.Frame.TheVariants as frame
+use Rattle.dae_parse_states.specs.Kept.{Frame}
+use Rattle.dae_parse_states.specs.Kept as frame
 use Rattle.dae_parse_states.specs.declared.frames.Doing.{Doing}
 use Rattle.dae_parse_states.specs.declared.frames.Doing.TheVariants as doing
 
@@ -65,12 +66,12 @@ is_allowed function_body.Excluded = false
 abbrev pub ShowsBefore : Specified → List tree.Specifier → Type 0
 ShowsBefore s before = ShowsSpecified s (specifiers_onto before no_specifiers)
 
-pub record ShowsBody (b : Body) (a : plain.Body) : Type 0 where
-  pub place : b.place ≡ a.place
-  pub tag : b.tag ≡ a.tag
-  pub brace : b.brace ≡ a.brace
-  pub seen : b.seen ≡ a.seen
-  pub before : ShowsBefore b.before a.before
+pub record ShowsBody (b : Box Body Global) (a : plain.Body) : Type 0 where
+  pub place : b.value.place ≡ a.place
+  pub tag : b.value.tag ≡ a.tag
+  pub brace : b.value.brace ≡ a.brace
+  pub seen : b.value.seen ≡ a.seen
+  pub before : ShowsBefore b.value.before a.before
 
 pub record ShowsOpen (o : Open) (a : plain.Open) : Type 0 where
   pub declared : ShowsDeclared o.declared a.declarator
@@ -116,7 +117,7 @@ ShowsExpressionFrame expression.InEvaluation plain.in_evaluation = Unit {0}
 ShowsExpressionFrame (expression.InTest h p) (plain.in_test a q) = ShowsHead h a × (p ≡ q)
 ShowsExpressionFrame (expression.InStart p r) (plain.in_start q u) = (p ≡ q) × (r ≡ u)
 ShowsExpressionFrame (expression.InLoopTest p r a v) (plain.in_loop_test q u e w) = (p ≡ q) × (r ≡ u) × ShowsOptional a e × (v ≡ w)
-ShowsExpressionFrame (expression.InStep l) (plain.in_step a) = ShowsLoop l a
+ShowsExpressionFrame (expression.InStep l) (plain.in_step a) = ShowsLoop l.value a
 ShowsExpressionFrame (expression.InReturn p) (plain.in_return q) = p ≡ q
 ShowsExpressionFrame (expression.InCase p) (plain.in_case q) = p ≡ q
 ShowsExpressionFrame _ _ = ⊥
@@ -155,7 +156,7 @@ ShowsStatementFrame (statement.ElseBranch p r a b) (plain.else_branch q u e c) =
 ShowsStatementFrame (statement.WhileBody p r a) (plain.while_body q u e) = (p ≡ q) × (r ≡ u) × ShowsOperand a e
 ShowsStatementFrame (statement.SwitchBody p r a) (plain.switch_body q u e) = (p ≡ q) × (r ≡ u) × ShowsOperand a e
 ShowsStatementFrame (statement.DoBody p) (plain.do_body q) = p ≡ q
-ShowsStatementFrame (statement.ForBody l a) (plain.for_body k e) = ShowsLoop l k × ShowsOptional a e
+ShowsStatementFrame (statement.ForBody l a) (plain.for_body k e) = ShowsLoop l.value k × ShowsOptional a e
 ShowsStatementFrame (statement.CaseBody p a) (plain.case_body q e) = (p ≡ q) × ShowsOperand a e
 ShowsStatementFrame (statement.DefaultBody p) (plain.default_body q) = p ≡ q
 ShowsStatementFrame (statement.InStatements i ss) (plain.in_statements a before) = ShowsInside i a × ShowsStatements ss before
@@ -212,7 +213,7 @@ ShowsDoing (doing.Finishing d) (plain.finishing q c u w e) = (d.place ≡ q) × 
 ShowsDoing (doing.Looping p) (plain.looping q) = p ≡ q
 ShowsDoing (doing.Starting p r) (plain.starting q u) = (p ≡ q) × (r ≡ u)
 ShowsDoing (doing.Testing p r a v) (plain.testing q u e w) = (p ≡ q) × (r ≡ u) × ShowsOptional a e × (v ≡ w)
-ShowsDoing (doing.Stepping l) (plain.stepping a) = ShowsLoop l a
+ShowsDoing (doing.Stepping l) (plain.stepping a) = ShowsLoop l.value a
 ShowsDoing (doing.Returning p) (plain.returning q) = p ≡ q
 ShowsDoing (doing.Breaking p) (plain.breaking q) = p ≡ q
 ShowsDoing (doing.Continuing p) (plain.continuing q) = p ≡ q

@@ -1,12 +1,13 @@
 -- What the machine's state shows of a state of the grammar's machine.
-use Rattle.std.specs.Prelude.{◌≡◌, List, [], ◌∷◌, Option, Some, None, Result, IfOk, reverse}
+use Rattle.std.specs.Prelude.{◌≡◌, List, [], ◌∷◌, map, Option, Some, None, Result, IfOk, reverse}
 use Rattle.std.specs.declared.alloc.AllocError.{AllocError}
 use Rattle.dae_tree.specs.Marks.{Mark}
 use Rattle.dae_tree.specs.Names.{Names}
 use Rattle.dae_parse_grammar.specs.Frames as plain
 use Rattle.dae_parse_parts.specs.Scopes.{Scopes}
 use Rattle.dae_parse_states.specs.Frames.{ShowsDoing, ShowsStack}
-use Rattle.dae_parse_states.specs.declared.frames.Frame.{Frame}
+use Rattle.dae_parse_states.specs.declared.frames.Frame.{Frame as FrameInMemory}
+use Rattle.dae_parse_states.specs.Kept.{Frame, out_of_box}
 use Rattle.dae_parse_states.specs.declared.frames.Doing.{Doing}
 use Rattle.dae_parse_states.specs.declared.machine.Machine.{Machine}
 
@@ -30,12 +31,12 @@ outside_doing _ os = os
 
 -- the frames, the top first
 abbrev pub frames_of : Machine → List Frame
-frames_of m = reverse m.stack.items
+frames_of m = map out_of_box (reverse m.stack.items)
 
 -- the top frame was taken, or none was there
-abbrev pub Popped : Option Frame → List Frame → List Frame → Type 0
+abbrev pub Popped : Option FrameInMemory → List Frame → List Frame → Type 0
 Popped None old new = old ≡ []
-Popped (Some f) old new = old ≡ f ∷ new
+Popped (Some f) old new = old ≡ out_of_box f ∷ new
 
 -- the top frame was one of a kind and was taken, or it was none of that kind
 abbrev pub PoppedOf : {A : Type 0} → (A → Frame) → Option A → List Frame → List Frame → Type 0

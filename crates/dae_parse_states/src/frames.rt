@@ -91,13 +91,13 @@ pub enum ExpressionFrame {
     BehindAssignment(Operand, Place, AssignmentOperator, u8),
     BehindComma(Operand, u8),
     InSize(Declared, Place, Manner),
-    InEnumerator(Body, Read<Vec<Enumerator>>, Name, Place),
+    InEnumerator(Box<Body>, Read<Vec<Enumerator>>, Name, Place),
     InValue,
     InEvaluation,
     InTest(Head, Place),
     InStart(Place, Place),
     InLoopTest(Place, Place, Option<Operand>, Place),
-    InStep(Loop),
+    InStep(Box<Loop>),
     InReturn(Place),
     InCase(Place),
 }
@@ -108,7 +108,7 @@ pub enum SpecifiersFrame {
     ForCast(Place, u8),
     ForSizeof(Place, Place, u8),
     ForParameter(Open, ParameterList),
-    ForMember(Body, Read<Vec<Member>>),
+    ForMember(Box<Body>, Read<Vec<Member>>),
     ForDeclaration(FunctionBody),
 }
 
@@ -120,7 +120,7 @@ pub enum DeclaratorFrame {
     OfCast(Place, Specified, u8),
     OfSizeof(Place, Place, Specified, u8),
     OfParameter(Open, ParameterList, Specified),
-    OfMember(Body, Read<Vec<Member>>, Specified, Read<Vec<Declarator>>),
+    OfMember(Box<Body>, Read<Vec<Member>>, Specified, Read<Vec<Declarator>>),
     OfItem(FunctionBody, Specified, Read<Vec<Item>>),
 }
 
@@ -146,7 +146,7 @@ pub enum StatementFrame {
     WhileBody(Place, Place, Operand),
     SwitchBody(Place, Place, Operand),
     DoBody(Place),
-    ForBody(Loop, Option<Operand>),
+    ForBody(Box<Loop>, Option<Operand>),
     CaseBody(Place, Operand),
     DefaultBody(Place),
     InStatements(Inside, Read<Vec<Statement>>),
@@ -156,12 +156,12 @@ pub enum StatementFrame {
 /// What comes behind a part that is read, by what it awaits.
 #[derive(Drop)]
 pub enum Frame {
-    Expression(ExpressionFrame),
-    Specifiers(SpecifiersFrame),
-    Declarator(DeclaratorFrame),
-    Initialiser(InitialiserFrame),
-    Declaration(DeclarationFrame),
-    Statement(StatementFrame),
+    Expression(Box<ExpressionFrame>),
+    Specifiers(Box<SpecifiersFrame>),
+    Declarator(Box<DeclaratorFrame>),
+    Initialiser(Box<InitialiserFrame>),
+    Declaration(Box<DeclarationFrame>),
+    Statement(Box<StatementFrame>),
 }
 
 /// What the machine does.
@@ -175,11 +175,11 @@ pub enum Doing {
     Specifying(Seen, Specified),
     Tagging(TagKind, Place, Seen, Specified),
     Tagged(TagKind, Place, Name, Seen, Specified),
-    Membering(Body, Read<Vec<Member>>),
-    Enumerating(Body, Read<Vec<Enumerator>>),
-    Enumerated(Body, Read<Vec<Enumerator>>, Name),
-    Entered(Body, Read<Vec<Enumerator>>),
-    Entering(Body, Read<Vec<Enumerator>>),
+    Membering(Box<Body>, Read<Vec<Member>>),
+    Enumerating(Box<Body>, Read<Vec<Enumerator>>),
+    Enumerated(Box<Body>, Read<Vec<Enumerator>>, Name),
+    Entered(Box<Body>, Read<Vec<Enumerator>>),
+    Entering(Box<Body>, Read<Vec<Enumerator>>),
     GaveSpecifiers(Specified),
     Declaring(Manner, Presence),
     Qualifying(Manner, Place, Vec<Place>),
@@ -201,7 +201,7 @@ pub enum Doing {
     Looping(Place),
     Starting(Place, Place),
     Testing(Place, Place, Option<Operand>, Place),
-    Stepping(Loop),
+    Stepping(Box<Loop>),
     Returning(Place),
     Breaking(Place),
     Continuing(Place),

@@ -16,4 +16,5 @@ mod frames;
 mod machine;
 mod names;
 mod popping;
+mod pushing;
 mod rest;

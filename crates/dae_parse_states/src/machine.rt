@@ -5,6 +5,7 @@ ghost use Rattle.dae_tree.specs.Names.{with_declarator};
 ghost use Rattle.dae_tree.specs.Trees.{Declarator};
 ghost use Rattle.dae_parse_nodes.specs.Parts.{number_of};
 ghost use Rattle.dae_tree.specs.Names.{declared_name};
+ghost use Rattle.dae_parse_states.specs.Kept.{out_of_box};
 ghost use Rattle.dae_parse_states.specs.States.{frames_of, Popped};
 
 use crate::frames::Frame;
@@ -24,9 +25,10 @@ pub struct Machine<'t> {
 
 impl<'t> Machine<'t> {
     /// Puts a frame on the stack.
-    #[tactic(auto, using(crate::proofs::Stacks::reverse_more))]
-    pub fn push(&mut self, frame: Frame) -> Result<(), AllocError>
-        ensures stack { IfOk result (λ _. frames_of self.new ≡ frame ∷ frames_of self.old) }
+    #[tactic(auto, using(crate::proofs::Stacks::stack_more))]
+    pub(crate) fn push(&mut self, frame: Frame) -> Result<(), AllocError>
+        ensures stack { IfOk result
+            (λ _. frames_of self.new ≡ out_of_box frame ∷ frames_of self.old) }
         ensures scope { self.new.scope ≡ self.old.scope }
         ensures rest { self.new.rest ≡ self.old.rest }
     {
@@ -35,8 +37,8 @@ impl<'t> Machine<'t> {
     }
 
     /// Takes the top frame off the stack.
-    #[tactic(auto, using(crate::proofs::Stacks::reverse_more))]
-    pub fn pop(&mut self) -> Option<Frame>
+    #[tactic(auto, using(crate::proofs::Stacks::stack_more))]
+    pub(crate) fn pop(&mut self) -> Option<Frame>
         ensures stack { Popped result (frames_of self.old) (frames_of self.new) }
         ensures scope { self.new.scope ≡ self.old.scope }
         ensures rest { self.new.rest ≡ self.old.rest }

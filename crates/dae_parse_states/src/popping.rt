@@ -1,6 +1,6 @@
 // The top frame taken off the machine's stack by what it awaits.
 ghost use Rattle.std.specs.Prelude.{◌≡◌};
-ghost use Rattle.dae_parse_states.specs.declared.frames.Frame.TheVariants as frame;
+ghost use Rattle.dae_parse_states.specs.Kept as frame;
 ghost use Rattle.dae_parse_states.specs.States.{frames_of, PoppedOf};
 
 use crate::frames::{
@@ -11,13 +11,14 @@ use crate::machine::Machine;
 
 impl<'t> Machine<'t> {
     /// Takes the top frame off the stack, where it awaits an expression. One that awaits something else is dropped.
+    #[tactic(auto, using(crate::proofs::Stacks::not_expression))]
     pub fn pop_expression(&mut self) -> Option<ExpressionFrame>
         ensures stack { PoppedOf frame.Expression result (frames_of self.old) (frames_of self.new) }
         ensures scope { self.new.scope ≡ self.old.scope }
         ensures rest { self.new.rest ≡ self.old.rest }
     {
         match self.pop() {
-            Some(Frame::Expression(frame)) => Some(frame),
+            Some(Frame::Expression(frame)) => Some(Box::into_inner(frame)),
             other => {
                 drop(other);
                 None
@@ -26,13 +27,14 @@ impl<'t> Machine<'t> {
     }
 
     /// Takes the top frame off the stack, where it awaits specifiers. One that awaits something else is dropped.
+    #[tactic(auto, using(crate::proofs::Stacks::not_specifiers))]
     pub fn pop_specifiers(&mut self) -> Option<SpecifiersFrame>
         ensures stack { PoppedOf frame.Specifiers result (frames_of self.old) (frames_of self.new) }
         ensures scope { self.new.scope ≡ self.old.scope }
         ensures rest { self.new.rest ≡ self.old.rest }
     {
         match self.pop() {
-            Some(Frame::Specifiers(frame)) => Some(frame),
+            Some(Frame::Specifiers(frame)) => Some(Box::into_inner(frame)),
             other => {
                 drop(other);
                 None
@@ -41,13 +43,14 @@ impl<'t> Machine<'t> {
     }
 
     /// Takes the top frame off the stack, where it awaits a declarator. One that awaits something else is dropped.
+    #[tactic(auto, using(crate::proofs::Stacks::not_declarator))]
     pub fn pop_declarator(&mut self) -> Option<DeclaratorFrame>
         ensures stack { PoppedOf frame.Declarator result (frames_of self.old) (frames_of self.new) }
         ensures scope { self.new.scope ≡ self.old.scope }
         ensures rest { self.new.rest ≡ self.old.rest }
     {
         match self.pop() {
-            Some(Frame::Declarator(frame)) => Some(frame),
+            Some(Frame::Declarator(frame)) => Some(Box::into_inner(frame)),
             other => {
                 drop(other);
                 None
@@ -56,6 +59,7 @@ impl<'t> Machine<'t> {
     }
 
     /// Takes the top frame off the stack, where it awaits an initialiser. One that awaits something else is dropped.
+    #[tactic(auto, using(crate::proofs::Stacks::not_initialiser))]
     pub fn pop_initialiser(&mut self) -> Option<InitialiserFrame>
         ensures stack { PoppedOf frame.Initialiser result
             (frames_of self.old) (frames_of self.new) }
@@ -63,7 +67,7 @@ impl<'t> Machine<'t> {
         ensures rest { self.new.rest ≡ self.old.rest }
     {
         match self.pop() {
-            Some(Frame::Initialiser(frame)) => Some(frame),
+            Some(Frame::Initialiser(frame)) => Some(Box::into_inner(frame)),
             other => {
                 drop(other);
                 None
@@ -72,6 +76,7 @@ impl<'t> Machine<'t> {
     }
 
     /// Takes the top frame off the stack, where it awaits a declaration. One that awaits something else is dropped.
+    #[tactic(auto, using(crate::proofs::Stacks::not_declaration))]
     pub fn pop_declaration(&mut self) -> Option<DeclarationFrame>
         ensures stack { PoppedOf frame.Declaration result
             (frames_of self.old) (frames_of self.new) }
@@ -79,7 +84,7 @@ impl<'t> Machine<'t> {
         ensures rest { self.new.rest ≡ self.old.rest }
     {
         match self.pop() {
-            Some(Frame::Declaration(frame)) => Some(frame),
+            Some(Frame::Declaration(frame)) => Some(Box::into_inner(frame)),
             other => {
                 drop(other);
                 None
@@ -88,13 +93,14 @@ impl<'t> Machine<'t> {
     }
 
     /// Takes the top frame off the stack, where it awaits a statement. One that awaits something else is dropped.
+    #[tactic(auto, using(crate::proofs::Stacks::not_statement))]
     pub fn pop_statement(&mut self) -> Option<StatementFrame>
         ensures stack { PoppedOf frame.Statement result (frames_of self.old) (frames_of self.new) }
         ensures scope { self.new.scope ≡ self.old.scope }
         ensures rest { self.new.rest ≡ self.old.rest }
     {
         match self.pop() {
-            Some(Frame::Statement(frame)) => Some(frame),
+            Some(Frame::Statement(frame)) => Some(Box::into_inner(frame)),
             other => {
                 drop(other);
                 None

@@ -107,7 +107,7 @@ fn structure(alloc: Global) -> Result<Specified, AllocError> {
         seen: Seen::nothing(),
         before: no_specifiers(alloc),
     };
-    let specified = with_structure_body(alloc, body, members)?;
+    let specified = with_structure_body(body, members)?;
     with_word(alloc, specified, at(20), Keyword::Const)
 }
 

@@ -1,7 +1,7 @@
 -- Laws for the crates above: typed expressions, statements and arms in memory, whose parts are lists, as plain data.
 use Rattle.std.proofs.Common.{◌≡◌, ℕ, ◌+◌, ◌<◌, ◌≤◌, suc, List, [], ◌∷◌, length, drop, get_or, refl, ap, sym, subst, ◌∙◌, Option}
 use Rattle.std.proofs.lemmas.List.{drop_all}
-use Rattle.std.specs.Prelude.{Vec}
+use Rattle.std.specs.Prelude.{Box, Vec}
 use Rattle.std.specs.declared.alloc.Global.{Global}
 use mathlib.Core.Former.{Count}
 use Rattle.dae_base.proofs.Laws.{drop_at}
@@ -64,25 +64,25 @@ abbrev second : Statement → (n : Count) × Row_of-Statement n
 second (statement.If' p e b s c t) = (_, t)
 second _ = (_, end_of-Statement)
 
-pub view_if : (p : Place) (e : Expression) (s t : Vec Statement Global) (k : tree.Statements)
-    → statement_then (statement.If p e s t) k ≡ tree.If p (view e) (view_statements s.items) (view_statements t.items) k
+pub view_if : (p : Place) (e : Box Expression Global) (s t : Vec Statement Global) (k : tree.Statements)
+    → statement_then (statement.If p e s t) k ≡ tree.If p (view e.value) (view_statements s.items) (view_statements t.items) k
 view_if p e s t k =
     let x = first (statement.If p e s t) in
     let y = second (statement.If p e s t) in
-    ap (λ u. tree.If p (view e) u (row_then y.1 tree.Done) k) (rows x.0 x.1 ∙ ap view_statements (items_hidden-the_row-Statement-0 s))
-    ∙ ap (λ u. tree.If p (view e) (view_statements s.items) u k) (rows y.0 y.1 ∙ ap view_statements (items_hidden-the_row-Statement-0 t))
+    ap (λ u. tree.If p (view e.value) u (row_then y.1 tree.Done) k) (rows x.0 x.1 ∙ ap view_statements (items_hidden-the_row-Statement-0 s))
+    ∙ ap (λ u. tree.If p (view e.value) (view_statements s.items) u k) (rows y.0 y.1 ∙ ap view_statements (items_hidden-the_row-Statement-0 t))
 
-pub view_loop : (p : Place) (test : Option Expression) (s : Vec Statement Global) (step : Option Expression) (k : tree.Statements)
+pub view_loop : (p : Place) (test : Option (Box Expression Global)) (s : Vec Statement Global) (step : Option (Box Expression Global)) (k : tree.Statements)
     → statement_then (statement.Loop p test s step) k ≡ tree.Loop p (view_some test) (view_statements s.items) (view_some step) k
 view_loop p test s step k =
     let x = first (statement.Loop p test s step) in
     ap (λ u. tree.Loop p (view_some test) u (view_some step) k) (rows x.0 x.1 ∙ ap view_statements (items_hidden-the_row-Statement-0 s))
 
-pub view_do : (p : Place) (s : Vec Statement Global) (test : Expression) (k : tree.Statements)
-    → statement_then (statement.Do p s test) k ≡ tree.Do p (view_statements s.items) (view test) k
+pub view_do : (p : Place) (s : Vec Statement Global) (test : Box Expression Global) (k : tree.Statements)
+    → statement_then (statement.Do p s test) k ≡ tree.Do p (view_statements s.items) (view test.value) k
 view_do p s test k =
     let x = first (statement.Do p s test) in
-    ap (λ u. tree.Do p u (view test) k) (rows x.0 x.1 ∙ ap view_statements (items_hidden-the_row-Statement-0 s))
+    ap (λ u. tree.Do p u (view test.value) k) (rows x.0 x.1 ∙ ap view_statements (items_hidden-the_row-Statement-0 s))
 
 abbrev third : Statement → (n : Count) × Row_of-Arm n
 third (statement.Switch' p e b arms) = (_, arms)
@@ -94,11 +94,11 @@ arm_rows n (more_of-Arm labels b statements rest) =
     ap (λ u. tree.arm_then labels.items u (view_arms rest)) (rows _ statements ∙ ap view_statements (sym (items_shown-the_row-Statement-0 b statements)))
     ∙ ap (λ u. tree.arm_then labels.items (view_statements (shown-the_row-Statement-0 b statements).items) u) (arm_rows _ rest)
 
-pub view_switch : (p : Place) (e : Expression) (arms : Vec Arm Global) (k : tree.Statements)
-    → statement_then (statement.Switch p e arms) k ≡ tree.Switch p (view e) (arms_of arms.items) k
+pub view_switch : (p : Place) (e : Box Expression Global) (arms : Vec Arm Global) (k : tree.Statements)
+    → statement_then (statement.Switch p e arms) k ≡ tree.Switch p (view e.value) (arms_of arms.items) k
 view_switch p e arms k =
     let x = third (statement.Switch p e arms) in
-    ap (λ u. tree.Switch p (view e) u k) (arm_rows x.0 x.1 ∙ ap arms_of (items_hidden-the_row-Arm-1 arms))
+    ap (λ u. tree.Switch p (view e.value) u k) (arm_rows x.0 x.1 ∙ ap arms_of (items_hidden-the_row-Arm-1 arms))
 
 -- ---- from a place on
 

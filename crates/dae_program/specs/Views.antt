@@ -1,5 +1,6 @@
 -- Expressions and statements in memory as plain data.
-use Rattle.std.specs.Prelude.{Bool, true, false, List, [], ◌∷◌, Option, Some, None}
+use Rattle.std.specs.Prelude.{Bool, true, false, List, [], ◌∷◌, Option, Some, None, Box}
+use Rattle.std.specs.declared.alloc.Global.{Global}
 use Rattle.dae_program.specs.declared.expressions.Expression.TheVariants as expression
 use Rattle.dae_program.specs.declared.expressions.Expression.{Expression}
 use Rattle.dae_program.specs.declared.expressions.Fixity.{Fixity}
@@ -56,9 +57,9 @@ abbrev pub view_expressions : List Expression → tree.Expressions
 view_expressions [] = tree.no_expressions
 view_expressions (e ∷ es) = tree.expression_then (view e) (view_expressions es)
 
-abbrev pub view_some : Option Expression → Option tree.Expression
+abbrev pub view_some : Option (Box Expression Global) → Option tree.Expression
 view_some None = None
-view_some (Some e) = Some (view e)
+view_some (Some e) = Some (view e.value)
 
 -- ---- statements
 
@@ -69,13 +70,13 @@ view_settings (item ∷ items) = record { offset = item.offset; width = item.wid
 -- a statement, or a row of them, and then k
 abbrev mutual
   pub statement_then : Statement → tree.Statements → tree.Statements
-  statement_then (statement.Evaluate p e) k = tree.Evaluate p (view e) k
+  statement_then (statement.Evaluate p e) k = tree.Evaluate p (view e.value) k
   statement_then (statement.Initialise p offset size items) k = tree.Initialise p offset size (view_settings items.items) k
   statement_then (statement.Print p xs pieces) k = tree.Print p (view_expressions xs.items) pieces.items k
-  statement_then (statement.If' p e b s c t) k = tree.If p (view e) (row_then s tree.Done) (row_then t tree.Done) k
+  statement_then (statement.If' p e b s c t) k = tree.If p (view e.value) (row_then s tree.Done) (row_then t tree.Done) k
   statement_then (statement.Loop' p test b body step) k = tree.Loop p (view_some test) (row_then body tree.Done) (view_some step) k
-  statement_then (statement.Do' p b body test) k = tree.Do p (row_then body tree.Done) (view test) k
-  statement_then (statement.Switch' p e b arms) k = tree.Switch p (view e) (view_arms arms) k
+  statement_then (statement.Do' p b body test) k = tree.Do p (row_then body tree.Done) (view test.value) k
+  statement_then (statement.Switch' p e b arms) k = tree.Switch p (view e.value) (view_arms arms) k
   statement_then (statement.Break p) k = tree.Break p k
   statement_then (statement.Continue p) k = tree.Continue p k
   statement_then (statement.Return p e) k = tree.Return p (view_some e) k

@@ -5,7 +5,7 @@ use dae_meaning::{Comparison, Operator};
 
 /// Where the operator of a step stands: before its operand, so that the new value is given, or behind it, so that the value
 /// before is.
-#[derive(Clone, Copy, PartialEq, Eq, Debug)]
+#[derive(Clone, Copy)]
 pub enum Fixity {
     Prefix,
     Postfix,

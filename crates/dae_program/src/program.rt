@@ -4,7 +4,7 @@ use crate::statements::Statement;
 use dae_base::{Items, Place, Text, Width};
 
 /// Where a parameter stands in the frame, in bytes, and how wide it is.
-#[derive(Clone, Copy, PartialEq, Eq, Debug)]
+#[derive(Clone, Copy, PartialEq, Eq)]
 pub struct Slot {
     pub offset: u32,
     pub width: Width,

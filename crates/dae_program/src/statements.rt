@@ -6,7 +6,7 @@ use dae_meaning::Spelling;
 
 /// What `printf` prints: a byte of the format, an argument, or the bytes that an argument points to. Arguments are numbered
 /// from 0.
-#[derive(Clone, Copy, PartialEq, Eq, Debug)]
+#[derive(Clone, Copy)]
 pub enum Piece {
     Byte(u8),
     Word(Spelling, u32),
@@ -27,18 +27,18 @@ pub struct Setting {
 #[cycle(statement)]
 #[derive(Drop)]
 pub enum Statement {
-    Evaluate(Place, Expression),
+    Evaluate(Place, Box<Expression>),
     /// An initialised aggregate of so many bytes from an offset in the frame on: zeros, and then the items.
     Initialise(Place, u32, u32, Vec<Setting>),
     Print(Place, Vec<Expression>, Vec<Piece>),
-    If(Place, Expression, Vec<Statement>, Vec<Statement>),
+    If(Place, Box<Expression>, Vec<Statement>, Vec<Statement>),
     /// `while` and `for`: a test or none, the body, and what follows each turn, or nothing.
-    Loop(Place, Option<Expression>, Vec<Statement>, Option<Expression>),
-    Do(Place, Vec<Statement>, Expression),
-    Switch(Place, Expression, Vec<Arm>),
+    Loop(Place, Option<Box<Expression>>, Vec<Statement>, Option<Box<Expression>>),
+    Do(Place, Vec<Statement>, Box<Expression>),
+    Switch(Place, Box<Expression>, Vec<Arm>),
     Break(Place),
     Continue(Place),
-    Return(Place, Option<Expression>),
+    Return(Place, Option<Box<Expression>>),
 }
 
 /// Statements of a switch with the labels before the first of them, in order, converted to the type of the switch's value.

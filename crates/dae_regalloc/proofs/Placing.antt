@@ -24,23 +24,25 @@ abbrev SeesOne : VariableSet → Spans → Spans → Type 0
 SeesOne here old new = (places : List VariableSet) → AreSeen places old → AreSeen (here ∷ places) new
 
 pub acted : (s : Step) (m : Mark) (a : Action) (leaves skips next : List ℕ) (old new : Spans) (set here : List ℕ) → s ≡ step.Act m a
-    → ((n : VariableSet) → member set ≡ before a (member next) (ways n (member leaves) (member skips))) → member here ≡ with_all (member set) (sets a) → SeesOne (member here) old new
+    → ((n : VariableSet) → member set ≡ before a (member next) (ways n (member leaves) (member skips))) → member here ≡ with_all (member set) (sets a) → SeesOne (member here) old new → new.places ≡ old.places + 1
     → ArePlacesOfStep s old next leaves skips new set
-acted s m a leaves skips next old new set here is found at more b k n h =
+acted s m a leaves skips next old new set here is found at more counted b k n h =
     let x = ways n (member leaves) (member skips) in
     let lived : member set ≡ live (Do m a k) x = found n ∙ ap (λ (l : VariableSet). before a l x) h.live in
     let same : member here ≡ with_all (live (Do m a k) x) (sets a) = at ∙ ap (λ (l : VariableSet). with_all l (sets a)) lived in
+    let before' = h.count in
     rw is (record {
       seen = λ places sb. subst (λ (l : VariableSet). AreSeen (l ∷ (lives k x ++ places)) new) same (more (lives k x ++ places) (h.seen places sb));
       live = lived;
+      count = omega (arith, counted, before');
     })
 
 pub branched : (s : Step) (m : Mark) (b : Branch) (p q : Vec Step Global) (leaves skips next : List ℕ) (old mid last new : Spans) (one other set : List ℕ) → s ≡ step.If m b p q
     → ArePlacesOf (actions_of q.items) (ways (member next) (member leaves) (member skips)) old mid other
     → ArePlacesOf (actions_of p.items) (ways (member next) (member leaves) (member skips)) mid last one
-    → member set ≡ with_all (decided b) (with_all (member one) (member other)) → SeesOne (member set) last new
+    → member set ≡ with_all (decided b) (with_all (member one) (member other)) → SeesOne (member set) last new → new.places ≡ last.places + 1
     → ArePlacesOfStep s old next leaves skips new set
-branched s m b p q leaves skips next old mid last new one other set is second first both more base k n h =
+branched s m b p q leaves skips next old mid last new one other set is second first both more counted base k n h =
     let x = ways n (member leaves) (member skips) in
     let P = actions_of p.items in let Q = actions_of q.items in
     let inner : Ways = ways (live k x) (member leaves) (member skips) in
@@ -48,6 +50,7 @@ branched s m b p q leaves skips next old mid last new one other set is second fi
     let first' = subst (λ (l : VariableSet). ArePlacesOf P (ways l (member leaves) (member skips)) mid last one) h.live first in
     let lived : member set ≡ live (If m b P Q k) x = rw (both, first'.live, second'.live) refl in
     let whole : step_onto s k ≡ If m b P Q k = ap (λ (z : Step). step_onto z k) is ∙ onto_if m b p q k in
+    let c0 = h.count in let c1 = second.count in let c2 = first.count in
     rw whole (record {
       seen = λ places sb.
           let all : lives P inner ++ (lives Q inner ++ (lives k x ++ places)) ≡ (lives P inner ++ (lives Q inner ++ lives k x)) ++ places =
@@ -55,15 +58,16 @@ branched s m b p q leaves skips next old mid last new one other set is second fi
           let there = more _ (first'.seen _ (second'.seen (lives k x ++ places) (h.seen places sb))) in
           subst (λ (l : List VariableSet). AreSeen (live (If m b P Q k) x ∷ l) new) all (subst (λ (l : VariableSet). AreSeen (l ∷ (lives P inner ++ (lives Q inner ++ (lives k x ++ places)))) new) lived there);
       live = lived;
+      count = omega (arith, c0, c1, c2, counted);
     })
 
 pub looped : (s : Step) (m : Mark) (p q : Vec Step Global) (leaves skips next : List ℕ) (old mid last new : Spans) (turned again set : List ℕ) → s ≡ step.Loop m p q
     → member turned ≡ turn (actions_of p.items) (actions_of q.items) (member next)
     → ArePlacesOf (actions_of q.items) (ways (member turned) (member next) (member turned)) old mid again
     → ArePlacesOf (actions_of p.items) (ways (member again) (member next) (member again)) mid last set
-    → SeesOne (member set) last new
+    → SeesOne (member set) last new → new.places ≡ last.places + 1
     → ArePlacesOfStep s old next leaves skips new set
-looped s m p q leaves skips next old mid last new turned again set is first step body more base k n h =
+looped s m p q leaves skips next old mid last new turned again set is first step body more counted base k n h =
     let x = ways n (member leaves) (member skips) in
     let B = actions_of p.items in let S = actions_of q.items in let N : VariableSet = live k x in
     let T : member turned ≡ turn B S N = first ∙ ap (turn B S) h.live in
@@ -75,6 +79,7 @@ looped s m p q leaves skips next old mid last new turned again set is first step
     let LB = lives B (body_ways B S N) in let LS = lives S (step_ways B S N) in
     let lived : member set ≡ live (Loop m B S k) x = body'.live ∙ turn_again B S N in
     let whole : step_onto s k ≡ Loop m B S k = ap (λ (z : Step). step_onto z k) is ∙ onto_loop m p q k in
+    let c0 = h.count in let c1 = step.count in let c2 = body.count in
     rw whole (record {
       seen = λ places sb.
           let all : LB ++ (LS ++ (lives k x ++ places)) ≡ (LB ++ (LS ++ lives k x)) ++ places =
@@ -82,6 +87,7 @@ looped s m p q leaves skips next old mid last new turned again set is first step
           let there = more _ (body'.seen _ (step'.seen (lives k x ++ places) (h.seen places sb))) in
           subst (λ (l : List VariableSet). AreSeen (live (Loop m B S k) x ∷ l) new) all (subst (λ (l : VariableSet). AreSeen (l ∷ (LB ++ (LS ++ (lives k x ++ places)))) new) lived there);
       live = lived;
+      count = omega (arith, c0, c1, c2, counted);
     })
 
 -- ---- a list of steps
@@ -89,7 +95,7 @@ looped s m p q leaves skips next old mid last new turned again set is first step
 pub none_placed : (steps : List Step) (old : Spans) (next : List ℕ) (lv sk : VariableSet) → ArePlacesOf (actions_of (drop (length steps) steps)) (ways (member next) lv sk) old old next
 none_placed steps old next lv sk =
     let none : drop (length steps) steps ≡ [] = drop_all (length steps) steps (omega arith) in
-    rw none (record { seen = λ places seen. seen; live = refl })
+    rw none (record { seen = λ places seen. seen; live = refl; count = omega arith })
 
 pub one_more : (steps : List Step) (j : ℕ) (s : Step) (leaves skips next : List ℕ) (base old new : Spans) (set : List ℕ) (n : VariableSet) → 0 < j → j ≤ length steps → s ≡ get_or steps (j - 1) s
     → ArePlacesOf (actions_of (drop j steps)) (ways n (member leaves) (member skips)) base old next

@@ -1,7 +1,8 @@
 -- Spans over the places of a function, which are seen from the last to the first, and are numbered in that order.
-use Rattle.std.specs.Prelude.{◌≡◌, ◌⊎◌, ℕ, zero, suc, ◌≤◌, ◌<◌, Bool, true, nat_eq, List, [], ◌∷◌, ◌++◌, length, slice_get, Option, Some, None, if◌then◌else◌}
+use Rattle.std.specs.Prelude.{◌≡◌, ◌⊎◌, ℕ, zero, suc, ◌+◌, ◌^◌, ◌≤◌, ◌<◌, Bool, true, nat_eq, nat_lt, List, [], ◌∷◌, ◌++◌, length, slice_get, Option, Some, None, if◌then◌else◌}
 use Rattle.std.specs.List.{AllByRecursion}
 use Rattle.dae_ir.specs.Classes.{VariableSet}
+use Rattle.dae_ir.specs.Sizes.{size}
 use Rattle.dae_ir.specs.Streams.{Actions, step_onto}
 use Rattle.dae_ir.specs.declared.stream.Step.{Step}
 use Rattle.dae_select_walks.specs.Live.{Ways, ways, live, lives}
@@ -9,6 +10,18 @@ use Rattle.dae_select_live.specs.Members.{member}
 use Rattle.dae_regalloc.specs.declared.Span.{Span}
 use Rattle.dae_regalloc.specs.declared.spans.Spans.{Spans}
 use Rattle.dae_regalloc.specs.Scan.{AreInOrder}
+
+-- ---- how many places there are
+
+-- those of code
+abbrev pub count_places : Actions → ℕ
+count_places code = size (λ action. 1) code
+
+-- 32 bits number those of a function with this code, and its entry
+abbrev pub can_number : Actions → Bool
+can_number code = nat_lt (count_places code + 1) (2 ^ 32)
+
+-- ---- spans
 
 -- the number of a variable's span, where it has one
 abbrev pub number_in : List (Option ℕ) → ℕ → Option ℕ
@@ -75,6 +88,7 @@ pub record IsFurther (seen : ℕ → Type 0) (old new : Spans) : Type 0 where
 pub record ArePlacesOf (actions : Actions) (x : Ways) (old new : Spans) (set : List ℕ) : Type 0 where
   pub seen : (places : List VariableSet) → AreSeen places old → AreSeen (lives actions x ++ places) new
   pub live : member set ≡ live actions x
+  pub count : new.places ≡ old.places + count_places actions
 
 -- with a step before whatever was seen
 abbrev pub ArePlacesOfStep : Step → Spans → List ℕ → List ℕ → List ℕ → Spans → List ℕ → Type 0

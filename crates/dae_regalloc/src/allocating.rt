@@ -1,11 +1,11 @@
 // Homes for the variables of a function.
 
-ghost use Rattle.std.specs.Prelude.{◌≡◌, ℕ, ◌≤◌, length, IfOk};
+ghost use Rattle.std.specs.Prelude.{◌≡◌, ℕ, ◌≤◌, length, true, IfOk};
 ghost use Rattle.std.specs.List.{AllByRecursion};
 ghost use Rattle.dae_ir.specs.Streams.{actions_of};
 ghost use Rattle.dae_select_walks.specs.Homes.{AreHomes, home_in};
 ghost use Rattle.dae_select_walks.specs.Live.{function_lives};
-ghost use Rattle.dae_regalloc.specs.Seen.{number_in, AreBelow};
+ghost use Rattle.dae_regalloc.specs.Seen.{number_in, AreBelow, can_number};
 ghost use Rattle.dae_regalloc.specs.Given.{numbered_home, IsRegister, AreFew};
 
 use crate::numbers::Numbers;
@@ -47,8 +47,9 @@ fn homes_by_variable(
 
 /// A home for each variable of a function with so many parameters: a register, or the slot of the variable's own number,
 /// so that two variables that are live at one place have different ones; and a register for each where around no place more
-/// than 18 are live. A variable that is live anywhere is among them.
+/// than 18 are live. A variable that is live anywhere is among them. 32 bits must number the places.
 pub fn allocate(alloc: Global, parameters: u32, body: &[Step]) -> Result<Vec<Home>, AllocError>
+    requires { can_number (actions_of body.now) ≡ true }
     ensures homes { IfOk result (λ homes. (variables : ℕ)
         → AreHomes variables (function_lives parameters (actions_of body.now))
         (home_in homes.items)) }

@@ -1,10 +1,11 @@
 // The places of a function are seen, from the last to the first.
 
-ghost use Rattle.std.specs.Prelude.{◌≡◌, IfOk};
-ghost use Rattle.dae_ir.specs.Streams.{actions_of};
+ghost use Rattle.std.specs.Prelude.{◌≡◌, ◌+◌, ◌^◌, ◌<◌, true, IfOk};
+ghost use Rattle.dae_ir.specs.Code.{Done};
+ghost use Rattle.dae_ir.specs.Streams.{actions_of, step_onto};
 ghost use Rattle.dae_select_live.specs.Members.{member};
 ghost use Rattle.dae_select_walks.specs.Live.{ways, with_all, sets, parameters_of, function_lives};
-ghost use Rattle.dae_regalloc.specs.Seen.{AreSeen, ArePlacesOf, ArePlacesOfStep};
+ghost use Rattle.dae_regalloc.specs.Seen.{AreSeen, ArePlacesOf, ArePlacesOfStep, can_number, count_places};
 
 use crate::spans::Spans;
 use dae_ir::{Action, Step};
@@ -44,6 +45,7 @@ fn see_step(
     leaves: &LiveSet,
     skips: &LiveSet,
 ) -> Result<LiveSet, AllocError>
+    requires { spans.old.places + count_places (step_onto step.now Done) < 2 ^ 32 }
     ensures { IfOk result (λ set.
         ArePlacesOfStep step.now spans.old next leaves.now skips.now spans.new set) }
 {
@@ -82,6 +84,7 @@ fn see_steps(
     leaves: &LiveSet,
     skips: &LiveSet,
 ) -> Result<LiveSet, AllocError>
+    requires { spans.old.places + count_places (actions_of steps.now) < 2 ^ 32 }
     ensures { IfOk result (λ set.
         ArePlacesOf (actions_of steps.now) (ways (member next) (member leaves.now)
         (member skips.now)) spans.old spans.new set) }
@@ -95,6 +98,7 @@ fn see_steps(
 
 /// The spans over the places of a function with so many parameters.
 pub fn spans_of(alloc: Global, parameters: u32, body: &[Step]) -> Result<Spans, AllocError>
+    requires { can_number (actions_of body.now) ≡ true }
     ensures { IfOk result (λ spans.
         AreSeen (function_lives parameters (actions_of body.now)) spans) }
 {

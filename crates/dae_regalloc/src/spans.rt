@@ -1,6 +1,6 @@
 // The spans of variables over the places seen so far.
 
-ghost use Rattle.std.specs.Prelude.{◌≡◌, ℕ, ◌<◌, ◌∷◌, [], List, true, length, slice_get, slice_set, Some, OnOk};
+ghost use Rattle.std.specs.Prelude.{◌≡◌, ℕ, ◌+◌, ◌^◌, ◌<◌, ◌∷◌, [], List, true, length, slice_get, slice_set, Some, OnOk};
 ghost use Rattle.dae_ir.specs.Classes.{VariableSet};
 ghost use Rattle.dae_select_live.specs.Members.{member};
 ghost use Rattle.dae_regalloc.specs.Seen.{widened, number_in, with_number, IsFurther, AreSeen};
@@ -78,16 +78,13 @@ impl Spans {
 
     /// The next place is seen, where the variables of the set are live.
     pub fn see(&mut self, set: &LiveSet) -> Result<(), AllocError>
-        ensures { OnOk result ((places : List VariableSet) → AreSeen places self.old
+        requires { self.old.places + 1 < 2 ^ 32 }
+        ensures seen { OnOk result ((places : List VariableSet) → AreSeen places self.old
             → AreSeen (member set.now ∷ places) self.new) }
+        ensures count { OnOk result (self.new.places ≡ self.old.places + 1) }
     {
         self.see_variables(set)?;
-        match self.places.checked_add(1) {
-            Some(places) => {
-                self.places = places;
-                Ok(())
-            }
-            None => Err(AllocError),
-        }
+        self.places += 1;
+        Ok(())
     }
 }

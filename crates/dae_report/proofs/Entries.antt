@@ -1,12 +1,21 @@
 -- The entries of a report, one by one.
-use Rattle.std.proofs.Common.{◌≡◌, ℕ, suc, ◌+◌, List, [], ◌∷◌, ◌++◌, length, take, get_or, ◌<◌, ◌≤◌, ap, sym, ◌∙◌, arith}
+use Rattle.std.proofs.Common.{◌≡◌, ℕ, suc, ◌+◌, true, List, [], ◌∷◌, ◌++◌, length, take, get_or, ◌<◌, ◌≤◌, refl, ap, sym, ◌∙◌, subst, arith}
+use Rattle.std.specs.List.{list_all}
 use Rattle.std.proofs.lemmas.List.{length-take-le}
+use Rattle.std.proofs.lemmas.Option.{slice_get_read}
+use Rattle.dae_base.proofs.Laws.{passes_at}
 use Rattle.dae_ir.specs.Classes.{classes_of}
 use Rattle.dae_ir.specs.declared.form.Function.{Function}
 use Rattle.dae_ir.specs.declared.stream.Class.{Class}
 use Rattle.dae_report.specs.declared.reports.FunctionReport.{FunctionReport}
 use Rattle.dae_report.proofs.Sums.{take_one}
+use Rattle.dae_report.specs.Counting.{is_countable}
 use Rattle.dae_report.specs.Reports.{function_report, reports_from}
+
+-- 32 bits count what the function at a place has, where they do for each
+pub countable_at : (fs gs : List Function) (i : ℕ) (f : Function) → gs ≡ fs → list_all is_countable fs ≡ true → i < length gs → f ≡ get_or gs i f → is_countable f ≡ true
+countable_at fs gs i f same all lt is =
+    passes_at is_countable gs i f (subst (λ (xs : List Function). list_all is_countable xs ≡ true) (sym same) all) (slice_get_read gs (length gs) i f refl lt is)
 
 pub reports_end : (tables : List (List Class)) (k : ℕ) (fs : List Function) (f : Function)
     → reports_from tables k (fs ++ f ∷ []) ≡ reports_from tables k fs ++ function_report (classes_of tables (k + length fs)) f ∷ []

@@ -23,7 +23,7 @@ take_one {X = X} xs i x lt is =
     subst (λ (k : ℕ). take k xs ≡ take i xs ++ x ∷ []) one (take-suc xs i x lt ∙ ap (λ (y : X). take i xs ++ y ∷ []) (sym is))
 
 module _ (f : Item → ℕ) (h : Test → ℕ) where
-  tally_before : (s : Statement) (k : Form) → tally f h (before s k) ≡ tally f h (before s Done) + tally f h k
+  pub tally_before : (s : Statement) (k : Form) → tally f h (before s k) ≡ tally f h (before s Done) + tally f h k
   tally_before (Simple place item) k = omega arith
   tally_before (If' place test m p n q) k = omega arith
   tally_before (Loop' place m p n q) k = omega arith

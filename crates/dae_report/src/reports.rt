@@ -1,7 +1,9 @@
 // The report of a whole form.
 
-ghost use Rattle.std.specs.Prelude.{◌≡◌, IfOk, slice_get};
+ghost use Rattle.std.specs.Prelude.{◌≡◌, IfOk, slice_get, true};
+ghost use Rattle.std.specs.List.{list_all};
 ghost use Rattle.dae_ir.specs.Classes.{classes_in, row_of};
+ghost use Rattle.dae_report.specs.Counting.{is_countable};
 ghost use Rattle.dae_report.specs.Reports.{function_report, report_of};
 
 use crate::counts::NOTHING;
@@ -42,11 +44,12 @@ fn count_in_function(
     function: &Function,
     row: &[Class],
 ) -> Result<FunctionReport, AllocError>
+    requires { is_countable function.now ≡ true }
     ensures { IfOk result (λ r. r ≡ function_report (classes_in row.now) function.now) }
 {
     let name = Text::from_str(alloc, function.name.as_str())?;
     let mut counts = NOTHING;
-    count_statements(&mut counts, row, function.body.as_slice())?;
+    count_statements(&mut counts, row, function.body.as_slice());
     Ok(FunctionReport {
         name,
         loads_a: counts.loads_a,
@@ -57,8 +60,9 @@ fn count_in_function(
     })
 }
 
-/// The report of a form, by the classes of its functions' variables.
+/// The report of a form, by the classes of its functions' variables, where 32 bits count what each function has.
 pub fn count(alloc: Global, ir: &Ir, tables: &[Items<Class>]) -> Result<Report, AllocError>
+    requires { list_all is_countable ir.now.functions ≡ true }
     ensures { IfOk result (λ report. report ≡ report_of tables.now ir.now) }
 {
     let functions = ir.functions.as_slice();

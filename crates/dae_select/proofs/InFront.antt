@@ -1,7 +1,7 @@
 -- Code in front of code, with the words at which actions begin.
 use Rattle.std.proofs.Common.{◌≡◌, ◌≤◌, ℕ, ◌+◌, Bool, true, false, ◌||◌, Option, Some, None, List, [], ◌∷◌, ◌++◌, length, map, reverse, refl, ap, sym, ◌∙◌, arith, append_assoc, length-append}
 use Rattle.std.specs.Prelude.{is_some, if◌then◌else◌}
-use Rattle.std.proofs.lemmas.List.{append-nil, map-append, reverse-append}
+use Rattle.std.proofs.lemmas.List.{append-nil, length-reverse, map-append, reverse-append}
 use Rattle.dae_base.specs.declared.Place.{Place}
 use Rattle.dae_encode.specs.declared.Inst.{Inst}
 use Rattle.dae_ir.specs.Code.{Done, Do, If, Loop}
@@ -63,6 +63,14 @@ reverse_map f [] = refl
 reverse_map {X} {Y} f (x ∷ xs) =
     reverse-append (f x ∷ []) (map f xs) ∙ ap (λ (ys : List Y). ys ++ f x ∷ []) (reverse_map f xs)
     ∙ sym (ap (λ (ys : List X). map f ys) (reverse-append (x ∷ []) xs) ∙ map-append f (reverse xs) (x ∷ []))
+
+-- what is written from the last to the first, with what comes before it
+pub put_front : (is js : List Inst) (ps qs : List PlacedWord)
+    → grown (reverse (is ++ js)) (reverse (ps ++ map (advance (length is)) qs)) ≡ in_front (grown (reverse js) (reverse qs)) (grown (reverse is) (reverse ps))
+put_front is js ps qs =
+    same_grown (reverse (is ++ js)) (reverse js ++ reverse is) (reverse (ps ++ map (advance (length is)) qs)) (map (advance (length (reverse is))) (reverse qs) ++ reverse ps)
+    (reverse-append is js)
+    (reverse-append ps (map (advance (length is)) qs) ∙ ap (λ (xs : List PlacedWord). xs ++ reverse ps) (reverse_map (advance (length is)) qs ∙ ap (λ (n : ℕ). map (advance n) (reverse qs)) (sym (length-reverse is))))
 
 -- ---- the instructions are those of the code
 

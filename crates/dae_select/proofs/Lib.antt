@@ -2,3 +2,5 @@ mod Counted
 mod Stacked
 mod Sizes
 mod InFront
+mod Words
+mod Untaken

@@ -1,6 +1,7 @@
 -- Code that grows at its front, and the words of it at which actions begin: a word is told by how many there are from it to
 -- the end, so that code in front changes none.
-use Rattle.std.specs.Prelude.{ℕ, ◌+◌, ◌-◌, List, [], ◌∷◌, ◌++◌, length, map}
+use Rattle.std.specs.Prelude.{ℕ, ◌+◌, ◌-◌, ◌≤◌, List, [], ◌∷◌, ◌++◌, length, map}
+use Rattle.std.specs.List.{All}
 use Rattle.dae_base.specs.declared.Place.{Place}
 use Rattle.dae_encode.specs.declared.Inst.{Inst}
 use Rattle.dae_select.specs.declared.growing.PlacedWord.{PlacedWord}
@@ -8,6 +9,10 @@ use Rattle.dae_select.specs.declared.growing.PlacedWord.{PlacedWord}
 pub record Grown : Type 0 where
   pub code : List Inst
   pub places : List PlacedWord
+
+-- words that have at most n words from them to the end
+abbrev pub StandWithin : ℕ → List PlacedWord → Type 0
+StandWithin n = All (λ p. p.word ≤ n)
 
 abbrev pub no_code : Grown
 no_code = record { code = []; places = [] }

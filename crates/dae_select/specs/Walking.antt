@@ -6,7 +6,7 @@ use Rattle.dae_ir.specs.Streams.{actions_of}
 use Rattle.dae_ir.specs.declared.stream.Action.{Action}
 use Rattle.dae_ir.specs.declared.stream.Argument.{Argument}
 use Rattle.dae_ir.specs.declared.stream.Step.{Step}
-use Rattle.dae_select_walks.specs.Homes.{home_in}
+use Rattle.dae_select_values.specs.Tables.{home_by}
 use Rattle.dae_select_walks.specs.Live.{ways, is}
 use Rattle.dae_select_walks.specs.declared.Standing.TheVariants.{Settled}
 use Rattle.dae_select_live.specs.Members.{member}
@@ -43,7 +43,7 @@ block_by m around a onward n =
 
 -- the block of a branch that goes on n words ahead of its end where its test holds, or just where not
 abbrev pub branch_to : Making → PlacedBranch → Bool → ℕ → Grown
-branch_to m test way n = acting test.place (branch_code (home_in m.homes.now) (by_jal m) test.branch way n)
+branch_to m test way n = acting test.place (branch_code (home_by m.homes) (by_jal m) test.branch way n)
 
 -- the code of a step, with whatever stands behind it, and what is live before it
 abbrev pub IsStepBy : Making → Around → Exits → Step → Grown → List ℕ → Grown → List ℕ → Type 0

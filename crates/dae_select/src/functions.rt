@@ -7,7 +7,7 @@ ghost use Rattle.dae_select_live.specs.Members.{member};
 ghost use Rattle.dae_select_walks.specs.declared.Standing.TheVariants.{Settled as IsSettled};
 ghost use Rattle.dae_ir.specs.Streams.{actions_of};
 ghost use Rattle.dae_select_blocks.specs.Code.{entry_code, function_code};
-ghost use Rattle.dae_select.specs.Grown.{no_code};
+ghost use Rattle.dae_select.specs.Grown.{no_code, StandWithin};
 ghost use Rattle.dae_select.specs.Growing.{marked_code, function_places};
 ghost use Rattle.dae_select_calls.specs.Layouts.{plan_of, variables_of, AreSmall};
 ghost use Rattle.dae_select_calls.specs.Makings.{plan_by, variables_by, by_jal, IsSound};
@@ -69,6 +69,8 @@ pub fn function_code(
     ensures places { IfOk result (λ made. made.places.items
         ≡ function_places (plan_of layouts.now) (variables_of layouts.now) function
         (actions_of body.now)) }
+    ensures within { IfOk result (λ made.
+        StandWithin (length made.code.items) made.places.items) }
 {
     let homes = layouts.homes(function);
     let making = Making {

@@ -1,7 +1,8 @@
 // Code that grows at its front, and where its words come from.
 
-ghost use Rattle.std.specs.Prelude.{◌≡◌, ◌+◌, ◌++◌, ◌<◌, ◌^◌, length, map, reverse, OnOk, IfOk};
-ghost use Rattle.dae_select.specs.Grown.{no_code, glue, acting, advance, in_front, from_front};
+ghost use Rattle.std.specs.Prelude.{◌≡◌, ◌+◌, ◌++◌, ◌<◌, ◌^◌, ℕ, length, map, OnOk, IfOk};
+ghost use Rattle.std.specs.List.{All};
+ghost use Rattle.dae_select.specs.Grown.{no_code, glue, acting, advance, in_front, from_front, StandWithin};
 
 use dae_base::Place;
 use dae_encode::Inst;
@@ -9,27 +10,41 @@ use std::alloc::{AllocError, Global};
 use std::marker::Model;
 
 /// A word of code, and the place of the action whose instructions begin there.
-#[derive(Clone, Copy, PartialEq, Eq, Debug)]
+#[derive(Clone, Copy, PartialEq, Eq)]
 pub struct PlacedWord {
     pub word: usize,
     pub place: Place,
 }
 
 impl PlacedWord {
-    /// The word that is so many further on. A word that a computer can't count needs more memory than there is.
-    pub fn advance(self, words: usize) -> Result<PlacedWord, AllocError>
-        ensures { IfOk result (λ p. p ≡ advance words self) }
+    /// The word that is so many further on.
+    pub fn advance(self, words: usize) -> PlacedWord
+        requires { words + self.word < 2 ^ 64 }
+        ensures { result ≡ advance words self }
     {
-        match words.checked_add(self.word) {
-            Some(word) => {
-                Ok(PlacedWord {
-                    word,
-                    place: self.place,
-                })
-            }
-            None => Err(AllocError),
+        PlacedWord {
+            word: words + self.word,
+            place: self.place,
         }
     }
+}
+
+/// Words behind others, each so many further on.
+pub fn add_places(
+    places: &mut Vec<PlacedWord>,
+    words: usize,
+    more: &[PlacedWord],
+) -> Result<(), AllocError>
+    requires { All (λ p. words + p.word < 2 ^ 64) more.now }
+    ensures added { OnOk result (places.new.items
+        ≡ places.old.items ++ map (advance words) more.now) }
+    ensures within { (n : ℕ) → StandWithin n (places.old.items ++ map (advance words) more.now)
+        → StandWithin n places.new.items }
+{
+    for placed in more {
+        places.push(placed.advance(words))?;
+    }
+    Ok(())
 }
 
 /// Words that are told from the end of the code, told from its front.
@@ -59,13 +74,16 @@ pub struct GrowingCode {
 }
 
 impl Model for GrowingCode {
-    ghost use Rattle.std.specs.Prelude.{reverse};
-    ghost use Rattle.dae_select.specs.Grown.{Grown};
+    ghost use Rattle.std.specs.Prelude.{length, reverse};
+    ghost use Rattle.dae_select.specs.Grown.{Grown, StandWithin};
 
     ghost Value = { Grown };
 
     ghost view = { λ grown.
         record { code = reverse grown.backward.items; places = reverse grown.places.items } };
+
+    ghost invariant = { λ grown.
+        StandWithin (length grown.backward.items) grown.places.items };
 }
 
 impl GrowingCode {
@@ -108,25 +126,18 @@ impl GrowingCode {
         Ok(())
     }
 
-    /// Words of code that comes before these instructions, the last first.
-    fn put_places(&mut self, places: &[PlacedWord]) -> Result<(), AllocError>
-        ensures code { OnOk result (self.new.code ≡ self.old.code) }
-        ensures places { OnOk result (self.new.places
-            ≡ map (advance (length self.old.code)) (reverse places.now) ++ self.old.places) }
-    {
-        let behind = self.backward.len();
-        for placed in places {
-            self.places.push(placed.advance(behind)?)?;
-        }
-        Ok(())
-    }
-
     /// Other code comes before these instructions.
     pub fn put_code(&mut self, code: GrowingCode) -> Result<(), AllocError>
         ensures { OnOk result (self.new ≡ in_front code self.old) }
     {
-        self.put_places(code.places.as_slice())?;
-        self.put_before(code.into_vec().as_slice())
+        let behind = self.backward.len();
+        let GrowingCode {
+            mut backward,
+            places,
+        } = code;
+        self.backward.append(&mut backward)?;
+        add_places(&mut self.places, behind, &places)?;
+        Ok(())
     }
 
     /// The words at which actions begin, in their order, where so many words come before the first instruction.

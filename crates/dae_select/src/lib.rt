@@ -3,7 +3,7 @@
 #![tactic(auto)]
 
 pub use functions::{FunctionCode, function_code};
-pub use growing::PlacedWord;
+pub use growing::{PlacedWord, add_places};
 
 mod counting;
 mod functions;

@@ -3,7 +3,6 @@
 
 ghost use Rattle.std.specs.Prelude.{◌≡◌, ◌≤◌, ◌++◌, length, true, OnOk, Some as IsThere};
 ghost use Rattle.dae_select_walks.specs.Live.{in_operand};
-ghost use Rattle.dae_select_walks.specs.Homes.{home_in};
 ghost use Rattle.dae_select_live.specs.Members.{member};
 ghost use Rattle.dae_select_blocks.specs.Blocks.{value_code};
 ghost use Rattle.dae_select_blocks.specs.Code.{either_one, written_last, passes_on, reads_once, taken_standing, pair_standing, with_home, late_code, early_code, taking_code};
@@ -11,17 +10,17 @@ ghost use Rattle.dae_select_walks.specs.declared.Standing.TheVariants.{Early as 
 ghost use Rattle.dae_select_walks.specs.declared.Home.TheVariants.{Register as IsRegister};
 ghost use Rattle.dae_ir.specs.declared.form.Value.TheVariants.{Binary as IsBinary, Holds as IsHolds};
 ghost use Rattle.dae_select.specs.Growing.{standing_between, step_before, IsTakenBy};
-ghost use Rattle.dae_select_values.specs.Tables.{AreNear};
+ghost use Rattle.dae_select_values.specs.Tables.{AreNear, home_by};
 
 use dae_encode::Inst;
 use dae_ir::{Action, Operand, Step, Test, Value};
 use dae_meaning::Operator;
 use dae_select_live::LiveSet;
 use dae_select_values::{
-    compare, compare_number, exchanged, extend, fetch, home_of, immediate, keep, operation,
-    register_or, set_code, source, takes_number, value_code,
+    HomeTable, as_immediate, compare, compare_number, exchanged, extend, fetch, home_of, immediate,
+    keep, operation, register_or, set_code, source, value_code,
 };
-use dae_select_walks::{Home, Standing};
+use dae_select_walks::Standing;
 use std::alloc::AllocError;
 
 // ---- which actions are pairs
@@ -155,13 +154,13 @@ pub fn standing_between(
 /// The block of an action that moves a variable on, where this value is computed in its stead.
 pub fn late_code(
     code: &mut Vec<Inst>,
-    homes: &[Home],
+    homes: HomeTable,
     action: &Action,
     value: Value,
 ) -> Result<(), AllocError>
-    requires { AreNear homes.now }
+    requires { AreNear homes }
     ensures { OnOk result (code.new.items ≡ code.old.items
-        ++ late_code (home_in homes.now) action.now value) }
+        ++ late_code (home_by homes.entry) action.now value) }
 {
     match action {
         Action::Set(target, _) => set_code(code, homes, *target, value),
@@ -179,18 +178,19 @@ struct Taken {
 }
 
 /// An operation on a word that is taken and something else.
+#[tactic(auto, using(crate::proofs::Untaken::key_far))]
 fn taken_binary(
     code: &mut Vec<Inst>,
-    homes: &[Home],
+    homes: HomeTable,
     taken: Taken,
     operator: Operator,
     left: Operand,
     right: Operand,
 ) -> Result<(), AllocError>
-    requires near { AreNear homes.now }
+    requires near { AreNear homes }
     requires once { reads_once taken.variable (IsBinary operator left right) ≡ true }
     ensures { OnOk result (code.new.items ≡ code.old.items
-        ++ value_code (with_home taken.variable (IsRegister taken.queue) (home_in homes.now))
+        ++ value_code (with_home taken.variable (IsRegister taken.queue) (home_by homes.entry))
         taken.target (IsBinary operator left right)) }
 {
     let queue = taken.queue;
@@ -219,23 +219,26 @@ fn taken_binary(
 }
 
 /// A test of a word that is taken and something else.
+#[tactic(auto, using(crate::proofs::Untaken::key_far))]
 fn taken_test(
     code: &mut Vec<Inst>,
-    homes: &[Home],
+    homes: HomeTable,
     taken: Taken,
     test: Test,
 ) -> Result<(), AllocError>
-    requires near { AreNear homes.now }
+    requires near { AreNear homes }
     requires once { reads_once taken.variable (IsHolds test) ≡ true }
     ensures { OnOk result (code.new.items ≡ code.old.items
-        ++ value_code (with_home taken.variable (IsRegister taken.queue) (home_in homes.now))
+        ++ value_code (with_home taken.variable (IsRegister taken.queue) (home_by homes.entry))
         taken.target (IsHolds test)) }
 {
     let queue = taken.queue;
     let target = taken.target;
     if is_variable(test.left, taken.variable) {
         let number = match test.right {
-            Operand::Number(number) => takes_number(test.comparison, number).then_some(number),
+            Operand::Number(number) => {
+                as_immediate(homes, test.comparison, number).then_some(number)
+            }
             Operand::Variable(_) => None,
         };
         if let Some(number) = number {
@@ -255,16 +258,16 @@ fn taken_test(
 /// this value of that word into the target.
 fn early_code(
     code: &mut Vec<Inst>,
-    homes: &[Home],
+    homes: HomeTable,
     queue: u8,
     variable: u32,
     target: u32,
     value: Value,
 ) -> Result<(), AllocError>
-    requires near { AreNear homes.now }
+    requires near { AreNear homes }
     requires once { reads_once variable value ≡ true }
     ensures { OnOk result (code.new.items ≡ code.old.items
-        ++ early_code (home_in homes.now) queue variable target value) }
+        ++ early_code (home_by homes.entry) queue variable target value) }
 {
     let home = home_of(homes, target);
     let register = register_or(5, home);
@@ -288,15 +291,15 @@ fn early_code(
 /// The block of an action that takes a word, with which the next action is done: it computes this value into the target.
 pub fn taking_code(
     code: &mut Vec<Inst>,
-    homes: &[Home],
+    homes: HomeTable,
     action: &Action,
     target: u32,
     value: Value,
 ) -> Result<(), AllocError>
-    requires near { AreNear homes.now }
+    requires near { AreNear homes }
     requires once { IsTakenBy (IsEarly target value) action.now }
     ensures { OnOk result (code.new.items ≡ code.old.items
-        ++ taking_code (home_in homes.now) action.now target value) }
+        ++ taking_code (home_by homes.entry) action.now target value) }
 {
     match action {
         Action::Receive(variable) => early_code(code, homes, 30, *variable, target, value),

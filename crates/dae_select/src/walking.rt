@@ -16,8 +16,7 @@ ghost use Rattle.dae_select.specs.declared.making.PlacedBranch.{PlacedBranch as 
 ghost use Rattle.dae_select_calls.specs.Makings.{by_jal, IsSound};
 ghost use Rattle.dae_select.specs.Walking.{called_by, action_by, block_by, branch_to, IsStepBy, IsListBy};
 ghost use Rattle.dae_select_walks.specs.Edges.{is_then};
-ghost use Rattle.dae_select_walks.specs.Homes.{home_in};
-ghost use Rattle.dae_select_values.specs.Tables.{AreNear};
+ghost use Rattle.dae_select_values.specs.Tables.{AreNear, home_by};
 
 use crate::counting::is_near;
 use crate::growing::GrowingCode;
@@ -32,36 +31,36 @@ use dae_select_facts::{
 };
 use dae_select_live::{LiveSet, live_at_turn, live_before_action, live_with_branch};
 use dae_select_values::{
-    address_code, back_branch, branch_code, call_number, hear_code, home_of, issue_code, jump_back,
-    jump_over, jump_words, move_code, set_code, stop_code, system_code, take_code,
+    HomeTable, address_code, back_branch, branch_code, call_number, hear_code, home_of, issue_code,
+    jump_back, jump_over, jump_words, move_code, set_code, stop_code, system_code, take_code,
 };
-use dae_select_walks::{Edge, Home, Need, Standing};
+use dae_select_walks::{Edge, Need, Standing};
 use std::alloc::{AllocError, Global};
 
 /// What is at the front of a queue goes to a variable.
 fn receive_code(
     code: &mut Vec<Inst>,
-    homes: &[Home],
+    homes: HomeTable,
     queue: u8,
     variable: u32,
 ) -> Result<(), AllocError>
-    requires { AreNear homes.now }
+    requires { AreNear homes }
     ensures { OnOk result (code.new.items ≡ code.old.items
-        ++ take_code queue (home_in homes.now variable)) }
+        ++ take_code queue (home_by homes.entry variable)) }
 {
     take_code(code, queue, home_of(homes, variable))
 }
 
 fn own_code(
     code: &mut Vec<Inst>,
-    homes: &[Home],
+    homes: HomeTable,
     variable: u32,
     kind: LoadKind,
     operand: Operand,
 ) -> Result<(), AllocError>
-    requires { AreNear homes.now }
+    requires { AreNear homes }
     ensures { OnOk result (code.new.items ≡ code.old.items
-        ++ own_code (home_in homes.now) variable kind operand) }
+        ++ own_code (home_by homes.entry) variable kind operand) }
 {
     issue_code(code, homes, kind, 31, operand)?;
     take_code(code, 31, home_of(homes, variable))
@@ -314,7 +313,7 @@ fn behind_test(body: &[Step], test: Option<PlacedBranch>) -> &[Step]
 fn words_behind(making: &Making, test: Option<PlacedBranch>) -> Result<u64, AllocError>
     requires { IsSound making.now }
     ensures words { IfOk result (λ words. words
-        ≡ words_behind (home_in making.now.homes.now) (by_jal making.now) test) }
+        ≡ words_behind (home_by making.now.homes) (by_jal making.now) test) }
     ensures few { IfOk result (λ words. words ≤ 12) }
 {
     match test {
@@ -376,7 +375,7 @@ fn put_top_loop(
     step: GrowingCode,
 ) -> Result<(), AllocError>
     ensures { OnOk result (code.new
-        ≡ turned (home_in making.now.homes.now) (by_jal making.now) None body step code.old) }
+        ≡ turned (home_by making.now.homes) (by_jal making.now) None body step code.old) }
 {
     let mut block = Vec::new(making.alloc);
     jump_back(
@@ -401,7 +400,7 @@ fn put_bottom_loop(
     requires sound { IsSound making.now }
     requires near { length body.code + length step.code ≤ 900 }
     ensures { OnOk result (code.new
-        ≡ turned (home_in making.now.homes.now) (by_jal making.now) (Some test) body step
+        ≡ turned (home_by making.now.homes) (by_jal making.now) (Some test) body step
         code.old) }
 {
     let words = body.len() as u64 + step.len() as u64;
@@ -425,7 +424,7 @@ fn put_loop(
     requires sound { IsSound making.now }
     requires near { IsNearTurn test body step }
     ensures { OnOk result (code.new
-        ≡ turned (home_in making.now.homes.now) (by_jal making.now) test body step code.old) }
+        ≡ turned (home_by making.now.homes) (by_jal making.now) test body step code.old) }
 {
     match test {
         None => put_top_loop(code, making, body, step),

@@ -74,12 +74,12 @@ module _ (s : Setting) (plan : Plan) (variables : ℕ → ℕ) (fine : Fits s pl
         zero = h.zero;
         fits = h.fits;
         small = h.small;
-        agrees = record { base = a.base; variables = λ v l. a.variables v (stays v l); pointer = a.pointer; frame = a.frame; depth = a.depth; addresses = a.addresses; waiting = a.waiting; room = a.room; within = a.within };
+        agrees = record { base = a.base; variables = λ v l. a.variables v (stays v l); pointer = a.pointer; frame = a.frame; depth = a.depth; addresses = a.addresses; residents = a.residents; waiting = a.waiting; room = a.room; within = a.within };
       }
 
-  -- all but v, which is set, is live before, and in another home than v
+  -- all but v, which is set, is live before, and in another home than v, which is one of the variables
   abbrev pub Apart : ℕ → Type 0
-  Apart v = (u : ℕ) → live' u ≡ true → u ≢ v → (live u ≡ true) × (plan.home m.function u ≢ plan.home m.function v)
+  Apart v = ((u : ℕ) → live' u ≡ true → u ≢ v → (live u ≡ true) × (plan.home m.function u ≢ plan.home m.function v)) × (v < variables m.function)
 
   abbrev pub Reads : Operand → Type 0
   Reads x = (u : ℕ) → in_operand x u ≡ true → live u ≡ true
@@ -88,7 +88,7 @@ module _ (s : Setting) (plan : Plan) (variables : ℕ → ℕ) (fine : Fits s pl
   pub kept : {c : Contents} (v x : ℕ) → Ready plan live m c → Apart v → x < 2 ^ 32 → Does' (keep (plan.home m.function v)) (put (register_or 5 (plan.home m.function v)) x c) (Went (form.put true v x m.env))
   kept {c} v x h apart fits =
       let run = runs_keep s plan variables fine To {d = Went (form.put true v x m.env)} (plan.home m.function v) x [] h (fine.homes m.function v) fits
-      (λ c' g. ends (form.put true v x m.env) (ready_gets s plan variables fine v x h g apart)) in
+      (λ c' g. ends (form.put true v x m.env) (ready_gets s plan variables fine v x apart.1 h g apart.0)) in
       rw append-nil at run
 
   -- VariableSet

@@ -1,7 +1,8 @@
 -- What keeps the agreement with a moment: work in scratch registers, and a result that goes home.
-use Rattle.std.proofs.Common.{◌≡◌, ◌≢◌, ℕ, zero, ◌+◌, ◌-◌, ◌^◌, ◌<◌, ◌≤◌, Bool, true, false, List, [], ◌∷◌, refl, ap, ◌∙◌, arith}
-use Rattle.std.specs.Prelude.{nat_eq, if◌then◌else◌}
+use Rattle.std.proofs.Common.{◌≡◌, ◌≢◌, ℕ, zero, ◌+◌, ◌-◌, ◌^◌, ◌<◌, ◌≤◌, Bool, true, false, ◌&&◌, List, [], ◌∷◌, Some, None, refl, sym, ap, ◌∙◌, arith}
+use Rattle.std.specs.Prelude.{nat_eq, nat_lt, if◌then◌else◌}
 use Rattle.std.proofs.lemmas.Bool.Decides.{nat_tests}
+use Rattle.std.proofs.lemmas.Option.{same_Some}
 use Rattle.dae_base.proofs.Laws.{times_least}
 use Rattle.dae_ir.specs.Classes.{VariableSet}
 use Rattle.dae_meaning.specs.Variables.{Env}
@@ -9,7 +10,7 @@ use Rattle.dae_meaning.specs.Variables as form
 use Rattle.dae_select_walks.specs.declared.Home.{Home}
 use Rattle.dae_select_walks.specs.declared.Home.TheVariants.{Register, Slot}
 use Rattle.dae_select_walks.specs.Walks.{Setting}
-use Rattle.dae_select_walks.specs.Homes.{Contents, held, kept, is_home_register, IsHome, kept_at, slot_at, frame_words}
+use Rattle.dae_select_walks.specs.Homes.{Contents, held, kept, is_home_register, IsHome, kept_at, slot_at, frame_words, number_key, resident_home, resident_register}
 use Rattle.dae_select_walks.specs.Agrees.{Plan, Moment, Waiting, depth_of, Agrees, AreWaiting}
 use Rattle.dae_select_walks.specs.Compiled.{with_env}
 use Rattle.dae_select_blocks.specs.Fits.{Fits}
@@ -25,6 +26,21 @@ pub record Ready (plan : Plan) (live : VariableSet) (m : Moment) (c : Contents) 
 pub home_register : (r : ℕ) → is_home_register r ≡ true → (7 < r) × (r < 28) × (r ≢ 10) × (r ≢ 17)
 home_register r h = (grind (arith, nat_tests), grind (arith, nat_tests), grind (arith, nat_tests), grind (arith, nat_tests))
 
+-- the register of a number that stays in one is a home register, though no variable's
+pub resident_high : (home : Home) (r : ℕ) → resident_register home ≡ Some r → (24 < r) × (r < 28)
+resident_high (Register q) r e = by (nat_lt 24 q && nat_lt q 28) refl e
+  where
+    by : (b : Bool) → (nat_lt 24 q && nat_lt q 28) ≡ b → (if b then Some q else None) ≡ Some r → (24 < r) × (r < 28)
+    by true t f = let same : q ≡ r = same_Some q r f in let low : 24 < q = grind (arith, nat_tests) in let high : q < 28 = grind (arith, nat_tests) in (omega arith, omega arith)
+    by false t f = absurd (let none : None ≡ Some r = f in cc)
+resident_high (Slot i) r e = absurd (let none : None ≡ Some r = e in cc)
+
+high_home : (r : ℕ) → 24 < r → r < 28 → is_home_register r ≡ true
+high_home r a b = grind (arith, nat_tests)
+
+pub resident_good : (home : Home) (r : ℕ) → resident_register home ≡ Some r → is_home_register r ≡ true
+resident_good home r e = let k = resident_high home r e in high_home r k.0 k.1
+
 pub kept_small : (r : ℕ) → is_home_register r ≡ true → kept_at r < 19
 kept_small r h = grind (arith, nat_tests)
 
@@ -36,6 +52,11 @@ pub record IsScratch (plan : Plan) (r : ℕ) : Type 0 where
   pub home : is_home_register r ≡ false
   pub depth : plan.by_a ≡ true → 10 ≢ r
   pub addresses : plan.by_a ≡ true → 4 ≢ r
+
+-- a number's place among the homes is no variable's
+pub key_apart : (n v : ℕ) → v < 2 ^ 32 → nat_eq (number_key n) v ≡ false
+unfolding number_key
+key_apart n v l = grind (arith, nat_tests)
 
 -- only that register may be another
 pub record Like (r : ℕ) (c c' : Contents) : Type 0 where
@@ -86,6 +107,7 @@ module _ (s : Setting) (plan : Plan) (variables : ℕ → ℕ) (fine : Fits s pl
           frame = like.registers 3 scratch.three ∙ a.frame;
           depth = λ by_a. like.registers 10 (scratch.depth by_a) ∙ a.depth by_a;
           addresses = λ by_a. like.registers 4 (scratch.addresses by_a) ∙ a.addresses by_a;
+          residents = λ n q e. held_like r a.base 0 c c' (Register q) scratch like (resident_good (resident_home 27 plan.residents n) q e) ∙ a.residents n q e;
           waiting = waiting_same c c' a.base m.frame m.waiting (λ i l. like.words i) a.waiting;
           room = a.room;
           within = a.within;
@@ -106,9 +128,9 @@ module _ (s : Setting) (plan : Plan) (variables : ℕ → ℕ) (fine : Fits s pl
     pub small : (i : ℕ) → c'.word i < 2 ^ 32
 
   -- then the variable is set: what is live then was live before, in another home
-  pub ready_gets : {live live' : VariableSet} {m : Moment} {c c' : Contents} (v x : ℕ) (h : Ready plan live m c) → Gets (variables m.function) h.agrees.base (plan.home m.function v) x c c' →
+  pub ready_gets : {live live' : VariableSet} {m : Moment} {c c' : Contents} (v x : ℕ) → v < variables m.function → (h : Ready plan live m c) → Gets (variables m.function) h.agrees.base (plan.home m.function v) x c c' →
       ((u : ℕ) → live' u ≡ true → u ≢ v → (live u ≡ true) × (plan.home m.function u ≢ plan.home m.function v)) → Ready plan live' (with_env (form.put true v x m.env) m) c'
-  ready_gets {live} {live'} {m} {c} {c'} v x h g apart =
+  ready_gets {live} {live'} {m} {c} {c'} v x scope h g apart =
       let a = h.agrees in
       record {
         zero = g.zero ∙ h.zero;
@@ -121,6 +143,7 @@ module _ (s : Setting) (plan : Plan) (variables : ℕ → ℕ) (fine : Fits s pl
           frame = g.three ∙ a.frame;
           depth = λ by_a. g.depth by_a ∙ a.depth by_a;
           addresses = λ by_a. g.addresses by_a ∙ a.addresses by_a;
+          residents = λ n q e. g.others (Register q) (resident_good (resident_home 27 plan.residents n) q e) (λ same. fine.apart m.function v n q scope e (sym same)) ∙ a.residents n q e;
           waiting = waiting_same c c' a.base m.frame m.waiting g.below a.waiting;
           room = a.room;
           within = record { depth = a.within.depth; frame = a.within.frame };
@@ -140,3 +163,7 @@ module _ (s : Setting) (plan : Plan) (variables : ℕ → ℕ) (fine : Fits s pl
       let a = h.agrees in let room = a.room in let deep = a.within.depth in let l = fine.largest m.function in
       let once = times_least (plan.limit + 1 - depth_of m) plan.largest (omega arith) in
       omega arith
+
+  -- so that it has few variables
+  pub few_variables : {live : VariableSet} {m : Moment} {c : Contents} (h : Ready plan live m c) → variables m.function < 2 ^ 32
+  few_variables {m = m} h = let inside = frame_inside h in let long = fine.words m.function in let wide = fine.private in omega arith

@@ -1,34 +1,39 @@
 -- The start code leads the opened processor to where main's actions begin.
-use Rattle.std.proofs.Common.{◌≡◌, ℕ, zero, ◌+◌, ◌-◌, ◌*◌, ◌^◌, ◌<◌, ◌≤◌, Bool, true, false, List, [], ◌∷◌, ◌++◌, length, refl, sym, ap, ◌∙◌, subst, arith, append-nil, length-append}
-use Rattle.std.specs.Prelude.{nat_eq, if◌then◌else◌, pos, replicate, slice_index}
+use Rattle.std.proofs.Common.{◌≡◌, ℕ, zero, ◌+◌, ◌-◌, ◌*◌, ◌^◌, ◌<◌, ◌≤◌, Bool, true, false, ◌&&◌, List, [], ◌∷◌, ◌++◌, Some, None, length, refl, sym, ap, ◌∙◌, subst, arith, append_assoc, append-nil, length-append}
+use Rattle.std.specs.Prelude.{nat_eq, nat_lt, if◌then◌else◌, pos, replicate, slice_index}
+use Rattle.std.specs.List.{AllByRecursion}
+use Rattle.std.proofs.lemmas.Bool.Decides.{nat_tests}
+use Rattle.std.proofs.lemmas.Option.{same_Some}
 use Rattle.std.proofs.lemmas.List.{get_or-replicate}
 use Rattle.std.proofs.Math.ListN.{length-replicate}
 use Rattle.dae_base.specs.Words.{plus, word, loaded}
 use Rattle.dae_base.specs.declared.LoadKind.TheVariants.{I32}
-use Rattle.dae_base.proofs.Laws.{choice_small, times_least}
+use Rattle.dae_base.proofs.Laws.{choice_small, plus_small, times_least}
 use Rattle.dae_encode.specs.declared.Inst.{Inst}
 use Rattle.dae_encode.specs.declared.Inst.TheVariants.{Addi}
 use Rattle.dae_encode.specs.Processor.{Processor}
 use Rattle.dae_ir.specs.Classes.{VariableSet}
 use Rattle.dae_meaning.specs.Variables.{Env}
-use Rattle.dae_ir.specs.Deeds.{Went}
+use Rattle.dae_ir.specs.Deeds.{Deed, Went}
+use Rattle.dae_select_walks.specs.declared.Home.TheVariants.{Register}
 use Rattle.dae_select_walks.specs.Walks.{Setting, Comes}
 use Rattle.dae_select_walks.specs.Layout.{CodeAt}
-use Rattle.dae_select_walks.specs.Homes.{Contents}
-use Rattle.dae_select_walks.specs.Agrees.{Plan, Moment, Shows, Stands}
+use Rattle.dae_select_walks.specs.Homes.{Contents, resident_home, resident_register}
+use Rattle.dae_select_walks.specs.Agrees.{Plan, Moment, AreResident, Shows, Stands}
 use Rattle.dae_select_walks.proofs.LawsOfWalks.{comes_map, comes_then}
 use Rattle.dae_select_walks.proofs.LawsOfWalks.{put, store}
-use Rattle.dae_select_blocks.specs.Blocks.{number_code, enter_code, restore_code}
+use Rattle.dae_select_blocks.specs.Blocks.{number_code, residents_code, enter_code, restore_code}
 use Rattle.dae_select_blocks.specs.Code.{registers_in, entry_code, start_code}
 use Rattle.dae_select_blocks.specs.Fits.{Fits}
 use Rattle.dae_select_blocks.specs.Laws.{opened_with, CodeBegins}
-use Rattle.dae_select_blocks.proofs.Lengths.{entry_alone, opening_short, finish_some}
+use Rattle.dae_select_blocks.proofs.Lengths.{entry_alone, opening_short, residents_short, finish_some}
 use Rattle.dae_select_blocks.specs.Wanted.{IsLinked}
-use Rattle.dae_select_blocks.proofs.Plain.{computes, stores_word}
+use Rattle.dae_select_blocks.proofs.Plain.{put_same, put_other, computes, stores_word}
 use Rattle.dae_select_blocks.proofs.Frames.{runs_number}
 use Rattle.dae_select_blocks.proofs.Runs.{Runs, runs_nothing, runs_quiet, code_take, code_drop}
+use Rattle.dae_select_blocks.proofs.Agreement.{resident_high}
 use Rattle.dae_select_blocks.proofs.Operands.{like_put}
-use Rattle.dae_select_blocks.proofs.Calls.{register_kept, runs_restore, among_not}
+use Rattle.dae_select_blocks.proofs.Calls.{register_kept, runs_restore, among_not, among_other}
 use Rattle.dae_select_blocks.proofs.Entering.{jumps_in}
 
 abbrev pub nothing : Contents
@@ -56,6 +61,46 @@ opened_shows private = record {
   holds = λ i. (omega arith);
 }
 
+-- ---- the numbers that stay
+
+-- so many registers from this one down have got these numbers
+record Wrote (top : ℕ) (numbers : List ℕ) (c c' : Contents) : Type 0 where
+  pub words : (i : ℕ) → c'.word i ≡ c.word i
+  pub above : (j : ℕ) → top < j → c'.register j ≡ c.register j
+  pub below : (j : ℕ) → j + length numbers ≤ top → c'.register j ≡ c.register j
+  pub has : (n r : ℕ) → resident_register (resident_home top numbers n) ≡ Some r → c'.register r ≡ n
+  pub fits : (j : ℕ) → c'.register j < 2 ^ 32
+
+-- the register at the top has the first of them
+first_has : (top x n r : ℕ) (numbers : List ℕ) (c : Contents) → c.register top ≡ x → ((n r : ℕ) → resident_register (resident_home (top - 1) numbers n) ≡ Some r → c.register r ≡ n) → resident_register (resident_home top (x ∷ numbers) n) ≡ Some r → c.register r ≡ n
+first_has top x n r numbers c here rest = by (nat_eq n x) refl
+  where
+    told : (b : Bool) → n ≡ x → (if b then Some top else None) ≡ Some r → c.register r ≡ n
+    told true same e = let at' : top ≡ r = same_Some top r e in subst (λ (q : ℕ). c.register q ≡ n) at' (here ∙ sym same)
+    told false same e = absurd (let none : None ≡ Some r = e in cc)
+
+    by : (b : Bool) → nat_eq n x ≡ b → resident_register (if b then Register top else resident_home (top - 1) numbers n) ≡ Some r → c.register r ≡ n
+    by true t e = let same : n ≡ x = grind (arith, nat_tests) in told (nat_lt 24 top && nat_lt top 28) same e
+    by false t e = rest n r e
+
+runs_residents : (s : Setting) (private : ℕ) (to : ℕ → Env → Processor → Type 0) {c : Contents} {d : Deed} (top : ℕ) (numbers : List ℕ) (is : List Inst) → length numbers < top → top < 28 → AllByRecursion (λ n. n < 2 ^ 32) numbers → c.register 0 ≡ 0 → ((j : ℕ) → c.register j < 2 ^ 32) →
+    ((c' : Contents) → Wrote top numbers c c' → Runs s private to is c' d) → Runs s private to (residents_code top numbers ++ is) c d
+runs_residents s private to {c} top [] is some high small none fits run = run c (record { words = λ i. refl; above = λ j l. refl; below = λ j l. refl; has = λ n r e. absurd (let no : None ≡ Some r = e in cc); fits = fits })
+runs_residents s private to {c} top (x ∷ numbers) is some high small none fits run =
+    rw append_assoc (runs_number s private to top x (residents_code (top - 1) numbers ++ is) none (omega arith) high small.0 (
+    let like = like_put top x c small.0 fits in
+    runs_residents s private to {c = put top x c} (top - 1) numbers is (omega arith) (omega arith) small.1 (like.registers 0 (omega arith) ∙ none) like.fits (λ c2 rest.
+    let here : c2.register top ≡ x = rest.above top (omega arith) ∙ put_same top x c (omega arith) high in
+    run c2 (record {
+      words = λ i. rest.words i;
+      above = λ j l. rest.above j (omega arith) ∙ put_other top x j c (omega arith);
+      below = λ j l. rest.below j (omega arith) ∙ put_other top x j c (omega arith);
+      has = λ n r e. first_has top x n r numbers c2 here rest.has e;
+      fits = rest.fits;
+    }))))
+
+-- ---- the code that begins
+
 -- before main is called
 record Begun (plan : Plan) (first k : ℕ) (p : Processor) : Type 0 where
   pub contents : Contents
@@ -65,27 +110,46 @@ record Begun (plan : Plan) (first k : ℕ) (p : Processor) : Type 0 where
   pub three : contents.register 3 ≡ first
   pub four : plan.by_a ≡ true → contents.register 4 ≡ plan.memory - 16
   pub ten : plan.by_a ≡ true → contents.register 10 ≡ 1
+  pub residents : AreResident plan contents
 
 module _ (s : Setting) (plan : Plan) (variables : ℕ → ℕ) (fine : Fits s plan variables) (entries : ℕ → VariableSet) (linked : IsLinked s plan variables entries) where
   abbrev before_main : ℕ → List Inst
-  before_main first = number_code 3 first ++ (if plan.by_a then number_code 4 (plan.memory - 16) ++ Addi 10 0 (pos 1) ∷ [] else [])
+  before_main first = number_code 3 first ++ (residents_code 27 plan.residents ++ (if plan.by_a then number_code 4 (plan.memory - 16) ++ Addi 10 0 (pos 1) ∷ [] else []))
 
   begun : (first : ℕ) → first ≤ plan.memory → length (before_main first) < 2 ^ 29 → CodeAt s.code 0 (before_main first) → Comes s (length (before_main first)) (opened_with plan.private) (Begun plan first (0 + length (before_main first)))
   begun first fits small at =
-      let most = fine.common in
+      let most = fine.common in let few = fine.few in
       let to : ℕ → Env → Processor → Type 0 = λ k env q. Begun plan first k q in
-      let run : Runs s plan.private to (before_main first) nothing (Went (λ _. 0)) = runs_number s plan.private to 3 first _ refl (omega arith) (omega arith) (omega arith) (by plan.by_a refl) in
+      let like = like_put 3 first nothing (omega arith) (λ j. (omega arith)) in
+      let run : Runs s plan.private to (before_main first) nothing (Went (λ _. 0)) =
+      runs_number s plan.private to 3 first _ refl (omega arith) (omega arith) (omega arith) (
+      runs_residents s plan.private to 27 plan.residents _ (omega arith) (omega arith) fine.small refl like.fits (λ c wrote. by plan.by_a refl c wrote)) in
       run.from 0 (omega arith) at (opened_with plan.private) (opened_shows plan.private)
     where
-      by : (b : Bool) → plan.by_a ≡ b → Runs s plan.private (λ k env q. Begun plan first k q) (if b then number_code 4 (plan.memory - 16) ++ Addi 10 0 (pos 1) ∷ [] else []) (put 3 first nothing) (Went (λ _. 0))
-      by true e =
-          let most = fine.common in
+      by : (b : Bool) → plan.by_a ≡ b → (c : Contents) → Wrote 27 plan.residents (put 3 first nothing) c → Runs s plan.private (λ k env q. Begun plan first k q) (if b then number_code 4 (plan.memory - 16) ++ Addi 10 0 (pos 1) ∷ [] else []) c (Went (λ _. 0))
+      by true e c wrote =
+          let most = fine.common in let few = fine.few in
           let to : ℕ → Env → Processor → Type 0 = λ k env q. Begun plan first k q in
-          let c : Contents = put 4 (plan.memory - 16) (put 3 first nothing) in
-          runs_number s plan.private to 4 (plan.memory - 16) (Addi 10 0 (pos 1) ∷ []) refl (omega arith) (omega arith) (omega arith) (
-          runs_quiet s plan.private to (computes s plan.private to {c = c} (Addi 10 0 (pos 1)) 10 0 0 (λ x y. plus x (word (pos 1))) refl (omega arith) (omega arith) (omega arith) (omega arith)) (
-          runs_nothing s plan.private to (λ k q shows. record { contents = put 10 1 c; shows = shows; words = (λ i. refl); two = refl; three = refl; four = (λ _. refl); ten = (λ _. refl) })))
-      by false e = runs_nothing s plan.private (λ k env q. Begun plan first k q) (λ k q shows. record { contents = put 3 first nothing; shows = shows; words = (λ i. refl); two = refl; three = refl; four = (λ t. absurd cc); ten = (λ t. absurd cc) })
+          let none : c.register 0 ≡ 0 = wrote.below 0 (omega arith) in
+          let c1 : Contents = put 4 (plan.memory - 16) c in
+          let one : plus (c1.register 0) (word (pos 1)) ≡ 1 = rw none refl in
+          runs_number s plan.private to 4 (plan.memory - 16) (Addi 10 0 (pos 1) ∷ []) none (omega arith) (omega arith) (omega arith) (
+          runs_quiet s plan.private to (computes s plan.private to {c = c1} (Addi 10 0 (pos 1)) 10 0 0 (λ x y. plus x (word (pos 1))) refl (omega arith) (omega arith) (omega arith) (plus_small (c1.register 0) 1)) (rw one (
+          runs_nothing s plan.private to (λ k q shows. record {
+            contents = put 10 1 c1;
+            shows = shows;
+            words = (λ i. wrote.words i);
+            two = wrote.below 2 (omega arith);
+            three = wrote.below 3 (omega arith);
+            four = (λ _. refl);
+            ten = (λ _. refl);
+            residents = (λ n r e.
+                let high = resident_high (resident_home 27 plan.residents n) r e in
+                put_other 10 1 r c1 (omega arith) ∙ (put_other 4 (plan.memory - 16) r c (omega arith) ∙ wrote.has n r e));
+          }))))
+      by false e c wrote =
+          let few = fine.few in
+          runs_nothing s plan.private (λ k env q. Begun plan first k q) (λ k q shows. record { contents = c; shows = shows; words = (λ i. wrote.words i); two = wrote.below 2 (omega arith); three = wrote.below 3 (omega arith); four = (λ t. absurd cc); ten = (λ t. absurd cc); residents = (λ n r e. wrote.has n r e) })
 
   -- main reads nothing at its entry
   pub begins : (main first : ℕ) → main < plan.functions → ((u : ℕ) → entries main u ≡ false) → first ≤ plan.memory → 1 ≤ plan.limit → plan.limit * plan.largest ≤ plan.private → plan.finish ≡ length (start_code plan main first) →
@@ -121,6 +185,10 @@ module _ (s : Setting) (plan : Plan) (variables : ℕ → ℕ) (fine : Fits s pl
           frame = restored.others 3 (among_not (plan.home main) (variables main) 3 (entries main) refl) ∙ b.three;
           depth = (λ e. restored.others 10 (among_not (plan.home main) (variables main) 10 (entries main) refl) ∙ b.ten e);
           addresses = (λ e. restored.others 4 (among_not (plan.home main) (variables main) 4 (entries main) refl) ∙ b.four e);
+          residents = (λ n o e.
+              let high = resident_high (resident_home 27 plan.residents n) o e in
+              restored.others o (among_other (plan.home main) (variables main) o (entries main) (λ v l. fine.apart main v n o l e))
+              ∙ (l2.registers o (omega arith) ∙ (l1.registers o (omega arith) ∙ b.residents n o e)));
           waiting = (refl, (omega arith), restored.words 0 ∙ ap (λ n. 4 * n) back);
           room = (let same : plan.limit + 1 - 1 ≡ plan.limit = omega arith in rw same (omega arith));
           within = record { depth = deep; frame = fits };
@@ -136,4 +204,5 @@ module _ (s : Setting) (plan : Plan) (variables : ℕ → ℕ) (fine : Fits s pl
 pub code_begins : CodeBegins
 code_begins s plan variables entries main frames fine linked b =
     let l1 = entry_alone plan variables main (entries main) b.reads in let l2 = opening_short plan main frames in let l3 = finish_some plan.by_a in
-    comes_map s 8 (omega arith) (λ q g. g) (begins s plan variables fine entries linked main frames b.there b.reads b.first b.deep b.room b.finish b.code)
+    let l4 = residents_short 27 plan.residents in let few = fine.few in
+    comes_map s 14 (omega arith) (λ q g. g) (begins s plan variables fine entries linked main frames b.there b.reads b.first b.deep b.room b.finish b.code)

@@ -14,7 +14,7 @@ use Rattle.dae_select_walks.specs.declared.Home.{Home}
 use Rattle.dae_select_walks.specs.declared.Home.TheVariants.{Register, Slot}
 use Rattle.dae_select_walks.specs.Walks.{Setting}
 use Rattle.dae_select_walks.specs.Live.{in_operand, in_arguments}
-use Rattle.dae_select_walks.specs.Homes.{Contents, held, IsHome, AreApart, is_home_register, kept_at, slot_at}
+use Rattle.dae_select_walks.specs.Homes.{Contents, held, IsHome, AreApart, is_home_register, kept_at, slot_at, resident_home}
 use Rattle.dae_select_walks.specs.Agrees.{Plan, Moment}
 use Rattle.dae_select_walks.specs.Compiled.{given}
 use Rattle.dae_select_walks.proofs.LawsOfWalks.{put, store}
@@ -25,7 +25,7 @@ use Rattle.dae_select_blocks.specs.Wanted.{AreGiven, gives}
 use Rattle.dae_select_blocks.proofs.Plain.{put_same, put_other}
 use Rattle.dae_select_blocks.proofs.Frames.{runs_load, runs_store}
 use Rattle.dae_select_blocks.proofs.Runs.{Runs}
-use Rattle.dae_select_blocks.proofs.Agreement.{Ready, Like, ready_like, home_register, kept_small, waiting_same}
+use Rattle.dae_select_blocks.proofs.Agreement.{Ready, Like, ready_like, home_register, resident_high, kept_small, waiting_same}
 use Rattle.dae_select_blocks.proofs.Operands.{like_put, runs_fetch}
 use Rattle.dae_select_blocks.proofs.Computing.{is_scratch, is_work, source_plain, source_apart}
 
@@ -83,6 +83,35 @@ among_not home n r live h = by (among r (registers_in home n live)) refl
     by : (b : Bool) → among r (registers_in home n live) ≡ b → b ≡ false
     by true e = (let good = register_kept home n r live e in absurd cc)
     by false e = refl
+
+-- nor is a register in which no variable is
+not_filtered : (f : ℕ → Bool) (r : ℕ) (rs : List ℕ) → f r ≡ false → among r (filtered f rs) ≡ false
+not_filtered f r [] e = refl
+not_filtered f r (x ∷ xs) e = by (f x) (nat_eq r x) refl refl (not_filtered f r xs e)
+  where
+    by : (a b : Bool) → f x ≡ a → nat_eq r x ≡ b → among r (filtered f xs) ≡ false → among r (if a then x ∷ filtered f xs else filtered f xs) ≡ false
+    by true true ea eb later = let same : r ≡ x = grind (arith, nat_tests) in let e' : f r ≡ f x = ap f same in absurd cc
+    by true false ea eb later = rw eb later
+    by false b ea eb later = later
+
+none_below : (n : ℕ) (f : ℕ → Bool) → ((v : ℕ) → v < n → f v ≡ false) → some_below n f ≡ false
+none_below zero f h = refl
+none_below (suc n) f h = rw (h n (omega arith)) (none_below n f (λ v l. h v (omega arith)))
+
+pub among_other : (home : ℕ → Home) (n r : ℕ) (live : VariableSet) → ((v : ℕ) → v < n → home v ≢ Register r) → among r (registers_in home n live) ≡ false
+unfolding registers_in
+among_other home n r live h =
+    not_filtered (λ r. some_below n (λ v. live v && is_register r (home v))) r home_registers
+    (none_below n (λ v. live v && is_register r (home v)) (λ v l. elsewhere (live v) (home v) (h v l)))
+  where
+    elsewhere : (b : Bool) (g : Home) → g ≢ Register r → (b && is_register r g) ≡ false
+    elsewhere false g ne = refl
+    elsewhere true (Register q) ne = last (nat_eq r q) refl
+      where
+        last : (t : Bool) → nat_eq r q ≡ t → t ≡ false
+        last true e = absurd (ne (let same : q ≡ r = grind (arith, nat_tests) in ap Register same))
+        last false e = refl
+    elsewhere true (Slot i) ne = refl
 
 kept_apart : (q r : ℕ) → is_home_register q ≡ true → is_home_register r ≡ true → q ≢ r → kept_at q ≢ kept_at r
 kept_apart q r a b ne e = grind (arith, nat_tests)
@@ -221,6 +250,7 @@ module _ (s : Setting) (plan : Plan) (variables : ℕ → ℕ) (fine : Fits s pl
           frame = registers 3 (omega arith) ∙ a.frame;
           depth = λ by_a. registers 10 (omega arith) ∙ a.depth by_a;
           addresses = λ by_a. registers 4 (omega arith) ∙ a.addresses by_a;
+          residents = λ n q e. registers q (let high = resident_high (resident_home 27 plan.residents n) q e in omega arith) ∙ a.residents n q e;
           waiting = waiting_same s plan variables fine c c' a.base m.frame m.waiting (λ i l. words i (omega arith)) a.waiting;
           room = a.room;
           within = a.within;

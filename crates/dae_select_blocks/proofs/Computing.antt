@@ -1,12 +1,12 @@
 -- The code of a value leaves the value in its register.
 use Rattle.std.proofs.Common.{◌≡◌, ◌≢◌, ℕ, ◌^◌, ◌<◌, Bool, true, false, not, ◌&&◌, List, [], ◌∷◌, ◌++◌, Option, Some, None, refl, sym, ap, ◌∙◌, subst, arith, append_assoc}
-use Rattle.std.specs.Prelude.{nat_lt, nat_eq, if◌then◌else◌, pos, bit_and, bit_xor, int_lt}
+use Rattle.std.specs.Prelude.{nat_lt, nat_eq, if◌then◌else◌, pos, bit_and, bit_xor, int_lt, is_some}
 use Rattle.std.proofs.lemmas.Bool.Decides.{nat_tests}
 use Rattle.std.proofs.lemmas.Option.{same_Some}
 use Rattle.dae_base.specs.Words.{plus, minus, word, signed, extended}
 use Rattle.dae_base.specs.declared.LoadKind.{LoadKind}
 use Rattle.dae_base.specs.declared.LoadKind.TheVariants.{I8, U8, I16, U16, I32}
-use Rattle.dae_base.proofs.Laws.{plus_small}
+use Rattle.dae_base.proofs.Laws.{plus_small, and_true}
 use Rattle.dae_encode.specs.declared.Inst.{Inst}
 use Rattle.dae_encode.specs.declared.Inst.TheVariants.{Addi, Add, Sub, Slt, Sltu, Slti, Sltiu, Xori, Andi, Slli, Srli, Srai}
 use Rattle.dae_encode.specs.Instructions.{flag, shift_left, shift_right, shift_signed}
@@ -28,10 +28,10 @@ use Rattle.dae_select_walks.specs.declared.Home.{Home}
 use Rattle.dae_select_walks.specs.declared.Home.TheVariants.{Register, Slot}
 use Rattle.dae_select_walks.specs.Walks.{Setting}
 use Rattle.dae_select_walks.specs.Live.{in_operand, in_value}
-use Rattle.dae_select_walks.specs.Homes.{Contents, IsHome}
+use Rattle.dae_select_walks.specs.Homes.{Contents, IsHome, number_key, resident_register}
 use Rattle.dae_select_walks.specs.Agrees.{Plan, Moment}
 use Rattle.dae_select_walks.proofs.LawsOfWalks.{put}
-use Rattle.dae_select_blocks.specs.Blocks.{lower, is_immediate, number_code, register_or, source, fetch, immediate_code, exchanged_code, behind_or, combine_registers, binary_code, compare_code, takes_number, compare_number_code, compare_registers, compare_operands, tell_number_code, against_zero, immediate_of, extend_code, operation_code, frame_code, value_code}
+use Rattle.dae_select_blocks.specs.Blocks.{lower, is_immediate, number_code, register_or, source, fetch, immediate_code, exchanged_code, behind_or, combine_registers, binary_code, compare_code, takes_number, compare_number_code, compare_registers, compare_operands, tell_number_code, against_zero, immediate_of, extend_code, operation_code, frame_code, value_code, number_or, as_immediate}
 use Rattle.dae_select_blocks.specs.Fits.{Fits}
 use Rattle.dae_select_blocks.specs.Wanted.{IsNumber, AreNumbers}
 use Rattle.dae_select_blocks.proofs.Halves.{immediate_word, immediate_signed}
@@ -39,7 +39,7 @@ use Rattle.dae_select_blocks.proofs.Plain.{computes, Computed, computes_word}
 use Rattle.dae_select_blocks.proofs.Frames.{runs_number}
 use Rattle.dae_select_blocks.proofs.Runs.{Runs, runs_quiet}
 use Rattle.dae_select_blocks.proofs.Agreement.{Ready, IsScratch, Like, ready_like, home_register}
-use Rattle.dae_select_blocks.proofs.Operands.{IsWork, like_put, like_itself, home_plain, runs_fetch, runs_move}
+use Rattle.dae_select_blocks.proofs.Operands.{IsWork, like_put, like_itself, home_plain, runs_fetch, runs_move, number_below}
 use Rattle.dae_select_blocks.proofs.Values.{operation_is, operation_fits, DoesWith, immediate_does, exchanged_does, equal_flag, equal_left, different_flag, opposite_flag, low_byte, low_half, signed_byte, signed_half}
 
 flag_differs : (b : Bool) → compared NotEqual (flag b) 0 ≡ b
@@ -236,13 +236,13 @@ not_immediate true false n e f = absurd (let some : Some n ≡ None = f in cc)
 not_immediate false none n e f = absurd cc
 
 -- an immediate behind a test is the right operand, and not 0
-pub immediate_is : (relation : Comparison) (y : Operand) (k : ℕ) → immediate_of relation y ≡ Some k → (y ≡ Number k) × (takes_number relation k ≡ true) × (nat_eq k 0 ≡ false)
-immediate_is relation (Variable v) k e = absurd (let none : None ≡ Some k = e in cc)
-immediate_is relation (Number n) k e = by (takes_number relation n) (nat_eq n 0) refl refl e
+pub immediate_is : (home : ℕ → Home) (relation : Comparison) (y : Operand) (k : ℕ) → immediate_of home relation y ≡ Some k → (y ≡ Number k) × (takes_number relation k ≡ true) × (nat_eq k 0 ≡ false)
+immediate_is home relation (Variable v) k e = absurd (let none : None ≡ Some k = e in cc)
+immediate_is home relation (Number n) k e = by (as_immediate home relation n) (nat_eq n 0) refl refl e
   where
-    by : (takes none : Bool) → takes_number relation n ≡ takes → nat_eq n 0 ≡ none → (if takes && not none then Some n else None) ≡ Some k → (Number n ≡ Number k) × (takes_number relation k ≡ true) × (nat_eq k 0 ≡ false)
+    by : (takes none : Bool) → as_immediate home relation n ≡ takes → nat_eq n 0 ≡ none → (if takes && not none then Some n else None) ≡ Some k → (Number n ≡ Number k) × (takes_number relation k ≡ true) × (nat_eq k 0 ≡ false)
     by true true f g e = absurd (let none : None ≡ Some k = e in cc)
-    by true false f g e = subst (λ (j : ℕ). (Number n ≡ Number j) × (takes_number relation j ≡ true) × (nat_eq j 0 ≡ false)) (same_Some n k e) (refl, f, g)
+    by true false f g e = subst (λ (j : ℕ). (Number n ≡ Number j) × (takes_number relation j ≡ true) × (nat_eq j 0 ≡ false)) (same_Some n k e) (refl, (and_true (takes_number relation n) (not (is_some (resident_register (home (number_key n))))) f).0, g)
     by false none f g e = absurd (let none : None ≡ Some k = e in cc)
 
 -- before the last instruction of a comparison, which computes the flag into t, the operands are in their registers
@@ -250,7 +250,7 @@ pub record Compares (plan : Plan) (live : VariableSet) (m : Moment) (t : ℕ) (r
   pub ready : Ready plan live m c
   pub last : Computed i t (flag (compared relation (value x m.env) (value y m.env))) c
   pub left : c.register (source (plan.home m.function) 5 x) ≡ value x m.env
-  pub right : immediate_of relation y ≡ None → c.register (source (plan.home m.function) 6 y) ≡ value y m.env
+  pub right : immediate_of (plan.home m.function) relation y ≡ None → c.register (source (plan.home m.function) 6 y) ≡ value y m.env
 
 module _ (s : Setting) (plan : Plan) (variables : ℕ → ℕ) (fine : Fits s plan variables) (to : ℕ → Env → Processor → Type 0) where
   -- the register of a home, or the scratch register, is none that stands for a queue; and it is not another scratch register
@@ -265,17 +265,25 @@ module _ (s : Setting) (plan : Plan) (variables : ℕ → ℕ) (fine : Fits s pl
   source_plain f r (Variable v) l = register_plain (variables f) r (plan.home f v) (fine.homes f v) l
   source_plain f r (Number k) l = by (nat_eq k 0)
     where
-      by : (b : Bool) → (if b then 0 else r) < 28
+      by : (b : Bool) → (if b then 0 else number_or r (resident_register (plan.home f (number_key k)))) < 28
       by true = omega arith
-      by false = l
+      by false = number_below 28 r (plan.home f (number_key k)) (omega arith) l
 
   pub source_apart : (f r q : ℕ) (x : Operand) → 0 < q → q < 8 → r ≢ q → source (plan.home f) r x ≢ q
   source_apart f r q (Variable v) some l ne = register_apart (variables f) r q (plan.home f v) (fine.homes f v) l ne
   source_apart f r q (Number k) some l ne = by (nat_eq k 0)
     where
-      by : (b : Bool) → (if b then 0 else r) ≢ q
+      by : (b : Bool) → (if b then 0 else number_or r (resident_register (plan.home f (number_key k)))) ≢ q
       by true = λ same. omega arith
-      by false = ne
+      by false = from (plan.home f (number_key k))
+        where
+          from : (g : Home) → number_or r (resident_register g) ≢ q
+          from (Register h) = high (nat_lt 24 h && nat_lt h 28) refl
+            where
+              high : (b : Bool) → (nat_lt 24 h && nat_lt h 28) ≡ b → number_or r (if b then Some h else None) ≢ q
+              high true t = let above : 24 < h = grind (arith, nat_tests) in λ same. omega arith
+              high false t = ne
+          from (Slot i) = ne
 
   -- one operand, and two
   pub runs_one : {live : VariableSet} {m : Moment} {c : Contents} {d : Deed} (x : Operand) (is : List Inst) → Ready plan live m c → ((u : ℕ) → in_operand x u ≡ true → live u ≡ true) → IsNumber x →
@@ -357,20 +365,20 @@ module _ (s : Setting) (plan : Plan) (variables : ℕ → ℕ) (fine : Fits s pl
   runs_compare_operands t relation x (Variable v) is h reads_x reads_y number_x number_y run = runs_compare_registers t relation x (Variable v) is h reads_x reads_y number_x number_y run
   runs_compare_operands {m = m} {c} {d} t relation x (Number n) is h reads_x reads_y number_x number_y run =
       let r : ℕ = source (plan.home m.function) 5 x in
-      by (takes_number relation n) refl
+      by (as_immediate (plan.home m.function) relation n) refl
       (λ e. rw append_assoc (runs_one x (compare_number_code relation t r n ++ is) h reads_x number_x (λ c1 h1 got.
       let same : flag (compared relation (c1.register r) n) ≡ flag (compared relation (value x m.env) n) = rw got refl in
-      runs_compare_number s plan.private to relation t r n is h1.zero h1.fits (source_plain m.function 5 x (omega arith)) number_y e (λ c2 i like last.
+      runs_compare_number s plan.private to relation t r n is h1.zero h1.fits (source_plain m.function 5 x (omega arith)) number_y (and_true (takes_number relation n) (not (is_some (resident_register (plan.home m.function (number_key n))))) e).0 (λ c2 i like last.
       let h2 = ready_like s plan variables fine 7 (is_scratch plan 7 (omega arith) (omega arith)) like h1 in
       run c2 i (record {
         ready = h2;
         last = subst (λ (v : ℕ). Computed i t v c2) same last;
         left = like.registers r (source_apart m.function 5 7 x (omega arith) (omega arith) (omega arith)) ∙ got;
-        right = λ f. (let z = not_immediate (takes_number relation n) (nat_eq n 0) n e f in let none : n ≡ 0 = grind (arith, nat_tests) in rw z (h2.zero ∙ sym none));
+        right = λ f. (let z = not_immediate (as_immediate (plan.home m.function) relation n) (nat_eq n 0) n e f in let none : n ≡ 0 = grind (arith, nat_tests) in rw z (h2.zero ∙ sym none));
       })))))
       (runs_compare_registers t relation x (Number n) is h reads_x reads_y number_x number_y run)
     where
-      by : (b : Bool) → takes_number relation n ≡ b → (takes_number relation n ≡ true → Runs s plan.private to ((fetch (plan.home m.function) 5 x ++ compare_number_code relation t (source (plan.home m.function) 5 x) n) ++ is) c d) →
+      by : (b : Bool) → as_immediate (plan.home m.function) relation n ≡ b → (as_immediate (plan.home m.function) relation n ≡ true → Runs s plan.private to ((fetch (plan.home m.function) 5 x ++ compare_number_code relation t (source (plan.home m.function) 5 x) n) ++ is) c d) →
           Runs s plan.private to (compare_registers (plan.home m.function) t relation x (Number n) ++ is) c d → Runs s plan.private to ((if b then fetch (plan.home m.function) 5 x ++ compare_number_code relation t (source (plan.home m.function) 5 x) n else compare_registers (plan.home m.function) t relation x (Number n)) ++ is) c d
       by true e short long = short e
       by false e short long = long

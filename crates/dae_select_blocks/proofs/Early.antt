@@ -1,12 +1,12 @@
 -- A word is taken by the instruction that computes with it: one source of that is the register that stands for the queue.
 use Rattle.std.proofs.Common.{◌≡◌, ◌≢◌, ◌⊎◌, inl, inr, ℕ, ◌+◌, ◌^◌, ◌<◌, Bool, true, false, not, ◌&&◌, ◌||◌, List, [], ◌∷◌, ◌++◌, Option, Some, None, refl, sym, subst, ◌∙◌, arith, append_assoc, append-nil}
-use Rattle.std.specs.Prelude.{nat_lt, nat_eq, if◌then◌else◌, pos, bit_and, bit_xor, int_lt}
+use Rattle.std.specs.Prelude.{nat_lt, nat_eq, if◌then◌else◌, is_some, pos, bit_and, bit_xor, int_lt}
 use Rattle.std.proofs.lemmas.Bool.Decides.{nat_tests}
 use Rattle.dae_base.specs.Words.{plus, minus, word, signed, extended}
 use Rattle.dae_base.specs.declared.LoadKind.{LoadKind}
 use Rattle.dae_base.specs.declared.LoadKind.TheVariants.{I8, U8, I16, U16, I32}
 use Rattle.dae_base.specs.declared.Queue.{Queue}
-use Rattle.dae_base.proofs.Laws.{plus_small, or_true}
+use Rattle.dae_base.proofs.Laws.{plus_small, or_true, and_true}
 use Rattle.dae_encode.specs.declared.QueueUse.TheVariants.{Take as Takes}
 use Rattle.dae_encode.specs.declared.Form.TheVariants.{Computes}
 use Rattle.dae_encode.specs.declared.Inst.{Inst}
@@ -32,18 +32,18 @@ use Rattle.dae_select_walks.specs.declared.Home.{Home}
 use Rattle.dae_select_walks.specs.declared.Home.TheVariants.{Register}
 use Rattle.dae_select_walks.specs.Walks.{Setting}
 use Rattle.dae_select_walks.specs.Live.{in_operand, in_value}
-use Rattle.dae_select_walks.specs.Homes.{Contents}
+use Rattle.dae_select_walks.specs.Homes.{Contents, number_key, resident_register}
 use Rattle.dae_select_walks.specs.Agrees.{Plan, Moment, Stands}
 use Rattle.dae_select_walks.specs.Compiled.{with_env}
 use Rattle.dae_select_walks.proofs.LawsOfWalks.{put, read, step}
-use Rattle.dae_select_blocks.specs.Blocks.{register_or, source, fetch, keep, operation_code, immediate_code, exchanged_code, behind_or, combine_registers, binary_code, lower, is_immediate, extend_code, compare_code, takes_number, compare_number_code, compare_registers, compare_operands, value_code}
+use Rattle.dae_select_blocks.specs.Blocks.{register_or, source, fetch, keep, operation_code, immediate_code, exchanged_code, behind_or, combine_registers, binary_code, lower, is_immediate, extend_code, compare_code, takes_number, compare_number_code, as_immediate, compare_registers, compare_operands, value_code}
 use Rattle.dae_select_blocks.specs.Code.{either_one, reads_once, with_home, early_code}
 use Rattle.dae_select_blocks.specs.Fits.{Fits}
 use Rattle.dae_select_blocks.specs.Wanted.{IsNumber, AreNumbers}
 use Rattle.dae_select_blocks.proofs.Halves.{immediate_word, immediate_signed}
 use Rattle.dae_select_blocks.proofs.Plain.{plain_read, computes, put_same, put_other, put_twice}
 use Rattle.dae_select_blocks.proofs.Runs.{Runs, runs_nothing, runs_quiet, runs_take}
-use Rattle.dae_select_blocks.proofs.Agreement.{Ready, ready_like, ready_gets}
+use Rattle.dae_select_blocks.proofs.Agreement.{Ready, ready_like, ready_gets, key_apart}
 use Rattle.dae_select_blocks.proofs.Operands.{like_put, runs_fetch, runs_keep}
 use Rattle.dae_select_blocks.proofs.Values.{operation_is, operation_fits, DoesWith, immediate_does, exchanged_does, equal_flag, different_flag, opposite_flag, low_byte, low_half, signed_byte, signed_half}
 use Rattle.dae_select_blocks.proofs.Computing.{plus_zero, is_scratch, is_work, extended_fits, register_plain, source_plain}
@@ -283,28 +283,32 @@ module _ (s : Setting) (plan : Plan) (variables : ℕ → ℕ) (fine : Fits s pl
   abbrev Instead : ℕ → Moment → ℕ → Home
   Instead v m = with_home v (Register q) (plan.home m.function)
 
-  early_binary : {live : VariableSet} {m : Moment} {c : Contents} (v t : ℕ) (o : Operator) (x y : Operand) (is : List Inst) → either_one (in_operand x v) (in_operand y v) ≡ true → t < 28 → Ready plan live m c →
+  -- no number's place is that of v
+  abbrev IsFar : ℕ → Type 0
+  IsFar v = (n : ℕ) → nat_eq (number_key n) v ≡ false
+
+  early_binary : {live : VariableSet} {m : Moment} {c : Contents} (v t : ℕ) (o : Operator) (x y : Operand) (is : List Inst) → IsFar v → either_one (in_operand x v) (in_operand y v) ≡ true → t < 28 → Ready plan live m c →
       ((u : ℕ) → in_operand x u ≡ true → nat_eq u v ≡ false → live u ≡ true) → ((u : ℕ) → in_operand y u ≡ true → nat_eq u v ≡ false → live u ≡ true) → IsNumber x → IsNumber y →
       OnWord live m is t (λ w. combined o (value x (form.put true v w m.env)) (value y (form.put true v w m.env))) → Runs s plan.private to (binary_code (Instead v m) t o x y ++ is) c (Take queue go)
-  early_binary v t o (Number n) (Number k) is one low h reads_x reads_y number_x number_y run = absurd (let bad : false ≡ true = one in cc)
-  early_binary {live} {m} {c} v t o (Variable a) (Number n) is one low h reads_x reads_y number_x number_y run =
+  early_binary v t o (Number n) (Number k) is far one low h reads_x reads_y number_x number_y run = absurd (let bad : false ≡ true = one in cc)
+  early_binary {live} {m} {c} v t o (Variable a) (Number n) is far one low h reads_x reads_y number_x number_y run =
       let e : nat_eq v a ≡ true = left_one (nat_eq v a) one in
       let f : nat_eq a v ≡ true = grind (arith, nat_tests) in
       let on : OnWord live m is t (λ w. combined o w n) = λ w c1 small h1 fits. (let same : combined o (form.put true v w m.env a) n ≡ combined o w n = rw f refl in let r = run w c1 small h1 (rw same fits) in rw same at r) in
-      rw f (by on (immediate_code o t q n) refl)
+      rw (f, far n) (by on (immediate_code o t q n) refl)
     where
       by : OnWord live m is t (λ w. combined o w n) → (i : Option Inst) → immediate_code o t q n ≡ i → Runs s plan.private to (behind_or [] i (fetch (plan.home m.function) 6 (Number n) ++ operation_code o t q (source (plan.home m.function) 6 (Number n)) ∷ []) ++ is) c (Take queue go)
       by on (Some i) e = with_number t i (λ a. combined o a n) is low h (immediate_does o t q n i number_y e) (λ a l. operation_fits o a n l number_y) on
       by on None e = rw append_assoc (left_operation t o (Number n) is low h (λ u e. absurd (let bad : false ≡ true = e in cc)) number_y on)
-  early_binary {live} {m} {c} v t o (Number n) (Variable b) is one low h reads_x reads_y number_x number_y run =
+  early_binary {live} {m} {c} v t o (Number n) (Variable b) is far one low h reads_x reads_y number_x number_y run =
       let f : nat_eq b v ≡ true = grind (arith, nat_tests) in
       let on : OnWord live m is t (λ w. combined o n w) = λ w c1 small h1 fits. (let same : combined o n (form.put true v w m.env b) ≡ combined o n w = rw f refl in let r = run w c1 small h1 (rw same fits) in rw same at r) in
-      rw f (by on (exchanged_code o t q n) refl)
+      rw (f, far n) (by on (exchanged_code o t q n) refl)
     where
       by : OnWord live m is t (λ w. combined o n w) → (i : Option Inst) → exchanged_code o t q n ≡ i → Runs s plan.private to (behind_or [] i (fetch (plan.home m.function) 5 (Number n) ++ operation_code o t (source (plan.home m.function) 5 (Number n)) q ∷ []) ++ is) c (Take queue go)
       by on (Some i) e = with_number t i (λ a. combined o n a) is low h (exchanged_does o t q n i number_x e) (λ a l. operation_fits o n a number_x l) on
       by on None e = rw append_assoc (right_operation t o (Number n) is low h (λ u e. absurd (let bad : false ≡ true = e in cc)) number_x on)
-  early_binary {live} {m} {c} v t o (Variable a) (Variable b) is one low h reads_x reads_y number_x number_y run = by (nat_eq v a) refl one
+  early_binary {live} {m} {c} v t o (Variable a) (Variable b) is far one low h reads_x reads_y number_x number_y run = by (nat_eq v a) refl one
     where
       by : (z : Bool) → nat_eq v a ≡ z → either_one z (nat_eq v b) ≡ true → Runs s plan.private to (combine_registers (Instead v m) t o (Variable a) (Variable b) ++ is) c (Take queue go)
       by true e other =
@@ -321,25 +325,25 @@ module _ (s : Setting) (plan : Plan) (variables : ℕ → ℕ) (fine : Fits s pl
           let on : OnWord live m is t (λ w. combined o (m.env a) w) = λ w c1 small h1 fits. (let same : combined o (form.put true v w m.env a) (form.put true v w m.env b) ≡ combined o (m.env a) w = rw (f, g) refl in let r = run w c1 small h1 (rw same fits) in rw same at r) in
           rw (f, g, append_assoc) (right_operation t o (Variable a) is low h (λ u e. reads_x u e (let same : u ≡ a = grind (arith, nat_tests) in rw same g)) tt on)
 
-  early_test : {live : VariableSet} {m : Moment} {c : Contents} (v t : ℕ) (relation : Comparison) (x y : Operand) (is : List Inst) → either_one (in_operand x v) (in_operand y v) ≡ true → t < 28 → Ready plan live m c →
+  early_test : {live : VariableSet} {m : Moment} {c : Contents} (v t : ℕ) (relation : Comparison) (x y : Operand) (is : List Inst) → IsFar v → either_one (in_operand x v) (in_operand y v) ≡ true → t < 28 → Ready plan live m c →
       ((u : ℕ) → in_operand x u ≡ true → nat_eq u v ≡ false → live u ≡ true) → ((u : ℕ) → in_operand y u ≡ true → nat_eq u v ≡ false → live u ≡ true) → IsNumber x → IsNumber y →
       OnWord live m is t (λ w. flag (compared relation (value x (form.put true v w m.env)) (value y (form.put true v w m.env)))) → Runs s plan.private to (compare_operands (Instead v m) t relation x y ++ is) c (Take queue go)
-  early_test v t relation (Number n) (Number k) is one low h reads_x reads_y number_x number_y run = absurd (let bad : false ≡ true = one in cc)
-  early_test {live} {m} {c} v t relation (Variable a) (Number n) is one low h reads_x reads_y number_x number_y run =
+  early_test v t relation (Number n) (Number k) is far one low h reads_x reads_y number_x number_y run = absurd (let bad : false ≡ true = one in cc)
+  early_test {live} {m} {c} v t relation (Variable a) (Number n) is far one low h reads_x reads_y number_x number_y run =
       let e : nat_eq v a ≡ true = left_one (nat_eq v a) one in
       let f : nat_eq a v ≡ true = grind (arith, nat_tests) in
       let on : OnWord live m is t (λ w. flag (compared relation w n)) = λ w c1 small h1 fits. (let same : flag (compared relation (form.put true v w m.env a) n) ≡ flag (compared relation w n) = rw f refl in let r = run w c1 small h1 (rw same fits) in rw same at r) in
-      rw f (by on (takes_number relation n) refl)
+      rw (f, far n) (by on (as_immediate (plan.home m.function) relation n) refl)
     where
-      by : OnWord live m is t (λ w. flag (compared relation w n)) → (b : Bool) → takes_number relation n ≡ b →
+      by : OnWord live m is t (λ w. flag (compared relation w n)) → (b : Bool) → as_immediate (plan.home m.function) relation n ≡ b →
           Runs s plan.private to ((if b then compare_number_code relation t q n else fetch (plan.home m.function) 6 (Number n) ++ compare_code relation t q (source (plan.home m.function) 6 (Number n))) ++ is) c (Take queue go)
-      by on true e = number_compare t relation n is low h number_y e on
+      by on true e = number_compare t relation n is low h number_y (and_true (takes_number relation n) (not (is_some (resident_register (plan.home m.function (number_key n))))) e).0 on
       by on false e = rw append_assoc (left_compare t relation (Number n) is low h (λ u e. absurd (let bad : false ≡ true = e in cc)) number_y on)
-  early_test {live} {m} {c} v t relation (Number n) (Variable b) is one low h reads_x reads_y number_x number_y run =
+  early_test {live} {m} {c} v t relation (Number n) (Variable b) is far one low h reads_x reads_y number_x number_y run =
       let f : nat_eq b v ≡ true = grind (arith, nat_tests) in
       let on : OnWord live m is t (λ w. flag (compared relation n w)) = λ w c1 small h1 fits. (let same : flag (compared relation n (form.put true v w m.env b)) ≡ flag (compared relation n w) = rw f refl in let r = run w c1 small h1 (rw same fits) in rw same at r) in
-      rw (f, append_assoc) (right_compare t relation (Number n) is low h (λ u e. absurd (let bad : false ≡ true = e in cc)) number_x on)
-  early_test {live} {m} {c} v t relation (Variable a) (Variable b) is one low h reads_x reads_y number_x number_y run = by (nat_eq v a) refl one
+      rw (f, far n, append_assoc) (right_compare t relation (Number n) is low h (λ u e. absurd (let bad : false ≡ true = e in cc)) number_x on)
+  early_test {live} {m} {c} v t relation (Variable a) (Variable b) is far one low h reads_x reads_y number_x number_y run = by (nat_eq v a) refl one
     where
       by : (z : Bool) → nat_eq v a ≡ z → either_one z (nat_eq v b) ≡ true → Runs s plan.private to (compare_registers (Instead v m) t relation (Variable a) (Variable b) ++ is) c (Take queue go)
       by true e other =
@@ -356,23 +360,23 @@ module _ (s : Setting) (plan : Plan) (variables : ℕ → ℕ) (fine : Fits s pl
           let on : OnWord live m is t (λ w. flag (compared relation (m.env a) w)) = λ w c1 small h1 fits. (let same : flag (compared relation (form.put true v w m.env a) (form.put true v w m.env b)) ≡ flag (compared relation (m.env a) w) = rw (f, g) refl in let r = run w c1 small h1 (rw same fits) in rw same at r) in
           rw (f, g, append_assoc) (right_compare t relation (Variable a) is low h (λ u e. reads_x u e (let same : u ≡ a = grind (arith, nat_tests) in rw same g)) tt on)
 
-  early_value : {live : VariableSet} {m : Moment} {c : Contents} (v t : ℕ) (y : Value) (is : List Inst) → reads_once v y ≡ true → t < 28 → Ready plan live m c → ((u : ℕ) → in_value y u ≡ true → nat_eq u v ≡ false → live u ≡ true) → AreNumbers y →
+  early_value : {live : VariableSet} {m : Moment} {c : Contents} (v t : ℕ) (y : Value) (is : List Inst) → IsFar v → reads_once v y ≡ true → t < 28 → Ready plan live m c → ((u : ℕ) → in_value y u ≡ true → nat_eq u v ≡ false → live u ≡ true) → AreNumbers y →
       OnWord live m is t (λ w. computed y m.frame (form.put true v w m.env)) → Runs s plan.private to (value_code (Instead v m) t y ++ is) c (Take queue go)
-  early_value {m = m} {c = c} v t (Same (Variable a)) is once low h reads numbers run =
+  early_value {m = m} {c = c} v t (Same (Variable a)) is far once low h reads numbers run =
       let f : nat_eq a v ≡ true = grind (arith, nat_tests) in
       rw f (takes_left (Addi t q (pos 0)) t 0 (λ x y. plus x (word (pos 0))) is refl low (omega arith) (λ w small. omega arith)
       (λ w small. let none = plus_zero w small in let same : form.put true v w m.env a ≡ w = rw f refl in let r = run w c small h (rw same small) in rw none (rw same at r)))
-  early_value v t (Same (Number n)) is once low h reads numbers run = absurd (let bad : false ≡ true = once in cc)
-  early_value {live} {m} {c} v t (Extended kind (Variable a)) is once low h reads numbers run =
+  early_value v t (Same (Number n)) is far once low h reads numbers run = absurd (let bad : false ≡ true = once in cc)
+  early_value {live} {m} {c} v t (Extended kind (Variable a)) is far once low h reads numbers run =
       let f : nat_eq a v ≡ true = grind (arith, nat_tests) in
       let on : OnWord live m is t (λ w. extended kind w) = λ w c1 small h1 fits. (let same : extended kind (form.put true v w m.env a) ≡ extended kind w = rw f refl in let r = run w c1 small h1 (rw same fits) in rw same at r) in
       rw f (left_splits (extend_code kind t q) t 0 (λ a b. extended kind a) is (extend_splits s plan variables fine to kind t q low) (omega arith) h (λ w small. extended_fits kind w small) on)
-  early_value v t (Extended kind (Number n)) is once low h reads numbers run = absurd (let bad : false ≡ true = once in cc)
-  early_value v t (Binary o x y) is once low h reads numbers run =
-      early_binary v t o x y is once low h (λ u e ne. reads u (rw e refl) ne) (λ u e ne. reads u (rw e (or_true (in_operand x u))) ne) numbers.0 numbers.1 run
-  early_value v t (Holds test) is once low h reads numbers run =
-      early_test v t test.comparison test.left test.right is once low h (λ u e ne. reads u (rw e refl) ne) (λ u e ne. reads u (rw e (or_true (in_operand test.left u))) ne) numbers.0 numbers.1 run
-  early_value v t (FrameAddress offset) is once low h reads numbers run = absurd (let bad : false ≡ true = once in cc)
+  early_value v t (Extended kind (Number n)) is far once low h reads numbers run = absurd (let bad : false ≡ true = once in cc)
+  early_value v t (Binary o x y) is far once low h reads numbers run =
+      early_binary v t o x y is far once low h (λ u e ne. reads u (rw e refl) ne) (λ u e ne. reads u (rw e (or_true (in_operand x u))) ne) numbers.0 numbers.1 run
+  early_value v t (Holds test) is far once low h reads numbers run =
+      early_test v t test.comparison test.left test.right is far once low h (λ u e ne. reads u (rw e refl) ne) (λ u e ne. reads u (rw e (or_true (in_operand test.left u))) ne) numbers.0 numbers.1 run
+  early_value v t (FrameAddress offset) is far once low h reads numbers run = absurd (let bad : false ≡ true = once in cc)
 
 module _ (s : Setting) (plan : Plan) (variables : ℕ → ℕ) (fine : Fits s plan variables) (live live' : VariableSet) (m : Moment) (v d : ℕ) (y : Value) where
   -- the processor holds what it is to hold behind the next action
@@ -392,21 +396,21 @@ module _ (s : Setting) (plan : Plan) (variables : ℕ → ℕ) (fine : Fits s pl
           absurd (let bad : (false || not true) ≡ true = rw (far, kept) at dead in cc)
       by false false e f = refl
 
-  early_ends : {c : Contents} (w : ℕ) → (nat_eq v d || not (live' v)) ≡ true → Ready plan live m c → ((u : ℕ) → live' u ≡ true → u ≢ d → (live u ≡ true) × (plan.home m.function u ≢ plan.home m.function d)) → computed y m.frame (form.put true v w m.env) < 2 ^ 32 →
+  early_ends : {c : Contents} (w : ℕ) → d < variables m.function → (nat_eq v d || not (live' v)) ≡ true → Ready plan live m c → ((u : ℕ) → live' u ≡ true → u ≢ d → (live u ≡ true) × (plan.home m.function u ≢ plan.home m.function d)) → computed y m.frame (form.put true v w m.env) < 2 ^ 32 →
       Runs s plan.private ToNext (keep (plan.home m.function d)) (put (register_or 5 (plan.home m.function d)) (computed y m.frame (form.put true v w m.env)) c) (Went (form.put true v w m.env))
-  early_ends w dead h apart fits =
+  early_ends w scope dead h apart fits =
       let x : ℕ = computed y m.frame (form.put true v w m.env) in
       let run = runs_keep s plan variables fine ToNext {d = Went (form.put true v w m.env)} (plan.home m.function d) x [] h (fine.homes m.function d) fits
       (λ c1 got. runs_nothing s plan.private ToNext (λ k p shows.
-      let a = (ready_gets s plan variables fine d x h got apart).agrees in
-      record { contents = c1; shows = shows; agrees = record { base = a.base; variables = λ u l. a.variables u l ∙ kept_same w x u dead l; pointer = a.pointer; frame = a.frame; depth = a.depth; addresses = a.addresses; waiting = a.waiting; room = a.room; within = record { depth = a.within.depth; frame = a.within.frame } } })) in
+      let a = (ready_gets s plan variables fine d x scope h got apart).agrees in
+      record { contents = c1; shows = shows; agrees = record { base = a.base; variables = λ u l. a.variables u l ∙ kept_same w x u dead l; pointer = a.pointer; frame = a.frame; depth = a.depth; addresses = a.addresses; residents = a.residents; waiting = a.waiting; room = a.room; within = record { depth = a.within.depth; frame = a.within.frame } } })) in
       rw append-nil at run
 
   pub early_runs : {c : Contents} (q : ℕ) (queue : Queue) → nat_lt q 28 ≡ false →
       ((t r : ℕ) → t < 28 → r < 28 → queue_use s.copies s.side (Computes t q r) ≡ Some (Takes queue)) → ((t r : ℕ) → t < 28 → r < 28 → queue_use s.copies s.side (Computes t r q) ≡ Some (Takes queue)) →
-      Ready plan live m c → reads_once v y ≡ true → (nat_eq v d || not (live' v)) ≡ true → AreNumbers y → ((u : ℕ) → in_value y u ≡ true → nat_eq u v ≡ false → live u ≡ true) →
+      Ready plan live m c → v < 2 ^ 32 → d < variables m.function → reads_once v y ≡ true → (nat_eq v d || not (live' v)) ≡ true → AreNumbers y → ((u : ℕ) → in_value y u ≡ true → nat_eq u v ≡ false → live u ≡ true) →
       ((u : ℕ) → live' u ≡ true → u ≢ d → (live u ≡ true) × (plan.home m.function u ≢ plan.home m.function d)) → Runs s plan.private ToNext (early_code (plan.home m.function) q v d y) c (Take queue (λ w. Went (form.put true v w m.env)))
-  early_runs q queue high left right h once dead numbers reads apart =
+  early_runs q queue high left right h own scope once dead numbers reads apart =
       let home = plan.home m.function d in
-      early_value s plan variables fine ToNext q queue (λ w. Went (form.put true v w m.env)) high left right v (register_or 5 home) y (keep home) once (register_plain s plan variables fine ToNext (variables m.function) 5 home (fine.homes m.function d) (omega arith)) h reads numbers
-      (λ w c1 small h1 fits. early_ends w dead h1 apart fits)
+      early_value s plan variables fine ToNext q queue (λ w. Went (form.put true v w m.env)) high left right v (register_or 5 home) y (keep home) (λ n. key_apart n v own) once (register_plain s plan variables fine ToNext (variables m.function) 5 home (fine.homes m.function d) (omega arith)) h reads numbers
+      (λ w c1 small h1 fits. early_ends w scope dead h1 apart fits)

@@ -1,5 +1,5 @@
 -- A call's walk: from its block over the jump and the entry code to where the called function's actions begin.
-use Rattle.std.proofs.Common.{◌≡◌, ◌≢◌, ℕ, zero, suc, ◌+◌, ◌-◌, ◌*◌, ◌/◌, ◌^◌, ◌<◌, ◌≤◌, inl, inr, true, not, ◌&&◌, List, [], ◌++◌, Option, length, refl, sym, ap, ◌∙◌, subst, arith, append-nil}
+use Rattle.std.proofs.Common.{◌≡◌, ◌≢◌, ℕ, zero, suc, ◌+◌, ◌-◌, ◌*◌, ◌/◌, ◌^◌, ◌<◌, ◌≤◌, inl, inr, true, not, ◌&&◌, List, [], ◌++◌, Option, Some, length, refl, sym, ap, ◌∙◌, subst, arith, append-nil}
 use Rattle.std.specs.Prelude.{nat_eq, pos}
 use Rattle.std.proofs.lemmas.Bool.Decides.{nat_tests}
 use Rattle.dae_base.specs.Words.{plus, word}
@@ -16,8 +16,8 @@ use Rattle.dae_select_walks.specs.declared.Home.TheVariants.{Register, Slot}
 use Rattle.dae_select_walks.specs.Walks.{Setting, Comes}
 use Rattle.dae_select_walks.specs.Layout.{CodeAt}
 use Rattle.dae_select_walks.specs.Live.{in_arguments, is}
-use Rattle.dae_select_walks.specs.Homes.{Contents, held, kept, IsHome, AreApart, is_home_register, kept_at, slot_at}
-use Rattle.dae_select_walks.specs.Agrees.{Plan, Moment, Waiting, Agrees, Shows, Stands, AreIn, AreWaiting, IsWithin, depth_of, top_of}
+use Rattle.dae_select_walks.specs.Homes.{Contents, held, kept, IsHome, AreApart, is_home_register, kept_at, slot_at, resident_home, resident_register}
+use Rattle.dae_select_walks.specs.Agrees.{Plan, Moment, Waiting, Agrees, Shows, Stands, AreIn, AreWaiting, AreResident, IsWithin, depth_of, top_of}
 use Rattle.dae_select_walks.specs.Compiled.{given, called, waiting_of}
 use Rattle.dae_select_walks.proofs.LawsOfWalks.{comes_here, comes_more, comes_then}
 use Rattle.dae_select_walks.proofs.LawsOfWalks.{put, store, step}
@@ -29,9 +29,9 @@ use Rattle.dae_select_blocks.proofs.Halves.{halves}
 use Rattle.dae_select_blocks.proofs.Plain.{plain_computes, stores_word}
 use Rattle.dae_select_blocks.proofs.Frames.{upper_small}
 use Rattle.dae_select_blocks.proofs.Runs.{Runs, runs_nothing, runs_quiet}
-use Rattle.dae_select_blocks.proofs.Agreement.{Ready, kept_small, waiting_same}
+use Rattle.dae_select_blocks.proofs.Agreement.{Ready, resident_high, kept_small, waiting_same}
 use Rattle.dae_select_blocks.proofs.Operands.{like_put}
-use Rattle.dae_select_blocks.proofs.Calls.{kept_low, among, kept_register, register_kept, Saved, runs_arguments, runs_save, runs_restore, among_not}
+use Rattle.dae_select_blocks.proofs.Calls.{kept_low, among, kept_register, register_kept, Saved, runs_arguments, runs_save, runs_restore, among_not, among_other}
 use Rattle.dae_select_blocks.proofs.Deeper.{runs_deeper}
 use Rattle.dae_select_blocks.proofs.Jumps.{ready}
 
@@ -42,6 +42,7 @@ pub record Prepared (plan : Plan) (m : Moment) (w : Waiting) (base g : ℕ) (xs 
   pub two : contents.register 2 ≡ 4 * (base + plan.words m.function)
   pub three : contents.register 3 ≡ top_of plan m
   pub four : plan.by_a ≡ true → contents.register 4 ≡ plan.memory - 16
+  pub residents : AreResident plan contents
   pub ten : plan.by_a ≡ true → contents.register 10 ≡ depth_of m + 1
   pub given : (u : ℕ) → gives xs u ≡ true → contents.word (base + (plan.words m.function + waits_at (plan.home g u))) ≡ given xs m.env u
   pub variables : AreIn (kept contents base) (plan.home m.function) w.live m.env
@@ -97,6 +98,9 @@ module _ (s : Setting) (plan : Plan) (variables : ℕ → ℕ) (fine : Fits s pl
         two = moved.two;
         three = moved.three;
         four = λ e. moved.others 4 (omega arith) (omega arith) (omega arith) (omega arith) ∙ (saved.registers 4 (omega arith) ∙ h1.agrees.addresses e);
+        residents = λ n r e.
+            let high = resident_high (resident_home 27 plan.residents n) r e in
+            moved.others r (omega arith) (omega arith) (omega arith) (omega arith) ∙ (saved.registers r (omega arith) ∙ h1.agrees.residents n r e);
         ten = moved.ten;
         given = λ u e. moved.words (base + (plan.words m.function + waits_at (plan.home g u))) ∙ (saved.others (base + (plan.words m.function + waits_at (plan.home g u))) (inr (omega arith)) ∙ gave.given u e);
         variables = λ u e. one base u w.live c1 c2 c3 h1 gave.based saved moved.words e (keeps u e) (scope u (keeps u e)) (plan.home m.function u) refl;
@@ -129,6 +133,7 @@ module _ (s : Setting) (plan : Plan) (variables : ℕ → ℕ) (fine : Fits s pl
     pub three : c.register 3 ≡ before'.register 3
     pub four : c.register 4 ≡ before'.register 4
     pub ten : c.register 10 ≡ before'.register 10
+    pub residents : (n r : ℕ) → resident_register (resident_home 27 plan.residents n) ≡ Some r → c.register r ≡ before'.register r
 
   arrives : {live : VariableSet} {m : Moment} {k : ℕ} {p : Processor} (v : Option ℕ) (behind : VariableSet) (g : ℕ) (xs : List Argument) {c0 c : Contents} (h : Ready plan live m c0) → ((u : ℕ) → entries g u ≡ true → gives xs u ≡ true) → k + 2 < 2 ^ 29 → IsWithin plan (called plan g xs (waiting_of v behind (k + 2) m) m) →
       (q : Prepared plan m (waiting_of v behind (k + 2) m) h.agrees.base g xs k p) → Arrived m (waiting_of v behind (k + 2) m) h.agrees.base g q.contents c → Agrees plan (entries g) (called plan g xs (waiting_of v behind (k + 2) m) m) c
@@ -148,6 +153,7 @@ module _ (s : Setting) (plan : Plan) (variables : ℕ → ℕ) (fine : Fits s pl
         frame = a.three ∙ q.three;
         depth = λ e. a.ten ∙ (q.ten e ∙ next);
         addresses = λ e. a.four ∙ q.four e;
+        residents = λ n r e. a.residents n r e ∙ q.residents n r e;
         waiting = (
           h.agrees.base,
           refl,
@@ -215,6 +221,10 @@ module _ (s : Setting) (plan : Plan) (variables : ℕ → ℕ) (fine : Fits s pl
           three = restored.others 3 (among_not (plan.home g) (variables g) 3 (entries g) refl);
           four = restored.others 4 (among_not (plan.home g) (variables g) 4 (entries g) refl);
           ten = restored.others 10 (among_not (plan.home g) (variables g) 10 (entries g) refl);
+          residents = λ n o e.
+              let high = resident_high (resident_home 27 plan.residents n) o e in
+              restored.others o (among_other (plan.home g) (variables g) o (entries g) (λ v l. fine.apart g v n o l e))
+              ∙ (l2.registers o (omega arith) ∙ l1.registers o (omega arith));
         });
       })) in
       rw append-nil at last)

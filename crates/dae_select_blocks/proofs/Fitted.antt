@@ -26,7 +26,7 @@ use Rattle.dae_select_walks.specs.Facts.{Facts, unknown, facts_behind, facts_in_
 use Rattle.dae_select_walks.specs.declared.Need.{Need}
 use Rattle.dae_select_walks.specs.declared.Need.TheVariants.{All, Ends, Nothing}
 use Rattle.dae_select_walks.specs.Agrees.{Plan}
-use Rattle.dae_select_blocks.specs.Blocks.{lower, is_immediate, more_code, less_code, is_register, number_code, register_or, source, call_number, jump_over, jump_back, enter_code, arguments_code, waits_at, save_code, restore_code, deeper_code, back_code, leave_code, jump_words}
+use Rattle.dae_select_blocks.specs.Blocks.{lower, is_immediate, more_code, less_code, is_register, number_code, register_or, source, call_number, jump_over, jump_back, enter_code, arguments_code, waits_at, save_code, restore_code, deeper_code, back_code, leave_code, jump_words, residents_code}
 use Rattle.dae_select_blocks.specs.Code.{some_below, filtered, home_registers, registers_in, call_code, action_code, branch_code, standing_behind, with_home, early_code, late_code, needed_code, block_code, code_of, entry_code, function_code, finish_code, start_code, does_nothing, past_code, tail_of, has_bottom, leaves_first, is_near, bottom_test}
 use Rattle.dae_select_blocks.proofs.Ranges.{AllFit, fit_append, fit_either, lui_fits, jalr_fits, addi_fits, addi_small, sw_small, add_fits, number_fits, load_fits, store_fits, register_fits, fetch_fits, move_fits, keep_fits, over_fits, back_fits}
 use Rattle.dae_select_blocks.proofs.Fitting.{ecall_fits, issue_fits, address_fits, source_fits, value_fit, value_fits, take_fits, branch_fits, back_branch_fits, system_fits, stop_fits, leave_fits, result_fits, hear_fits, placed_fits, check_fits}
@@ -240,10 +240,16 @@ pub finish_fits : (by_a : Bool) → AllFit (finish_code by_a)
 finish_fits true = (ecall_fits, tt)
 finish_fits false = (addi_small 10 6 0 (omega arith) (omega arith) (omega arith), (addi_small 17 0 0 (omega arith) (omega arith) (omega arith), (ecall_fits, tt)))
 
+residents_fit : (r : ℕ) (numbers : List ℕ) → r < 32 → AllFit (residents_code r numbers)
+residents_fit r [] h = tt
+residents_fit r (n ∷ ns) h = fit_append (number_code r n) (residents_code (r - 1) ns) (number_fits r n h) (residents_fit (r - 1) ns (omega arith))
+
 pub start_fits : (plan : Plan) (main frames : ℕ) → AllFit (start_code plan main frames)
 start_fits plan main frames =
     let addresses : List Inst = number_code 4 (plan.memory - 16) ++ Addi 10 0 (pos 1) ∷ [] in
     let fit : AllFit addresses = fit_append (number_code 4 (plan.memory - 16)) (Addi 10 0 (pos 1) ∷ []) (number_fits 4 (plan.memory - 16) (omega arith)) (addi_small 10 0 1 (omega arith) (omega arith) (omega arith), tt) in
-    fit_append (number_code 3 frames ++ (if plan.by_a then addresses else [])) (enter_code (plan.entry main))
-    (fit_append (number_code 3 frames) (if plan.by_a then addresses else []) (number_fits 3 frames (omega arith)) (fit_either plan.by_a addresses [] (λ e. fit) (λ e. tt)))
+    let stay : List Inst = residents_code 27 plan.residents in
+    fit_append (number_code 3 frames ++ (stay ++ (if plan.by_a then addresses else []))) (enter_code (plan.entry main))
+    (fit_append (number_code 3 frames) (stay ++ (if plan.by_a then addresses else [])) (number_fits 3 frames (omega arith))
+    (fit_append stay (if plan.by_a then addresses else []) (residents_fit 27 plan.residents (omega arith)) (fit_either plan.by_a addresses [] (λ e. fit) (λ e. tt))))
     (enter_fits (plan.entry main))

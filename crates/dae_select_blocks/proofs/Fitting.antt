@@ -29,10 +29,11 @@ use Rattle.dae_ir.specs.declared.form.Value.TheVariants.{Same, Extended, Binary,
 use Rattle.dae_ir.specs.declared.stream.Branch.{Branch}
 use Rattle.dae_ir.specs.declared.stream.Branch.TheVariants.{Silent, Tells, Hears}
 use Rattle.dae_select_walks.specs.declared.Home.{Home}
-use Rattle.dae_select_walks.specs.Homes.{IsHome}
-use Rattle.dae_select_blocks.specs.Blocks.{lower, is_immediate, number_code, register_or, source, fetch, move_code, operation_code, exponent, power_code, immediate_code, commutes, exchanged_code, behind_or, combine_registers, binary_code, extend_code, compare_code, takes_number, compare_number_code, compare_registers, compare_operands, test_code, frame_code, value_code, issue_code, address_code, take_code, fail_code, over, align_code, bounds_code, room_code, check_code, system_code, hear_code, stop_code, leave_code, result_code, branch_inst, opposite, one_way, goes_by, goes_code, frames_room_code, tell_number_code, against_zero, immediate_of, back_offset, goes_back}
+use Rattle.dae_select_walks.specs.Homes.{IsHome, number_key, resident_register}
+use Rattle.dae_select_blocks.specs.Blocks.{lower, is_immediate, number_code, register_or, source, fetch, move_code, operation_code, exponent, power_code, immediate_code, commutes, exchanged_code, behind_or, combine_registers, binary_code, extend_code, compare_code, compare_number_code, compare_registers, compare_operands, test_code, frame_code, value_code, issue_code, address_code, take_code, fail_code, over, align_code, bounds_code, room_code, check_code, system_code, hear_code, stop_code, leave_code, result_code, branch_inst, opposite, one_way, goes_by, goes_code, frames_room_code, tell_number_code, against_zero, immediate_of, back_offset, goes_back, number_or, as_immediate}
 use Rattle.dae_select_blocks.specs.Code.{placed_code, branch_code, told_by, branch_by, ahead_by, before_branch, back_branch}
 use Rattle.dae_select_blocks.proofs.Ranges.{move_fit, AllFit, fit_append, fit_either, lower_fits, addi_fits, addi_small, lw_small, add_fits, number_fits, register_fits, fetch_fits, move_fits, keep_fits, over_fits}
+use Rattle.dae_select_blocks.proofs.Operands.{number_below}
 use Rattle.dae_select_blocks.proofs.Values.{power_of_two}
 
 three_fit : (o : Operator) (t x y : ℕ) → t < 32 → x < 32 → y < 32 → InRange (operation_code o t x y)
@@ -198,9 +199,9 @@ module _ (home : ℕ → Home) (low : (r v : ℕ) → r < 32 → register_or r (
   source_fit r (Variable v) h = low r v h
   source_fit r (Number k) h = by (nat_eq k 0)
     where
-      by : (b : Bool) → (if b then 0 else r) < 32
+      by : (b : Bool) → (if b then 0 else number_or r (resident_register (home (number_key k)))) < 32
       by true = omega arith
-      by false = h
+      by false = number_below 32 r (home (number_key k)) (omega arith) h
 
   fetched_in : (r : ℕ) (x : Operand) (is : List Inst) → r < 32 → AllFit is → AllFit (fetch home r x ++ is)
   fetched_in r x is h k = fit_append (fetch home r x) is (fetch_fits 0 home r x h) k
@@ -227,7 +228,7 @@ module _ (home : ℕ → Home) (low : (r v : ℕ) → r < 32 → register_or r (
   compares_operands_fit : (t : ℕ) (r : Comparison) (x y : Operand) → t < 32 → AllFit (compare_operands home t r x y)
   compares_operands_fit t r x (Variable v) h = compares_registers_fit t r x (Variable v) h
   compares_operands_fit t r x (Number k) h =
-      fit_either (takes_number r k) (fetch home 5 x ++ compare_number_code r t (source home 5 x) k) (compare_registers home t r x (Number k))
+      fit_either (as_immediate home r k) (fetch home 5 x ++ compare_number_code r t (source home 5 x) k) (compare_registers home t r x (Number k))
       (λ e. fetched_in 5 x _ (omega arith) (compares_number_fit r t (source home 5 x) k h (source_fit 5 x (omega arith)))) (λ e. compares_registers_fit t r x (Number k) h)
 
   test_fit : (t : ℕ) (test : Test) → t < 32 → AllFit (test_code home t test)
@@ -273,7 +274,7 @@ module _ (n : ℕ) (home : ℕ → Home) (good : (v : ℕ) → IsHome n (home v)
 
   by_branch_fits : (go : Comparison → ℕ → ℕ → List Inst) (b : Branch) (way : Bool) → AreFit go → AllFit (branch_by home go b way)
   by_branch_fits go (Silent t) way fit = fetched_fit 5 t.left _ (omega arith) (fetched_fit 6 t.right _ (omega arith) (fit (one_way way t.comparison) (source home 5 t.left) (source home 6 t.right) (source_fits 5 t.left (omega arith)) (source_fits 6 t.right (omega arith))))
-  by_branch_fits go (Tells t) way fit = told_fits (immediate_of t.comparison t.right) go t way fit
+  by_branch_fits go (Tells t) way fit = told_fits (immediate_of home t.comparison t.right) go t way fit
   by_branch_fits go Hears way fit = fit (one_way way NotEqual) 29 0 (omega arith) (omega arith)
 
   pub branch_fits : (short : Bool) (b : Branch) (way : Bool) (n : ℕ) → AllFit (branch_code home short b way n)

@@ -141,8 +141,9 @@ module _ (s : Setting) (plan : Plan) (variables : ℕ → ℕ) (fine : Fits s pl
             let end' : back_of here f g xs v k + length rest' ≡ next = rw e (omega arith) in
             let apart : (u z : ℕ) → is v z ≡ true → k u ≡ true → u ≢ z → plan.home m.function u ≢ plan.home m.function z = rw e (λ u z sets' l ne. t.right.apart u z (rw l (open' (in_arguments xs u) (is v u))) (or_right (before (Call v g xs) k (ways_of x) z) (is v z) sets') ne) in
             let scope' : (u : ℕ) → k u ≡ true → is v u ≡ false → u < variables m.function = rw e (λ u l ne. scope u (rw (l, ne) (or_true (in_arguments xs u)))) in
+            let own : (z : ℕ) → is v z ≡ true → z < variables m.function = rw e (λ z sets'. t.right.scope z (or_right (before (Call v g xs) k (ways_of x) z) (is v z) sets')) in
             comes_map s (3 * most) brief' (λ q z. (e, subst (λ (j : ℕ). Stands plan k (with_env (with_result v result m.env) m) j q) end' z))
-            (resumes s plan variables fine v k (back_of here f g xs v k) result within answered scope' apart l (rw end' (omega arith)) third')),
+            (resumes s plan variables fine v k (back_of here f g xs v k) result within answered scope' own apart l (rw end' (omega arith)) third')),
       )
     where
       open' : (b c : Bool) → ((b || (true && not c)) || c) ≡ true

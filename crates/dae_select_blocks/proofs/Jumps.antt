@@ -165,7 +165,7 @@ module _ (s : Setting) (plan : Plan) (variables : ℕ → ℕ) (fine : Fits s pl
   pub stands_less : {live live' : VariableSet} {m : Moment} {k : ℕ} {p : Processor} → ((u : ℕ) → live' u ≡ true → live u ≡ true) → Stands plan live m k p → Stands plan live' m k p
   stands_less less h =
       let a = h.agrees in
-      record { contents = h.contents; shows = h.shows; agrees = record { base = a.base; variables = λ v l. a.variables v (less v l); pointer = a.pointer; frame = a.frame; depth = a.depth; addresses = a.addresses; waiting = a.waiting; room = a.room; within = a.within } }
+      record { contents = h.contents; shows = h.shows; agrees = record { base = a.base; variables = λ v l. a.variables v (less v l); pointer = a.pointer; frame = a.frame; depth = a.depth; addresses = a.addresses; residents = a.residents; waiting = a.waiting; room = a.room; within = a.within } }
 
   pub moved : {live : VariableSet} {m : Moment} {a b a' b' : ℕ} {p : Processor} (t : Bool) → a ≡ a' → b ≡ b' → Stands plan live m (if t then a else b) p → Stands plan live m (if t then a' else b') p
   moved t e f h = rw (← e, ← f) h
@@ -311,7 +311,7 @@ module _ (s : Setting) (plan : Plan) (variables : ℕ → ℕ) (fine : Fits s pl
       )
 
   -- its operands are still in their registers
-  tells : {live : VariableSet} {m : Moment} {k : ℕ} {p : Processor} (t : Test) → immediate_of t.comparison t.right ≡ None → k + length (test_code (plan.home m.function) 29 t) < 2 ^ 29 → CodeAt s.code k (test_code (plan.home m.function) 29 t) → ((u : ℕ) → in_test t u ≡ true → live u ≡ true) → IsNumber t.left → IsNumber t.right →
+  tells : {live : VariableSet} {m : Moment} {k : ℕ} {p : Processor} (t : Test) → immediate_of (plan.home m.function) t.comparison t.right ≡ None → k + length (test_code (plan.home m.function) 29 t) < 2 ^ 29 → CodeAt s.code k (test_code (plan.home m.function) 29 t) → ((u : ℕ) → in_test t u ≡ true → live u ≡ true) → IsNumber t.left → IsNumber t.right →
       Stands plan live m k p →
       Does s (length (test_code (plan.home m.function) 29 t)) (Push (told_on plan.by_a) (flag (holds t m.env)) (Went m.env)) (λ env. Told live m t.comparison (source (plan.home m.function) 5 t.left) (source (plan.home m.function) 6 t.right) (holds t m.env) (k + length (test_code (plan.home m.function) 29 t))) p
   tells {live} {m} {k} {p} t again small at reads left right h =
@@ -327,12 +327,12 @@ module _ (s : Setting) (plan : Plan) (variables : ℕ → ℕ) (fine : Fits s pl
   abbrev tell_immediate : ℕ → Test → ℕ → List Inst
   tell_immediate f t j = fetch (plan.home f) 5 t.left ++ tell_number_code t.comparison (source (plan.home f) 5 t.left) j
 
-  tells_immediate : {live : VariableSet} {m : Moment} {k : ℕ} {p : Processor} (t : Test) (j : ℕ) → immediate_of t.comparison t.right ≡ Some j → k + length (tell_immediate m.function t j) < 2 ^ 29 → CodeAt s.code k (tell_immediate m.function t j) → ((u : ℕ) → in_test t u ≡ true → live u ≡ true) → IsNumber t.left → IsNumber t.right →
+  tells_immediate : {live : VariableSet} {m : Moment} {k : ℕ} {p : Processor} (t : Test) (j : ℕ) → immediate_of (plan.home m.function) t.comparison t.right ≡ Some j → k + length (tell_immediate m.function t j) < 2 ^ 29 → CodeAt s.code k (tell_immediate m.function t j) → ((u : ℕ) → in_test t u ≡ true → live u ≡ true) → IsNumber t.left → IsNumber t.right →
       Stands plan live m k p → Does s (length (tell_immediate m.function t j)) (Push (told_on plan.by_a) (flag (holds t m.env)) (Went m.env)) (λ env. Told live m (against_zero t.comparison) 7 0 (holds t m.env) (k + length (tell_immediate m.function t j))) p
   tells_immediate {live} {m} {k} {p} t j e small at reads left right h =
       let to : ℕ → Env → Processor → Type 0 = λ k env q. Told live m (against_zero t.comparison) 7 0 (holds t m.env) k q in
       let b : ℕ = flag (holds t m.env) in let fits = flag_small (holds t m.env) in
-      let is = immediate_is t.comparison t.right j e in
+      let is = immediate_is (plan.home m.function) t.comparison t.right j e in
       let word' : j < 2 ^ 32 = subst IsNumber is.0 right in
       let same : compared t.comparison (value t.left m.env) j ≡ holds t m.env = ap (λ (y : Operand). compared t.comparison (value t.left m.env) (value y m.env)) (sym is.0) in
       let run = runs_told_number s plan variables fine to {d = Push (told_on plan.by_a) b (Went m.env)} t.comparison t.left j [] (ready h) (λ u e. reads u (grind (arith, nat_tests))) left word' is.1 is.2 (λ c1 i r last left.
@@ -345,12 +345,12 @@ module _ (s : Setting) (plan : Plan) (variables : ℕ → ℕ) (fine : Fits s pl
   pub tells_done : {live : VariableSet} {m : Moment} {k : ℕ} {p : Processor} (go : Comparison → ℕ → ℕ → List Inst) (words far : ℕ) (way : Bool) (t : Test) → AllLong go words → 1 ≤ words → k + length (branch_by (plan.home m.function) go (Tells t) way) < 2 ^ 29 → GoesFrom go words (k + length (branch_by (plan.home m.function) go (Tells t) way)) far →
       CodeAt s.code k (branch_by (plan.home m.function) go (Tells t) way) → ((u : ℕ) → in_test t u ≡ true → live u ≡ true) → IsNumber t.left → IsNumber t.right → Stands plan live m k p →
       Does s (length (branch_by (plan.home m.function) go (Tells t) way) + 2) (Push (told_on plan.by_a) (flag (holds t m.env)) (Went m.env)) (λ env. Stands plan live m (if goes_if way (holds t m.env) then far else k + length (branch_by (plan.home m.function) go (Tells t) way))) p
-  tells_done {live} {m} {k} {p} go words far way t alike some small goes at reads left right h = by (immediate_of t.comparison t.right) refl small goes at
+  tells_done {live} {m} {k} {p} go words far way t alike some small goes at reads left right h = by (immediate_of (plan.home m.function) t.comparison t.right) refl small goes at
     where
       Done' : List Inst → Type 0
       Done' is = Does s (length is + 2) (Push (told_on plan.by_a) (flag (holds t m.env)) (Went m.env)) (λ env. Stands plan live m (if goes_if way (holds t m.env) then far else k + length is)) p
 
-      by : (o : Option ℕ) → immediate_of t.comparison t.right ≡ o → k + length (told_by o (plan.home m.function) go t way) < 2 ^ 29 → GoesFrom go words (k + length (told_by o (plan.home m.function) go t way)) far → CodeAt s.code k (told_by o (plan.home m.function) go t way) → Done' (told_by o (plan.home m.function) go t way)
+      by : (o : Option ℕ) → immediate_of (plan.home m.function) t.comparison t.right ≡ o → k + length (told_by o (plan.home m.function) go t way) < 2 ^ 29 → GoesFrom go words (k + length (told_by o (plan.home m.function) go t way)) far → CodeAt s.code k (told_by o (plan.home m.function) go t way) → Done' (told_by o (plan.home m.function) go t way)
       by None e small goes at =
           let x : ℕ = source (plan.home m.function) 5 t.left in let y : ℕ = source (plan.home m.function) 6 t.right in
           let to : ℕ → Env → Processor → Type 0 = λ k env q. Unit {0} in

@@ -18,8 +18,8 @@ use Rattle.dae_select_walks.specs.declared.Home.TheVariants.{Register, Slot}
 use Rattle.dae_select_walks.specs.Walks.{Setting, Comes}
 use Rattle.dae_select_walks.specs.Layout.{CodeAt}
 use Rattle.dae_select_walks.specs.Live.{in_option, is}
-use Rattle.dae_select_walks.specs.Homes.{Contents, held, kept, is_home_register, kept_at, slot_at}
-use Rattle.dae_select_walks.specs.Agrees.{Plan, Moment, Waiting, Shows, Stands, AreIn, AreWaiting, IsWithin, depth_of}
+use Rattle.dae_select_walks.specs.Homes.{Contents, held, kept, is_home_register, kept_at, slot_at, resident_home}
+use Rattle.dae_select_walks.specs.Agrees.{Plan, Moment, Waiting, Shows, Stands, AreIn, AreWaiting, AreResident, IsWithin, depth_of}
 use Rattle.dae_select_walks.specs.Compiled.{Lands, IsAnswered, with_result, waiting_of, result_of, with_env}
 use Rattle.dae_select_walks.proofs.LawsOfWalks.{comes_here, comes_map, comes_more, comes_then}
 use Rattle.dae_select_walks.proofs.LawsOfWalks.{put, step}
@@ -29,11 +29,11 @@ use Rattle.dae_select_blocks.specs.Fits.{Fits}
 use Rattle.dae_select_blocks.specs.Wanted.{IsWantedResult}
 use Rattle.dae_select_blocks.proofs.Plain.{plain_computes, put_nowhere, computes, loads_word}
 use Rattle.dae_select_blocks.proofs.Runs.{Runs, runs_nothing, runs_quiet, code_take, code_drop}
-use Rattle.dae_select_blocks.proofs.Agreement.{Ready, IsScratch, ready_like, frame_inside, waiting_same}
+use Rattle.dae_select_blocks.proofs.Agreement.{Ready, IsScratch, ready_like, resident_high, frame_inside, waiting_same}
 use Rattle.dae_select_blocks.proofs.Operands.{like_put, runs_move}
 use Rattle.dae_select_blocks.proofs.Computing.{plus_zero, is_scratch, register_plain}
 use Rattle.dae_select_blocks.proofs.Actions.{To, ends, ready_stays, kept as goes_home}
-use Rattle.dae_select_blocks.proofs.Calls.{kept_register, register_kept, Restored, runs_restore, base_is, among_not}
+use Rattle.dae_select_blocks.proofs.Calls.{kept_register, register_kept, Restored, runs_restore, base_is, among_not, among_other}
 use Rattle.dae_select_blocks.proofs.Deeper.{Moved, runs_back}
 use Rattle.dae_select_blocks.proofs.Jumps.{ready}
 
@@ -107,6 +107,7 @@ module _ (s : Setting) (plan : Plan) (variables : ℕ → ℕ) (fine : Fits s pl
         low = a.within.frame;
         depth = λ e. a.depth e ∙ (rw is (omega arith));
         addresses = a.addresses;
+        residents = a.residents;
         waiting = (let z = a.waiting in rw is at z);
         given = g.given;
       })
@@ -117,8 +118,8 @@ module _ (s : Setting) (plan : Plan) (variables : ℕ → ℕ) (fine : Fits s pl
   -- the caller's frames are back, and what it kept is in its registers
   back_again : (m : Moment) (w : Waiting) (base below : ℕ) (c c1 c2 : Contents) → w.function ≡ m.function → w.env ≡ m.env → w.frame ≡ m.frame → IsWithin plan m → ((u : ℕ) → w.live u ≡ true → u < variables m.function) →
       c.register 0 ≡ 0 → ((i : ℕ) → c.word i < 2 ^ 32) → AreIn (kept c below) (plan.home w.function) w.live w.env → AreWaiting plan c below w.frame m.waiting → below + (plan.limit + 1 - (length m.waiting + 1)) * plan.largest ≤ plan.private →
-      (plan.by_a ≡ true → c.register 4 ≡ plan.memory - 16) → Moved plan below m.frame (depth_of m) c c1 → Restored (registers_in (plan.home m.function) (variables m.function) w.live) below c1 c2 → Ready plan w.live m c2
-  back_again m w base below c c1 c2 is_function is_env is_frame within scope none small variables' waiting room addresses moved restored =
+      (plan.by_a ≡ true → c.register 4 ≡ plan.memory - 16) → AreResident plan c → Moved plan below m.frame (depth_of m) c c1 → Restored (registers_in (plan.home m.function) (variables m.function) w.live) below c1 c2 → Ready plan w.live m c2
+  back_again m w base below c c1 c2 is_function is_env is_frame within scope none small variables' waiting room addresses residents moved restored =
       record {
         zero = restored.others 0 (among_not (plan.home m.function) (variables m.function) 0 w.live refl) ∙ (moved.others 0 (omega arith) (omega arith) (omega arith) (omega arith) ∙ none);
         fits = restored.fits;
@@ -130,6 +131,10 @@ module _ (s : Setting) (plan : Plan) (variables : ℕ → ℕ) (fine : Fits s pl
           frame = restored.others 3 (among_not (plan.home m.function) (variables m.function) 3 w.live refl) ∙ moved.three;
           depth = λ e. restored.others 10 (among_not (plan.home m.function) (variables m.function) 10 w.live refl) ∙ moved.ten e;
           addresses = λ e. restored.others 4 (among_not (plan.home m.function) (variables m.function) 4 w.live refl) ∙ (moved.others 4 (omega arith) (omega arith) (omega arith) (omega arith) ∙ addresses e);
+          residents = λ n r e.
+              let high = resident_high (resident_home 27 plan.residents n) r e in
+              restored.others r (among_other (plan.home m.function) (variables m.function) r w.live (λ v l. fine.apart m.function v n r l e))
+              ∙ (moved.others r (omega arith) (omega arith) (omega arith) (omega arith) ∙ residents n r e);
           waiting = waiting_same s plan variables fine c c2 below m.frame m.waiting (λ i l. restored.words i ∙ moved.words i) (rw is_frame at waiting);
           room = room;
           within = within;
@@ -148,11 +153,11 @@ module _ (s : Setting) (plan : Plan) (variables : ℕ → ℕ) (fine : Fits s pl
           restored.words (below + slot_at i) ∙ (moved.words (below + slot_at i) ∙ b)
 
   -- the result, if it is wanted, goes home
-  finish : (m : Moment) (behind : VariableSet) (v result : Option ℕ) → IsAnswered v result → {c : Contents} → Ready plan (λ u. behind u && not (is v u)) m c → ((u x : ℕ) → is v x ≡ true → behind u ≡ true → u ≢ x → plan.home m.function u ≢ plan.home m.function x) → ((x : ℕ) → result ≡ Some x → c.register 6 ≡ x) →
+  finish : (m : Moment) (behind : VariableSet) (v result : Option ℕ) → ((x : ℕ) → is v x ≡ true → x < variables m.function) → IsAnswered v result → {c : Contents} → Ready plan (λ u. behind u && not (is v u)) m c → ((u x : ℕ) → is v x ≡ true → behind u ≡ true → u ≢ x → plan.home m.function u ≢ plan.home m.function x) → ((x : ℕ) → result ≡ Some x → c.register 6 ≡ x) →
       Runs s plan.private (To s plan variables fine (λ u. behind u && not (is v u)) behind m) (result_code (plan.home m.function) v) c (Went (with_result v result m.env))
-  finish m behind None result answered h apart given = ends s plan variables fine (λ u. behind u && not false) behind m m.env (ready_stays s plan variables fine (λ u. behind u && not false) behind m (λ u e. rw e refl) h)
-  finish m behind (Some v) None answered h apart given = absurd answered
-  finish m behind (Some v) (Some x) answered {c} h apart given =
+  finish m behind None result scope answered h apart given = ends s plan variables fine (λ u. behind u && not false) behind m m.env (ready_stays s plan variables fine (λ u. behind u && not false) behind m (λ u e. rw e refl) h)
+  finish m behind (Some v) None scope answered h apart given = absurd answered
+  finish m behind (Some v) (Some x) scope answered {c} h apart given =
       let live : VariableSet = λ u. behind u && not (nat_eq u v) in
       let to : ℕ → Env → Processor → Type 0 = To s plan variables fine live behind m in
       let home = plan.home m.function v in let good = fine.homes m.function v in
@@ -161,16 +166,16 @@ module _ (s : Setting) (plan : Plan) (variables : ℕ → ℕ) (fine : Fits s pl
       let same : plus (c.register 6) (word (pos 0)) ≡ x = rw got (plus_zero x small) in
       let plain = register_plain s plan variables fine to (variables m.function) 5 home good (omega arith) in
       runs_quiet s plan.private to (computes s plan.private to (Addi (register_or 5 home) 6 (pos 0)) (register_or 5 home) 6 0 (λ x y. plus x (word (pos 0))) refl plain (omega arith) (omega arith) (plus_small (c.register 6) 0)) (rw same (
-      goes_home s plan variables fine live behind m v x h (λ u l ne. (rw l (grind (arith, nat_tests)), apart u v (grind (arith, nat_tests)) l ne)) small))
+      goes_home s plan variables fine live behind m v x h ((λ u l ne. (rw l (grind (arith, nat_tests)), apart u v (grind (arith, nat_tests)) l ne)), scope v (grind (arith, nat_tests))) small))
 
-  pub resumes : {m : Moment} {p : Processor} (v : Option ℕ) (behind : VariableSet) (back : ℕ) (result : Option ℕ) → IsWithin plan m → IsAnswered v result → ((u : ℕ) → behind u ≡ true → is v u ≡ false → u < variables m.function) →
+  pub resumes : {m : Moment} {p : Processor} (v : Option ℕ) (behind : VariableSet) (back : ℕ) (result : Option ℕ) → IsWithin plan m → IsAnswered v result → ((u : ℕ) → behind u ≡ true → is v u ≡ false → u < variables m.function) → ((x : ℕ) → is v x ≡ true → x < variables m.function) →
       ((u x : ℕ) → is v x ≡ true → behind u ≡ true → u ≢ x → plan.home m.function u ≢ plan.home m.function x) →
       Lands plan (waiting_of v behind back m) m.waiting result p →
       back + length (back_code plan m.function ++ (restore_code (registers_in (plan.home m.function) (variables m.function) (λ u. behind u && not (is v u))) ++ result_code (plan.home m.function) v)) < 2 ^ 29 →
       CodeAt s.code back (back_code plan m.function ++ (restore_code (registers_in (plan.home m.function) (variables m.function) (λ u. behind u && not (is v u))) ++ result_code (plan.home m.function) v)) →
       Comes s (length (back_code plan m.function ++ (restore_code (registers_in (plan.home m.function) (variables m.function) (λ u. behind u && not (is v u))) ++ result_code (plan.home m.function) v))) p
       (Stands plan behind (with_env (with_result v result m.env) m) (back + length (back_code plan m.function ++ (restore_code (registers_in (plan.home m.function) (variables m.function) (λ u. behind u && not (is v u))) ++ result_code (plan.home m.function) v))))
-  resumes {m} {p} v behind back result within answered scope apart l small at =
+  resumes {m} {p} v behind back result within answered scope own apart l small at =
       let c : Contents = l.contents in
       let waits = l.waiting in
       let below : ℕ = waits.0 in
@@ -185,8 +190,8 @@ module _ (s : Setting) (plan : Plan) (variables : ℕ → ℕ) (fine : Fits s pl
       let run : Runs s plan.private to (back_code plan m.function ++ (restore_code rs ++ result_code (plan.home m.function) v)) c (Went (with_result v result m.env)) =
       runs_back s plan to m.function below m.frame (depth_of m) (restore_code rs ++ result_code (plan.home m.function) v) l.shows.zero l.shows.fits two three (λ e. l.depth e ∙ (omega arith)) (omega arith) (omega arith) (omega arith) (λ c1 moved.
       runs_restore s plan variables fine to below rs (result_code (plan.home m.function) v) (λ q e. register_kept (plan.home m.function) (variables m.function) q kept_set e) moved.two (omega arith) moved.fits (λ i. rw (moved.words i) (l.shows.holds i)) (λ c2 restored.
-      let h2 = back_again m (waiting_of v behind back m) l.base below c c1 c2 refl refl refl within (λ u e. scope u (front (behind u) (is v u) e) (rear (behind u) (is v u) e)) l.shows.zero l.shows.holds waits.7 waits.8 room l.addresses moved restored in
-      finish m behind v result answered h2 apart (λ x e. restored.others 6 (among_not (plan.home m.function) (variables m.function) 6 kept_set refl) ∙ (moved.others 6 (omega arith) (omega arith) (omega arith) (omega arith) ∙ l.given x e)))) in
+      let h2 = back_again m (waiting_of v behind back m) l.base below c c1 c2 refl refl refl within (λ u e. scope u (front (behind u) (is v u) e) (rear (behind u) (is v u) e)) l.shows.zero l.shows.holds waits.7 waits.8 room l.addresses l.residents moved restored in
+      finish m behind v result own answered h2 apart (λ x e. restored.others 6 (among_not (plan.home m.function) (variables m.function) 6 kept_set refl) ∙ (moved.others 6 (omega arith) (omega arith) (omega arith) (omega arith) ∙ l.given x e)))) in
       run.from back small at p l.shows
     where
       front : (a b : Bool) → (a && not b) ≡ true → a ≡ true

@@ -2,6 +2,7 @@
 use Rattle.std.specs.List.{AllByRecursion}
 use Rattle.std.proofs.Common.{◌≡◌, refl, ℕ, zero, suc, ◌+◌, ◌-◌, ◌*◌, ◌%◌, ◌^◌, ◌≤◌, Bool, true, false, ◌&&◌, List, [], ◌∷◌, ◌++◌, Option, Some, None, length, arith, length-append}
 use Rattle.std.specs.Prelude.{nat_lt, nat_eq, if◌then◌else◌, pos, negsuc}
+use Rattle.std.proofs.lemmas.Bool.Decides.{nat_tests}
 use Rattle.dae_base.specs.declared.Width.{Width}
 use Rattle.dae_base.specs.declared.Width.TheVariants.{B1, B2, B4}
 use Rattle.dae_base.specs.declared.LoadKind.{LoadKind}
@@ -27,9 +28,9 @@ use Rattle.dae_ir.specs.declared.stream.Branch.{Branch}
 use Rattle.dae_ir.specs.declared.stream.Branch.TheVariants.{Silent, Tells, Hears}
 use Rattle.dae_select_walks.specs.declared.Home.{Home}
 use Rattle.dae_select_walks.specs.declared.Home.TheVariants.{Register, Slot}
-use Rattle.dae_select_walks.specs.Homes.{slot_at, kept_at}
+use Rattle.dae_select_walks.specs.Homes.{slot_at, kept_at, number_key, resident_register}
 use Rattle.dae_select_walks.specs.Agrees.{Plan}
-use Rattle.dae_select_blocks.specs.Blocks.{operation_code, issue_code, address_code, call_number, over, is_register, number_code, load_code, store_code, register_or, source, fetch_home, fetch, keep, compare_code, test_code, extend_code, value_code, fail_code, align_code, bounds_code, room_code, check_code, take_code, hear_code, stop_code, arguments_code, save_code, restore_code, deeper_code, back_code, result_code, leave_code, waits_at, enter_code, more_code, less_code, is_immediate, move_code, immediate_code, exchanged_code, behind_or, combine_registers, binary_code, takes_number, compare_number_code, compare_registers, compare_operands, frame_code, system_code, one_way, jump_over, jump_back, goes_by, goes_code, frames_room_code, tell_number_code, against_zero, immediate_of, goes_back}
+use Rattle.dae_select_blocks.specs.Blocks.{operation_code, issue_code, address_code, call_number, over, is_register, number_code, load_code, store_code, register_or, source, fetch_home, fetch, keep, compare_code, test_code, extend_code, value_code, fail_code, align_code, bounds_code, room_code, check_code, take_code, hear_code, stop_code, arguments_code, save_code, restore_code, deeper_code, back_code, result_code, leave_code, waits_at, enter_code, more_code, less_code, is_immediate, move_code, immediate_code, exchanged_code, behind_or, combine_registers, binary_code, compare_number_code, compare_registers, compare_operands, frame_code, system_code, one_way, jump_over, jump_back, goes_by, goes_code, frames_room_code, tell_number_code, against_zero, immediate_of, goes_back, fetch_number, residents_code, as_immediate}
 use Rattle.dae_select_blocks.specs.Code.{placed_code, some_below, filtered, home_registers, registers_in, with_home, early_code, action_code, branch_code, entry_code, start_code, finish_code, past_code, told_by, branch_by, ahead_by, before_branch, back_branch}
 use Rattle.dae_select_blocks.proofs.Simple.{IsSimple}
 
@@ -50,9 +51,13 @@ home_short : (r : ℕ) (h : Home) → length (fetch_home r h) ≤ 3
 home_short r (Register g) = omega arith
 home_short r (Slot i) = load_short r (slot_at i)
 
+fetch_number_short : (r n : ℕ) (o : Option ℕ) → length (fetch_number r n o) ≤ 3
+fetch_number_short r n None = let l = number_short r n in omega arith
+fetch_number_short r n (Some h) = omega arith
+
 fetch_short : (home : ℕ → Home) (r : ℕ) (x : Operand) → length (fetch home r x) ≤ 3
 fetch_short home r (Variable v) = home_short r (home v)
-fetch_short home r (Number n) = let l = number_short r n in either_short (nat_eq n 0) [] (number_code r n) 3 (omega arith) (omega arith)
+fetch_short home r (Number n) = either_short (nat_eq n 0) [] (fetch_number r n (resident_register (home (number_key n)))) 3 (omega arith) (fetch_number_short r n (resident_register (home (number_key n))))
 
 move_short : (home : ℕ → Home) (t : ℕ) (x : Operand) → length (move_code home t x) ≤ 4
 move_short home t (Variable v) = let l = home_short 5 (home v) in let both = length-append (fetch_home 5 (home v)) (Addi t (register_or 5 (home v)) (pos 0) ∷ []) in omega arith
@@ -112,7 +117,7 @@ compare_operands_short : (home : ℕ → Home) (t : ℕ) (r : Comparison) (x y :
 compare_operands_short home t r x (Variable v) = compare_registers_short home t r x (Variable v)
 compare_operands_short home t r x (Number n) =
     let l = behind_short home 5 2 x (compare_number_code r t (source home 5 x) n) (compare_number_short r t (source home 5 x) n) in
-    either_short (takes_number r n) (fetch home 5 x ++ compare_number_code r t (source home 5 x) n) (compare_registers home t r x (Number n)) 8 (omega arith) (compare_registers_short home t r x (Number n))
+    either_short (as_immediate home r n) (fetch home 5 x ++ compare_number_code r t (source home 5 x) n) (compare_registers home t r x (Number n)) 8 (omega arith) (compare_registers_short home t r x (Number n))
 
 test_short : (home : ℕ → Home) (t : ℕ) (test : Test) → length (test_code home t test) ≤ 8
 test_short home t test = compare_operands_short home t test.comparison test.left test.right
@@ -246,7 +251,7 @@ by_branch_short : (home : ℕ → Home) (go : Comparison → ℕ → ℕ → Lis
 by_branch_short home go (Silent t) way few =
     let last : List Inst = go (one_way way t.comparison) (source home 5 t.left) (source home 6 t.right) in
     let l = behind_short home 5 6 t.left (fetch home 6 t.right ++ last) (behind_short home 6 3 t.right last (few (one_way way t.comparison) (source home 5 t.left) (source home 6 t.right))) in omega arith
-by_branch_short home go (Tells t) way few = told_short (immediate_of t.comparison t.right) home go t way few
+by_branch_short home go (Tells t) way few = told_short (immediate_of home t.comparison t.right) home go t way few
 by_branch_short home go Hears way few = let l = few (one_way way NotEqual) 29 0 in omega arith
 
 pub branch_short : (home : ℕ → Home) (short : Bool) (b : Branch) (way : Bool) (n : ℕ) → length (branch_code home short b way n) ≤ 12
@@ -275,7 +280,7 @@ back_branch_long home b way n = long b (n + before_branch home b way) where
       let last : List Inst = goes_back j (one_way way t.comparison) (source home 5 t.left) (source home 6 t.right) in
       let l1 = length-append (fetch home 6 t.right) last in let l2 = length-append (fetch home 6 t.right) [] in
       let l3 = length-append (fetch home 5 t.left) (fetch home 6 t.right ++ last) in let l4 = length-append (fetch home 5 t.left) (fetch home 6 t.right ++ []) in omega arith
-  long (Tells t) j = told_long (immediate_of t.comparison t.right) t j
+  long (Tells t) j = told_long (immediate_of home t.comparison t.right) t j
   long Hears j = omega arith
 
 -- ---- calls
@@ -375,6 +380,14 @@ pub leave_short : (home : ℕ → Home) (y : Option Operand) → length (leave_c
 leave_short home None = omega arith
 leave_short home (Some x) = moved_short home 6 2 x (Lw 1 2 (pos 0) ∷ (Jalr 0 1 (pos 0) ∷ [])) (omega arith)
 
+-- behind its end a function returns 0
+zero_immediate : is_immediate 0 ≡ true
+unfolding is_immediate
+zero_immediate = grind (arith, nat_tests)
+
+pub leaves_zero : (home : ℕ → Home) → length (leave_code home (Some (Number 0))) ≤ 3
+leaves_zero home = rw zero_immediate (omega arith)
+
 addresses_short : (n : ℕ) → length (number_code 4 n ++ Addi 10 0 (pos 1) ∷ []) ≤ 3
 addresses_short n = let l = number_short 4 n in let both = length-append (number_code 4 n) (Addi 10 0 (pos 1) ∷ []) in omega arith
 
@@ -382,12 +395,19 @@ pub finish_some : (b : Bool) → 1 ≤ length (finish_code b)
 finish_some true = omega arith
 finish_some false = omega arith
 
+-- numbers that come to stay
+pub residents_short : (r : ℕ) (numbers : List ℕ) → length (residents_code r numbers) ≤ 2 * length numbers
+residents_short r [] = omega arith
+residents_short r (n ∷ ns) = let l = number_short r n in let rest = residents_short (r - 1) ns in let both = length-append (number_code r n) (residents_code (r - 1) ns) in omega arith
+
 -- what a side begins with, and what main returns to
-pub opening_short : (plan : Plan) (main frames : ℕ) → length (start_code plan main frames) + length (finish_code plan.by_a) ≤ 8
+pub opening_short : (plan : Plan) (main frames : ℕ) → length (start_code plan main frames) + length (finish_code plan.by_a) ≤ 8 + length (residents_code 27 plan.residents)
 opening_short plan main frames =
     let l1 = number_short 3 frames in let l2 = both plan.by_a in
-    let b1 = length-append (number_code 3 frames) (if plan.by_a then number_code 4 (plan.memory - 16) ++ Addi 10 0 (pos 1) ∷ [] else []) in
-    let b2 = length-append (number_code 3 frames ++ (if plan.by_a then number_code 4 (plan.memory - 16) ++ Addi 10 0 (pos 1) ∷ [] else [])) (enter_code (plan.entry main)) in
+    let counts : List Inst = if plan.by_a then number_code 4 (plan.memory - 16) ++ Addi 10 0 (pos 1) ∷ [] else [] in
+    let b0 = length-append (residents_code 27 plan.residents) counts in
+    let b1 = length-append (number_code 3 frames) (residents_code 27 plan.residents ++ counts) in
+    let b2 = length-append (number_code 3 frames ++ (residents_code 27 plan.residents ++ counts)) (enter_code (plan.entry main)) in
     omega arith
   where
     both : (b : Bool) → length (if b then number_code 4 (plan.memory - 16) ++ Addi 10 0 (pos 1) ∷ [] else []) + length (finish_code b) ≤ 4

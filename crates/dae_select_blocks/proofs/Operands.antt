@@ -1,5 +1,5 @@
 -- Operands are fetched or moved, and results go home.
-use Rattle.std.proofs.Common.{◌≡◌, ◌≢◌, ℕ, ◌+◌, ◌^◌, ◌<◌, Bool, true, false, ◌&&◌, List, [], ◌∷◌, ◌++◌, refl, sym, ap, ◌∙◌, arith, append_assoc}
+use Rattle.std.proofs.Common.{◌≡◌, ◌≢◌, ℕ, ◌+◌, ◌^◌, ◌<◌, ◌≤◌, Bool, true, false, ◌&&◌, List, [], ◌∷◌, ◌++◌, Option, Some, None, refl, sym, ap, ◌∙◌, arith, append_assoc}
 use Rattle.std.specs.Prelude.{nat_lt, nat_eq, if◌then◌else◌, ℤ, pos}
 use Rattle.std.proofs.lemmas.Bool.Decides.{nat_tests}
 use Rattle.dae_base.specs.Words.{plus, word}
@@ -16,10 +16,10 @@ use Rattle.dae_select_walks.specs.declared.Home.{Home}
 use Rattle.dae_select_walks.specs.declared.Home.TheVariants.{Register, Slot}
 use Rattle.dae_select_walks.specs.Walks.{Setting}
 use Rattle.dae_select_walks.specs.Live.{in_operand}
-use Rattle.dae_select_walks.specs.Homes.{Contents, held, IsHome, is_home_register, slot_at}
+use Rattle.dae_select_walks.specs.Homes.{Contents, held, IsHome, is_home_register, slot_at, number_key, resident_home, resident_register}
 use Rattle.dae_select_walks.specs.Agrees.{Plan, Moment}
 use Rattle.dae_select_walks.proofs.LawsOfWalks.{put, store}
-use Rattle.dae_select_blocks.specs.Blocks.{upper, lower, is_immediate, number_code, register_or, source, fetch_home, fetch, move_code, keep}
+use Rattle.dae_select_blocks.specs.Blocks.{upper, lower, is_immediate, register_or, number_or, source, fetch_home, fetch_number, fetch, move_code, keep}
 use Rattle.dae_select_blocks.specs.Fits.{Fits}
 use Rattle.dae_select_blocks.specs.Wanted.{IsNumber}
 use Rattle.dae_select_blocks.proofs.Halves.{halves, immediate_word}
@@ -45,6 +45,15 @@ like_put r v c a b = record { words = λ i. refl; registers = λ j h. put_other 
 pub like_itself : (r : ℕ) (c : Contents) → ((i : ℕ) → c.register i < 2 ^ 32) → Like r c c
 like_itself r c b = record { words = λ i. refl; registers = λ j h. refl; fits = b }
 
+-- the register of a number that stays in one, or another register, is below what that is below
+pub number_below : (n r : ℕ) (home : Home) → 28 ≤ n → r < n → number_or r (resident_register home) < n
+number_below n r (Register q) some l = by (nat_lt 24 q && nat_lt q 28) refl
+  where
+    by : (b : Bool) → (nat_lt 24 q && nat_lt q 28) ≡ b → number_or r (if b then Some q else None) < n
+    by true t = let high : q < 28 = grind (arith, nat_tests) in omega arith
+    by false t = l
+number_below n r (Slot i) some l = l
+
 -- the register of a home, or the scratch register, is none that stands for a queue
 pub home_plain : (n r : ℕ) (home : Home) → IsHome n home → r < 28 → register_or r home < 28
 home_plain n r (Register h) is l = (home_register h is).1
@@ -56,11 +65,17 @@ module _ (s : Setting) (plan : Plan) (variables : ℕ → ℕ) (fine : Fits s pl
       ((c' : Contents) → Like r c c' → c'.register (source (plan.home m.function) r x) ≡ value x m.env → Runs s plan.private to is c' d) → Runs s plan.private to (fetch (plan.home m.function) r x ++ is) c d
   runs_fetch {live} {m} {c} {d} r (Number n) is work h reads fits run = by (nat_eq n 0) refl
     where
-      by : (b : Bool) → nat_eq n 0 ≡ b → Runs s plan.private to ((if b then [] else number_code r n) ++ is) c d
+      by : (b : Bool) → nat_eq n 0 ≡ b → Runs s plan.private to ((if b then [] else fetch_number r n (resident_register (plan.home m.function (number_key n)))) ++ is) c d
       by true e =
           let none : n ≡ 0 = grind (arith, nat_tests) in
           run c (like_itself r c h.fits) (rw e (h.zero ∙ sym none))
-      by false e = runs_number s plan.private to r n is h.zero work.0 work.1 fits (run (put r n c) (like_put r n c fits h.fits) (rw e (put_same r n c work.0 work.1)))
+      by false e = from (resident_register (plan.home m.function (number_key n))) refl
+        where
+          from : (o : Option ℕ) → resident_register (plan.home m.function (number_key n)) ≡ o → Runs s plan.private to (fetch_number r n o ++ is) c d
+          from None f = runs_number s plan.private to r n is h.zero work.0 work.1 fits (run (put r n c) (like_put r n c fits h.fits) (rw (e, f) (put_same r n c work.0 work.1)))
+          from (Some q) f =
+              let there : resident_register (resident_home 27 plan.residents n) ≡ Some q = sym (ap resident_register (fine.residents m.function n)) ∙ f in
+              run c (like_itself r c h.fits) (rw (e, f) (h.agrees.residents n q there))
   runs_fetch {live} {m} {c} {d} r (Variable v) is work h reads fits run = by (plan.home m.function v) refl
     where
       by : (home : Home) → plan.home m.function v ≡ home → Runs s plan.private to (fetch_home r home ++ is) c d

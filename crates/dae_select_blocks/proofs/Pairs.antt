@@ -28,7 +28,6 @@ use Rattle.dae_select_walks.specs.Walks.{Setting, Comes}
 use Rattle.dae_select_walks.specs.Does.{Does}
 use Rattle.dae_select_walks.specs.Live.{Ways, with_all, in_value, sets, before, live}
 use Rattle.dae_select_walks.specs.declared.Home.{Home}
-use Rattle.dae_select_walks.specs.Homes.{AreApart}
 use Rattle.dae_select_walks.specs.Layout.{CodeAt}
 use Rattle.dae_select_walks.specs.Facts.{Facts}
 use Rattle.dae_select_walks.specs.Agrees.{Plan, Moment, Stands}
@@ -39,12 +38,13 @@ use Rattle.dae_select_walks.proofs.LawsOfWalks.{comes_here, comes_map, does_map}
 use Rattle.dae_select_blocks.specs.Blocks.{value_code}
 use Rattle.dae_select_blocks.specs.Code.{written_last, passes_on, reads_once, taken_standing, pair_standing, if_settled, standing_behind, late_code, early_code}
 use Rattle.dae_select_blocks.specs.Fits.{Fits}
-use Rattle.dae_select_blocks.specs.Wanted.{IsPlanOf, AreNumbers}
+use Rattle.dae_select_blocks.specs.Wanted.{IsPlanOf, IsRight, AreNumbers}
 use Rattle.dae_select_blocks.proofs.Jumps.{ready, stands_less}
 use Rattle.dae_select_blocks.proofs.Runs.{Runs, runs_nothing}
 use Rattle.dae_select_blocks.proofs.Uses.{pushes_datum_of}
 use Rattle.dae_select_blocks.proofs.Sent.{send_value}
 use Rattle.dae_select_blocks.proofs.Early.{ToNext, early_runs}
+use Rattle.dae_select_blocks.proofs.Agreement.{few_variables}
 use Rattle.dae_select_blocks.proofs.Simple.{Around, around, simple_done}
 
 -- ---- which pairs there are
@@ -189,14 +189,15 @@ unset t v u env live' dead l = by (nat_eq u t) refl
     by false e = refl
 
 -- what is live round the block that does both
-late_around : (home : ℕ → Home) (t d : ℕ) (y : Value) (live' : VariableSet) (x : Ways) → live' t ≡ false → AreApart home (with_all (before (Compute d (Same (Variable t))) live' x) (sets (Compute d (Same (Variable t))))) →
-    Around home (Compute d y) (before (Compute t y) (before (Compute d (Same (Variable t))) live' x) x) live'
-late_around home t d y live' x dead apart =
-    let r = around home (Compute d (Same (Variable t))) live' x (λ u. refl) apart in
+late_around : (home : ℕ → Home) (variables t d : ℕ) (y : Value) (live' : VariableSet) (x : Ways) → live' t ≡ false → IsRight home variables (with_all (before (Compute d (Same (Variable t))) live' x) (sets (Compute d (Same (Variable t))))) →
+    Around home variables (Compute d y) (before (Compute t y) (before (Compute d (Same (Variable t))) live' x) x) live'
+late_around home variables t d y live' x dead right =
+    let r = around home variables (Compute d (Same (Variable t))) live' x (λ u. refl) right in
     record {
       reads = λ u e. rw e refl;
       stays = λ u l e. (let ne : nat_eq u t ≡ false = other u l (nat_eq u t) refl in rw (l, e, ne) (or_true (in_value y u)));
       apart = λ u v e. r.apart u v e;
+      scope = λ v e. r.scope v e;
     }
   where
     other : (u : ℕ) → live' u ≡ true → (c : Bool) → nat_eq u t ≡ c → c ≡ false
@@ -215,10 +216,10 @@ sent_held y t live' w u dead l = by (nat_eq u t) refl
     by false e = rw l (last (in_value y u))
 
 -- what is live behind a pair that takes a word
-early_apart : (home : ℕ → Home) (v d : ℕ) (y : Value) (live' : VariableSet) (w : Ways) (u : ℕ) → (nat_eq v d || not (live' v)) ≡ true → AreApart home (with_all (before (Compute d y) live' w) (sets (Compute d y))) → live' u ≡ true → u ≢ d →
+early_apart : (home : ℕ → Home) (variables v d : ℕ) (y : Value) (live' : VariableSet) (w : Ways) (u : ℕ) → (nat_eq v d || not (live' v)) ≡ true → IsRight home variables (with_all (before (Compute d y) live' w) (sets (Compute d y))) → live' u ≡ true → u ≢ d →
     (before (Receive v) (before (Compute d y) live' w) w u ≡ true) × (home u ≢ home d)
-early_apart home v d y live' w u dead apart l ne =
-    let r = around home (Compute d y) live' w (λ u. refl) apart in
+early_apart home variables v d y live' w u dead right l ne =
+    let r = around home variables (Compute d y) live' w (λ u. refl) right in
     let not_d : nat_eq u d ≡ false = grind (arith, nat_tests) in
     let not_v : nat_eq u v ≡ false = other (nat_eq u v) refl in
     (rw (l, not_d, not_v) (and_either (in_value y u)), r.apart u d (grind (arith, nat_tests)) l ne)
@@ -240,7 +241,7 @@ module _ (s : Setting) (plan : Plan) (variables : ℕ → ℕ) (fine : Fits s pl
   stands_like : {live' : VariableSet} {env env' : Env} (m : Moment) {k : ℕ} {p : Processor} → ((u : ℕ) → live' u ≡ true → env u ≡ env' u) → Stands plan live' (with_env env m) k p → Stands plan live' (with_env env' m) k p
   stands_like m same h =
       let a = h.agrees in
-      record { contents = h.contents; shows = h.shows; agrees = record { base = a.base; variables = λ v l. a.variables v l ∙ same v l; pointer = a.pointer; frame = a.frame; depth = a.depth; addresses = a.addresses; waiting = a.waiting; room = a.room; within = record { depth = a.within.depth; frame = a.within.frame } } }
+      record { contents = h.contents; shows = h.shows; agrees = record { base = a.base; variables = λ v l. a.variables v l ∙ same v l; pointer = a.pointer; frame = a.frame; depth = a.depth; addresses = a.addresses; residents = a.residents; waiting = a.waiting; room = a.room; within = record { depth = a.within.depth; frame = a.within.frame } } }
 
   -- the first action of the pair has no code
   pub late_first : (f t : ℕ) (y : Value) (live' : VariableSet) (known : Facts) (x : Exits) (here : ℕ) → ActionDone s plan program entries most widest f known (Compute t y) (exit here live') (record { word = here + 0; live = live'; standing = Late t y }) x
@@ -250,15 +251,15 @@ module _ (s : Setting) (plan : Plan) (variables : ℕ → ℕ) (fine : Fits s pl
 
   -- and that of the second does both
   pub late_second : (f t d : ℕ) (y : Value) (live' : VariableSet) (known : Facts) (w : Ways) (x : Exits) (here : ℕ) → live' t ≡ false → AreNumbers y →
-      AreApart (plan.home f) (with_all (before (Compute d (Same (Variable t))) live' w) (sets (Compute d (Same (Variable t))))) →
+      IsRight (plan.home f) (variables f) (with_all (before (Compute d (Same (Variable t))) live' w) (sets (Compute d (Same (Variable t))))) →
       CodeAt s.code here (late_code (plan.home f) (Compute d (Same (Variable t))) y) → here + length (late_code (plan.home f) (Compute d (Same (Variable t))) y) < 2 ^ 29 → length (late_code (plan.home f) (Compute d (Same (Variable t))) y) ≤ most →
       ActionDone s plan program entries most widest f known (Compute d (Same (Variable t))) (record { word = here; live = before (Compute t y) (before (Compute d (Same (Variable t))) live' w) w; standing = Late t y })
       (exit (here + length (late_code (plan.home f) (Compute d (Same (Variable t))) y)) live') x
-  late_second f t d y live' known w x here dead numbers apart at small few m o p h world facts =
+  late_second f t d y live' known w x here dead numbers right at small few m o p h world facts =
       let env : Env = h.1.0 in let is = h.1.1 in
       let code : List Inst = late_code (plan.home f) (Compute d (Same (Variable t))) y in
       let walk : Comes s most p (λ q. (m.function ≡ f) × Stands plan live' (with_env (put true d (computed y o.frame env) env) m) (here + length code) q) =
-      simple_done s plan variables fine program is_plan entries most widest f (Compute d y) (before (Compute t y) (before (Compute d (Same (Variable t))) live' w) w) live' [] [] here tt numbers (late_around (plan.home f) t d y live' w dead apart) at small few
+      simple_done s plan variables fine program is_plan entries most widest f (Compute d y) (before (Compute t y) (before (Compute d (Same (Variable t))) live' w) w) live' [] [] here tt numbers (late_around (plan.home f) (variables f) t d y live' w dead right) at small few
       (with_env env m) o p (h.0, h.1.2) (record { frame = world.frame; top = world.top; depth = world.depth; memory = world.memory }) in
       comes_map s most (omega arith) (λ q g. (g.0, stands_like m (λ u l. subst (λ (e : Env). put true d (computed y o.frame env) env u ≡ put true d (e t) e u) (sym is) (rw world.frame (late_same t d (computed y m.frame env) u env live' dead l))) g.1)) walk
 
@@ -286,20 +287,23 @@ module _ (s : Setting) (plan : Plan) (variables : ℕ → ℕ) (fine : Fits s pl
 
   -- the first action takes a word, and its block does both
   module _ (q : ℕ) (queue : Queue) (high : nat_lt q 28 ≡ false) (left : (t r : ℕ) → t < 28 → r < 28 → queue_use s.copies s.side (Computes t q r) ≡ Some (Takes queue)) (right : (t r : ℕ) → t < 28 → r < 28 → queue_use s.copies s.side (Computes t r q) ≡ Some (Takes queue)) where
-    pub early_first : (f v d : ℕ) (y : Value) (live' : VariableSet) (w : Ways) (here : ℕ) → reads_once v y ≡ true → (nat_eq v d || not (live' v)) ≡ true → AreNumbers y → AreApart (plan.home f) (with_all (before (Compute d y) live' w) (sets (Compute d y))) →
+    pub early_first : (f v d : ℕ) (y : Value) (live' : VariableSet) (w : Ways) (here : ℕ) → reads_once v y ≡ true → (nat_eq v d || not (live' v)) ≡ true → AreNumbers y → v < variables f → IsRight (plan.home f) (variables f) (with_all (before (Compute d y) live' w) (sets (Compute d y))) →
         CodeAt s.code here (early_code (plan.home f) q v d y) → here + length (early_code (plan.home f) q v d y) < 2 ^ 29 → length (early_code (plan.home f) q v d y) ≤ most →
         (m : Moment) (p : Processor) → At s plan program entries most widest f (exit here (before (Receive v) (before (Compute d y) live' w) w)) m p →
         Does s most (Take queue (λ z. Went (put true v z m.env))) (λ env. At s plan program entries most widest f (record { word = here + length (early_code (plan.home f) q v d y); live = live'; standing = Early d y }) (with_env env m)) p
-    early_first f v d y live' w here once dead numbers apart at small few m p h =
-        subst (λ (g : ℕ). AreApart (plan.home g) (with_all (before (Compute d y) live' w) (sets (Compute d y))) → CodeAt s.code here (early_code (plan.home g) q v d y) → here + length (early_code (plan.home g) q v d y) < 2 ^ 29 → length (early_code (plan.home g) q v d y) ≤ most →
+    early_first f v d y live' w here once dead numbers own is_right at small few m p h =
+        subst (λ (g : ℕ). v < variables g → IsRight (plan.home g) (variables g) (with_all (before (Compute d y) live' w) (sets (Compute d y))) → CodeAt s.code here (early_code (plan.home g) q v d y) → here + length (early_code (plan.home g) q v d y) < 2 ^ 29 → length (early_code (plan.home g) q v d y) ≤ most →
         Does s most (Take queue (λ z. Went (put true v z m.env))) (λ env p. (m.function ≡ g) × Stands plan live' (with_env (put true d (computed y m.frame env) env) m) (here + length (early_code (plan.home g) q v d y)) p) p) h.0
-        (λ apart at small few.
-        let run = early_runs s plan variables fine (before (Receive v) (before (Compute d y) live' w) w) live' m v d y q queue high left right (ready s plan variables fine h.1) once dead numbers
-        (λ u e ne. rw (e, ne) refl) (λ u l ne. early_apart (plan.home m.function) v d y live' w u dead apart l ne) in
+        (λ own is_right at small few.
+        let h0 = ready s plan variables fine h.1 in
+        let few' = few_variables s plan variables fine h0 in
+        let scope : d < variables m.function = (around (plan.home m.function) (variables m.function) (Compute d y) live' w (λ u. refl) is_right).scope d (grind (arith, nat_tests)) in
+        let run = early_runs s plan variables fine (before (Receive v) (before (Compute d y) live' w) w) live' m v d y q queue high left right h0 (omega arith) scope once dead numbers
+        (λ u e ne. rw (e, ne) refl) (λ u l ne. early_apart (plan.home m.function) (variables m.function) v d y live' w u dead is_right l ne) in
         does_map s (ToNext s plan variables fine (before (Receive v) (before (Compute d y) live' w) w) live' m v d y (here + length (early_code (plan.home m.function) q v d y))) (λ env p. (m.function ≡ m.function) × Stands plan live' (with_env (put true d (computed y m.frame env) env) m) (here + length (early_code (plan.home m.function) q v d y)) p)
         (length (early_code (plan.home m.function) q v d y)) most few (λ env q t. (refl, t)) (Take queue (λ z. Went (put true v z m.env))) p
         (run.from here small at p h.1.shows))
-        apart at small few
+        own is_right at small few
 
   -- the second action was done by the block of the first: now the processor holds the variables of the moment
   pub early_second : (f d : ℕ) (y : Value) (live' : VariableSet) (known : Facts) (x : Exits) (here : ℕ) → ActionDone s plan program entries most widest f known (Compute d y) (record { word = here; live = live'; standing = Early d y }) (exit (here + 0) live') x

@@ -1,5 +1,5 @@
 -- Every instruction of a block has fields that its word can hold, and words of such instructions are code.
-use Rattle.std.proofs.Common.{◌≡◌, ℕ, ◌+◌, ◌-◌, ◌*◌, ◌/◌, ◌%◌, ◌^◌, ◌<◌, Bool, true, false, List, [], ◌∷◌, ◌++◌, map, length, Some, refl, arith, pos, negsuc, append_assoc, length-append}
+use Rattle.std.proofs.Common.{◌≡◌, ℕ, ◌+◌, ◌-◌, ◌*◌, ◌/◌, ◌%◌, ◌^◌, ◌<◌, Bool, true, false, List, [], ◌∷◌, ◌++◌, map, length, Some, refl, arith, pos, negsuc, append_assoc, length-append, Option, None}
 use Rattle.std.specs.Prelude.{nat_lt, nat_eq, if◌then◌else◌, slice_get}
 use Rattle.std.specs.List.{AllByRecursion}
 use Rattle.std.proofs.lemmas.Int.{ints}
@@ -14,8 +14,8 @@ use Rattle.dae_ir.specs.declared.form.Operand.TheVariants.{Variable, Number}
 use Rattle.dae_select_walks.specs.Layout.{CodeAt}
 use Rattle.dae_select_walks.specs.declared.Home.{Home}
 use Rattle.dae_select_walks.specs.declared.Home.TheVariants.{Register, Slot}
-use Rattle.dae_select_walks.specs.Homes.{IsHome, slot_at}
-use Rattle.dae_select_blocks.specs.Blocks.{upper, lower, is_immediate, number_code, load_code, store_code, register_or, fetch_home, fetch, move_code, keep, jump_by, near_offset, jump_over, jump_back}
+use Rattle.dae_select_walks.specs.Homes.{IsHome, slot_at, number_key, resident_register}
+use Rattle.dae_select_blocks.specs.Blocks.{upper, lower, is_immediate, number_code, load_code, store_code, register_or, fetch_home, fetch, move_code, keep, jump_by, near_offset, jump_over, jump_back, fetch_number}
 use Rattle.dae_select_blocks.proofs.Halves.{word_upper}
 use Rattle.dae_select_blocks.proofs.Agreement.{home_register}
 
@@ -149,7 +149,11 @@ fetch_fits n home r (Variable v) h = by (home v)
     by : (g : Home) → AllFit (fetch_home r g)
     by (Register q) = tt
     by (Slot i) = load_fits r (slot_at i) h
-fetch_fits n home r (Number k) h = fit_either (nat_eq k 0) [] (number_code r k) (λ e. tt) (λ e. number_fits r k h)
+fetch_fits n home r (Number k) h = fit_either (nat_eq k 0) [] (fetch_number r k (resident_register (home (number_key k)))) (λ e. tt) (λ e. by (resident_register (home (number_key k))))
+  where
+    by : (o : Option ℕ) → AllFit (fetch_number r k o)
+    by None = number_fits r k h
+    by (Some q) = tt
 
 pub move_fit : (home : ℕ → Home) → ((r v : ℕ) → r < 32 → register_or r (home v) < 32) → (t : ℕ) (x : Operand) → t < 32 → AllFit (move_code home t x)
 move_fit home low t (Variable v) h = fit_append _ _ (fetch_fits 0 home 5 (Variable v) (omega arith)) (addi_small t (register_or 5 (home v)) 0 h (low 5 v (omega arith)) (omega arith), tt)

@@ -9,20 +9,24 @@ use Rattle.dae_base.specs.Words.{size}
 use Rattle.dae_encode.specs.declared.Inst.{Inst}
 use Rattle.dae_ir.specs.Classes.{VariableSet}
 use Rattle.dae_meaning.specs.Worlds.{World}
+use Rattle.dae_meaning.specs.Variables.{Env}
+use Rattle.dae_meaning.proofs.Laws.{own_put}
 use Rattle.dae_encode.specs.Processor.{Processor}
 use Rattle.dae_ir.specs.Form.{Program, value}
 use Rattle.dae_ir.specs.Programs.{side}
 use Rattle.dae_ir.specs.Deeds.{Halts, deed, probed, stopped}
 use Rattle.dae_ir.specs.declared.form.Operand.{Operand}
+use Rattle.dae_ir.specs.declared.form.Operand.TheVariants.{Variable}
+use Rattle.dae_ir.specs.declared.form.Value.TheVariants.{Same}
 use Rattle.dae_ir.specs.declared.form.Check.TheVariants.{Place, Zero, Room, Frame, Abort}
 use Rattle.dae_ir.specs.declared.stream.Action.{Action}
 use Rattle.dae_ir.specs.declared.stream.Action.TheVariants.{Set as Compute, Issue, Own, Receive, Address, Datum, Offer, Accept, Emit, Probe, Tell, Hear, Stop, Break, Continue, Call, Return}
-use Rattle.dae_select_walks.specs.Walks.{Setting}
+use Rattle.dae_select_walks.specs.Walks.{Setting, Comes}
 use Rattle.dae_select_walks.specs.Does.{Does}
 use Rattle.dae_select_walks.specs.Live.{Ways, with_all, reads, sets, in_option, after, before}
 use Rattle.dae_select_walks.specs.Layout.{CodeAt}
 use Rattle.dae_select_walks.specs.declared.Home.{Home}
-use Rattle.dae_select_walks.specs.Homes.{Contents, AreApart}
+use Rattle.dae_select_walks.specs.Homes.{Contents}
 use Rattle.dae_select_walks.specs.Facts.{Facts, Hold, operand_bounds, is_aligned, is_good}
 use Rattle.dae_select_walks.specs.Agrees.{Plan, Moment, Stands, depth_of, top_of}
 use Rattle.dae_select_walks.proofs.LawsOfWalks.{does_map, comes_here, operand_is, aligned_is, good_is}
@@ -31,7 +35,7 @@ use Rattle.dae_select_walks.specs.Compiled.{exit, with_env, IsWorldOf, At}
 use Rattle.dae_select_blocks.specs.Code.{placed_code, action_code}
 use Rattle.dae_select_blocks.specs.Blocks.{stop_code}
 use Rattle.dae_select_blocks.specs.Fits.{Fits}
-use Rattle.dae_select_blocks.specs.Wanted.{IsWanted, IsPlanOf, IsWantedStop}
+use Rattle.dae_select_blocks.specs.Wanted.{IsWanted, IsPlanOf, IsRight, IsWantedStop}
 use Rattle.dae_select_blocks.proofs.Runs.{Runs}
 use Rattle.dae_select_blocks.proofs.Agreement.{Ready}
 use Rattle.dae_select_blocks.proofs.Jumps.{ready, stands_less}
@@ -47,17 +51,19 @@ IsSimple (Return x) = ⊥
 IsSimple a = Unit {0}
 
 -- what is live round an action
-pub record Around (home : ℕ → Home) (a : Action) (live live' : VariableSet) : Type 0 where
+pub record Around (home : ℕ → Home) (variables : ℕ) (a : Action) (live live' : VariableSet) : Type 0 where
   pub reads : (u : ℕ) → reads a u ≡ true → live u ≡ true
   pub stays : (u : ℕ) → live' u ≡ true → sets a u ≡ false → live u ≡ true
   pub apart : (u v : ℕ) → sets a v ≡ true → live' u ≡ true → u ≢ v → home u ≢ home v
+  pub scope : (v : ℕ) → sets a v ≡ true → v < variables
 
 -- what is live round an action of a list
-pub around : (home : ℕ → Home) (a : Action) (k : VariableSet) (x : Ways) → ((u : ℕ) → after a k x u ≡ k u) → AreApart home (with_all (before a k x) (sets a)) → Around home a (before a k x) k
-around home a k x goes_on apart = record {
+pub around : (home : ℕ → Home) (variables : ℕ) (a : Action) (k : VariableSet) (x : Ways) → ((u : ℕ) → after a k x u ≡ k u) → IsRight home variables (with_all (before a k x) (sets a)) → Around home variables a (before a k x) k
+around home variables a k x goes_on right = record {
   reads = λ u e. rw e refl;
   stays = λ u l e. (let same = goes_on u in rw (same, l, e) (either (reads a u)));
-  apart = λ u v e l ne. (let same = goes_on u in apart u v (rw (same, l) (kept (reads a u) (sets a u))) (or_right (before a k x v) (sets a v) e) ne);
+  apart = λ u v e l ne. (let same = goes_on u in right.apart u v (rw (same, l) (kept (reads a u) (sets a u))) (or_right (before a k x v) (sets a v) e) ne);
+  scope = λ v e. right.scope v (or_right (before a k x v) (sets a v) e);
 }
   where
     either : (b : Bool) → (b || (true && true)) ≡ true
@@ -87,20 +93,20 @@ module _ (s : Setting) (plan : Plan) (variables : ℕ → ℕ) (fine : Fits s pl
     stops false e (Some x) wanted reads h = stop_e_done s plan variables fine live live' m x e h reads wanted
 
     -- each block from contents that agree
-    pub simple_runs : {c : Contents} (a : Action) (leaves skips : List Inst) → IsSimple a → IsWanted plan s.copies entries a → Around (plan.home m.function) a live live' → Ready plan live m c →
+    pub simple_runs : {c : Contents} (a : Action) (leaves skips : List Inst) → IsSimple a → IsWanted plan s.copies entries a → Around (plan.home m.function) (variables m.function) a live live' → Ready plan live m c →
         Does' s plan variables fine live live' m (action_code plan variables m.function a live' leaves skips) c (deed program plan.by_a a w m.env)
     simple_runs (Compute v x) leaves skips is wanted round h =
-        rw world.frame (set_done s plan variables fine live live' m v x h round.reads wanted (λ u l ne. (round.stays u l (grind (arith, nat_tests)), round.apart u v (grind (arith, nat_tests)) l ne)))
+        rw world.frame (set_done s plan variables fine live live' m v x h round.reads wanted ((λ u l ne. (round.stays u l (grind (arith, nat_tests)), round.apart u v (grind (arith, nat_tests)) l ne)), round.scope v (grind (arith, nat_tests))))
     simple_runs (Issue kind x) leaves skips is wanted round h = issue_done s plan variables fine live live' m (a_side wanted.0) kind x h round.reads wanted.1 (λ u l. round.stays u l refl)
     simple_runs (Own v kind x) leaves skips is wanted round h =
-        own_done s plan variables fine live live' m (a_side wanted.0) v kind x h round.reads wanted.1 (λ u l ne. (round.stays u l (grind (arith, nat_tests)), round.apart u v (grind (arith, nat_tests)) l ne))
+        own_done s plan variables fine live live' m (a_side wanted.0) v kind x h round.reads wanted.1 ((λ u l ne. (round.stays u l (grind (arith, nat_tests)), round.apart u v (grind (arith, nat_tests)) l ne)), round.scope v (grind (arith, nat_tests)))
     simple_runs (Receive v) leaves skips is wanted round h =
-        receive_done s plan variables fine live live' m (e_side wanted) v h (λ u l ne. (round.stays u l (grind (arith, nat_tests)), round.apart u v (grind (arith, nat_tests)) l ne))
+        receive_done s plan variables fine live live' m (e_side wanted) v h ((λ u l ne. (round.stays u l (grind (arith, nat_tests)), round.apart u v (grind (arith, nat_tests)) l ne)), round.scope v (grind (arith, nat_tests)))
     simple_runs (Address width x) leaves skips is wanted round h = address_done s plan variables fine live live' m (a_side wanted.0) width x h round.reads wanted.1 (λ u l. round.stays u l refl)
     simple_runs (Datum x) leaves skips is wanted round h = datum_done s plan variables fine live live' m (e_side wanted.0) x h round.reads wanted.1 (λ u l. round.stays u l refl)
     simple_runs (Offer v) leaves skips is wanted round h = offer_done s plan variables fine live live' m (a_side wanted.0) v wanted.1 h (round.reads v (grind (arith, nat_tests))) (λ u l. round.stays u l refl)
     simple_runs (Accept v) leaves skips is wanted round h =
-        accept_done s plan variables fine live live' m (e_side wanted.0) v wanted.1 h (λ u l ne. (round.stays u l (grind (arith, nat_tests)), round.apart u v (grind (arith, nat_tests)) l ne))
+        accept_done s plan variables fine live live' m (e_side wanted.0) v wanted.1 h ((λ u l ne. (round.stays u l (grind (arith, nat_tests)), round.apart u v (grind (arith, nat_tests)) l ne)), round.scope v (grind (arith, nat_tests)))
     simple_runs (Emit spelling x) leaves skips is wanted round h = emit_done s plan variables fine live live' m spelling x wanted.0 h round.reads wanted.1 (λ u l. round.stays u l refl)
     simple_runs (Tell x) leaves skips is wanted round h = tell_done s plan variables fine live live' m x h round.reads wanted (λ u l. round.stays u l refl)
     simple_runs Hear leaves skips is wanted round h = hear_done s plan variables fine live live' m h (λ u l. round.stays u l refl)
@@ -119,19 +125,19 @@ module _ (s : Setting) (plan : Plan) (variables : ℕ → ℕ) (fine : Fits s pl
     simple_runs (Return x) leaves skips is wanted round h = elim is [ ]
 
     -- and the test of a place whose address is aligned
-    pub placed_runs : {c : Contents} (width : Width) (x : Operand) → IsWanted plan s.copies entries (Probe (Place width x)) → Around (plan.home m.function) (Probe (Place width x)) live live' → value x m.env % size width ≡ 0 → Ready plan live m c →
+    pub placed_runs : {c : Contents} (width : Width) (x : Operand) → IsWanted plan s.copies entries (Probe (Place width x)) → Around (plan.home m.function) (variables m.function) (Probe (Place width x)) live live' → value x m.env % size width ≡ 0 → Ready plan live m c →
         Does' s plan variables fine live live' m (placed_code (plan.home m.function) (Probe (Place width x))) c (deed program plan.by_a (Probe (Place width x)) w m.env)
     placed_runs width x wanted round four h =
         rw world.memory (flagged (misplaced width (value x m.env) plan.memory) true wanted.0 (bounds_done s plan variables fine live live' m wanted.0 width x four h round.reads wanted.1 (λ u l. round.stays u l refl)))
 
 module _ (s : Setting) (plan : Plan) (variables : ℕ → ℕ) (fine : Fits s plan variables) (program : Program) (is_plan : IsPlanOf program plan) (entries : ℕ → VariableSet) (most widest : ℕ) where
   -- an action that goes on to the next
-  pub simple_done : (f : ℕ) (a : Action) (live live' : VariableSet) (leaves skips : List Inst) (k : ℕ) → IsSimple a → IsWanted plan s.copies entries a → Around (plan.home f) a live live' →
+  pub simple_done : (f : ℕ) (a : Action) (live live' : VariableSet) (leaves skips : List Inst) (k : ℕ) → IsSimple a → IsWanted plan s.copies entries a → Around (plan.home f) (variables f) a live live' →
       CodeAt s.code k (action_code plan variables f a live' leaves skips) → k + length (action_code plan variables f a live' leaves skips) < 2 ^ 29 → length (action_code plan variables f a live' leaves skips) ≤ most →
       (m : Moment) (w : World) (p : Processor) → At s plan program entries most widest f (exit k live) m p → IsWorldOf plan m w →
       Does s most (deed program plan.by_a a w m.env) (λ env. At s plan program entries most widest f (exit (k + length (action_code plan variables f a live' leaves skips)) live') (with_env env m)) p
   simple_done f a live live' leaves skips k simple wanted round at small few m w p h world =
-      subst (λ (g : ℕ). Around (plan.home g) a live live' → CodeAt s.code k (action_code plan variables g a live' leaves skips) → k + length (action_code plan variables g a live' leaves skips) < 2 ^ 29 → length (action_code plan variables g a live' leaves skips) ≤ most →
+      subst (λ (g : ℕ). Around (plan.home g) (variables g) a live live' → CodeAt s.code k (action_code plan variables g a live' leaves skips) → k + length (action_code plan variables g a live' leaves skips) < 2 ^ 29 → length (action_code plan variables g a live' leaves skips) ≤ most →
       Does s most (deed program plan.by_a a w m.env) (λ env q. (m.function ≡ g) × Stands plan live' (with_env env m) (k + length (action_code plan variables g a live' leaves skips)) q) p) h.0
       (λ round at small few.
       let run = simple_runs s plan variables fine program is_plan entries live live' m w world a leaves skips simple wanted round (ready s plan variables fine h.1) in
@@ -144,12 +150,12 @@ module _ (s : Setting) (plan : Plan) (variables : ℕ → ℕ) (fine : Fits s pl
   placed_block f width y = placed_code (plan.home f) (Probe (Place width y))
 
   -- a test of a place whose address is known to be aligned
-  pub placed_done : (f : ℕ) (width : Width) (y : Operand) (live live' : VariableSet) (known : Facts) (k : ℕ) → IsWanted plan s.copies entries (Probe (Place width y)) → Around (plan.home f) (Probe (Place width y)) live live' → is_aligned width (operand_bounds known y) ≡ true →
+  pub placed_done : (f : ℕ) (width : Width) (y : Operand) (live live' : VariableSet) (known : Facts) (k : ℕ) → IsWanted plan s.copies entries (Probe (Place width y)) → Around (plan.home f) (variables f) (Probe (Place width y)) live live' → is_aligned width (operand_bounds known y) ≡ true →
       CodeAt s.code k (placed_block f width y) → k + length (placed_block f width y) < 2 ^ 29 → length (placed_block f width y) ≤ most →
       (m : Moment) (w : World) (p : Processor) → At s plan program entries most widest f (exit k live) m p → IsWorldOf plan m w → Hold known m.env →
       Does s most (deed program plan.by_a (Probe (Place width y)) w m.env) (λ env. At s plan program entries most widest f (exit (k + length (placed_block f width y)) live') (with_env env m)) p
   placed_done f width y live live' known k wanted round one at small few m w p h world facts =
-      subst (λ (g : ℕ). Around (plan.home g) (Probe (Place width y)) live live' → CodeAt s.code k (placed_block g width y) → k + length (placed_block g width y) < 2 ^ 29 → length (placed_block g width y) ≤ most →
+      subst (λ (g : ℕ). Around (plan.home g) (variables g) (Probe (Place width y)) live live' → CodeAt s.code k (placed_block g width y) → k + length (placed_block g width y) < 2 ^ 29 → length (placed_block g width y) ≤ most →
       Does s most (deed program plan.by_a (Probe (Place width y)) w m.env) (λ env q. (m.function ≡ g) × Stands plan live' (with_env env m) (k + length (placed_block g width y)) q) p) h.0
       (λ round at small few.
       let run = placed_runs s plan variables fine program is_plan entries live live' m w world width y wanted round (aligned_is width (operand_bounds known y) (value y m.env) (operand_is known m.env y facts) one) (ready s plan variables fine h.1) in
@@ -166,3 +172,12 @@ module _ (s : Setting) (plan : Plan) (variables : ℕ → ℕ) (fine : Fits s pl
       let passes = good_is plan.memory width (operand_bounds known y) (value y m.env) (operand_is known m.env y facts) good in
       let here : k ≡ k + 0 = omega arith in
       rw (world.memory, passes) (comes_here s (h.0, stands_less s plan variables fine less (subst (λ (j : ℕ). Stands plan live m j p) here h.1)))
+
+  -- and so does a variable that is set to itself
+  pub itself_done : (f v : ℕ) (live live' : VariableSet) (known : Facts) (k : ℕ) → ((u : ℕ) → live' u ≡ true → live u ≡ true) →
+      (m : Moment) (w : World) (p : Processor) → At s plan program entries most widest f (exit k live) m p → IsWorldOf plan m w → Hold known m.env →
+      Does s most (deed program plan.by_a (Compute v (Same (Variable v))) w m.env) (λ env. At s plan program entries most widest f (exit (k + 0) live') (with_env env m)) p
+  itself_done f v live live' known k less m w p h world facts =
+      let here : k ≡ k + 0 = omega arith in
+      subst (λ (e : Env). Comes s most p (At s plan program entries most widest f (exit (k + 0) live') (with_env e m))) (sym (own_put v m.env))
+      (comes_here s (h.0, stands_less s plan variables fine less (subst (λ (j : ℕ). Stands plan live m j p) here h.1)))

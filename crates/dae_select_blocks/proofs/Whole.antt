@@ -3,6 +3,7 @@
 use Rattle.std.proofs.Common.{◌≡◌, ℕ, ◌+◌, ◌^◌, ◌<◌, ◌≤◌, Bool, true, false, not, ◌||◌, ◌&&◌, List, [], ◌∷◌, ◌++◌, Option, length, refl, sym, ap, subst, arith, length-append}
 use Rattle.std.specs.Prelude.{nat_eq, if◌then◌else◌}
 use Rattle.std.specs.List.{AllByRecursion}
+use Rattle.std.proofs.lemmas.Bool.Decides.{nat_tests}
 use Rattle.dae_base.specs.declared.Queue.TheVariants.{Ld, Cq}
 use Rattle.dae_encode.specs.declared.Inst.{Inst}
 use Rattle.dae_encode.specs.Processor.{Processor}
@@ -45,7 +46,7 @@ use Rattle.dae_select_blocks.specs.Fits.{Fits}
 use Rattle.dae_select_blocks.specs.Wanted.{IsWanted, IsWantedBranch, IsPlanOf, IsRight}
 use Rattle.dae_select_blocks.proofs.Runs.{code_take, code_drop}
 use Rattle.dae_select_blocks.proofs.Uses.{takes_load_left, takes_load_right, takes_copy_left, takes_copy_right}
-use Rattle.dae_select_blocks.proofs.Simple.{IsSimple, around, e_side, simple_done, placed_done, passed_done}
+use Rattle.dae_select_blocks.proofs.Simple.{IsSimple, around, e_side, simple_done, placed_done, passed_done, itself_done}
 use Rattle.dae_select_blocks.proofs.Pairs.{passed_on, by_pairs, entered_at, Suits, suits_behind, AreLateNumbers, late_first, late_second, late_sent, early_first, early_second}
 use Rattle.dae_select_blocks.proofs.Lengths.{back_branch_long}
 use Rattle.dae_select_blocks.proofs.Jumps.{goes_if, jump_long, back_long, hears_some, leads_over, turns_over, turns_back, stands_less, silent_done, tells_done, hears_done, AllLong, GoesFrom, ahead_long, ahead_goes, back_long_all, back_goes}
@@ -103,7 +104,7 @@ module _ (s : Setting) (plan : Plan) (variables : ℕ → ℕ) (fine : Fits s pl
         Does s most (deed program plan.by_a a w m.env) (λ env. At s plan program entries most widest f (exit (here + length (block_of f a k leaves skips)) k) (with_env env m)) p
     simply f known a k x leaves skips here simple goes_on t m w p h world facts =
         let small = t.small in
-        simple_done s plan variables fine program is_plan entries most widest f a (before a k (ways_of x)) k (jump_over short leaves) (jump_over short skips) here simple t.wanted (around (plan.home f) a k (ways_of x) goes_on t.right.apart) t.stands (omega arith) (blocks f a k (jump_over short leaves) (jump_over short skips) simple) m w p h world
+        simple_done s plan variables fine program is_plan entries most widest f a (before a k (ways_of x)) k (jump_over short leaves) (jump_over short skips) here simple t.wanted (around (plan.home f) (variables f) a k (ways_of x) goes_on t.right) t.stands (omega arith) (blocks f a k (jump_over short leaves) (jump_over short skips) simple) m w p h world
 
     -- a jump leads over what is behind it, up to where the loop goes on
     jumped : (f here n : ℕ) (live : VariableSet) (there : Exit) → there.standing ≡ Settled → lo ≤ here → there.word ≤ hi → CodeAt s.code here (jump_over short n) → here + jump_words short + n ≡ there.word → ((u : ℕ) → there.live u ≡ true → live u ≡ true) → Leads s plan program entries most widest f (exit here live) there
@@ -136,7 +137,7 @@ module _ (s : Setting) (plan : Plan) (variables : ℕ → ℕ) (fine : Fits s pl
     action_done f known (Return y) k x leaves skips here settled to_leave to_skip low near close t = returns f y k x leaves skips here t
     action_done f known (Stop y) k x leaves skips here settled to_leave to_skip low near close t =
         let small = t.small in
-        λ m w p h world facts. simple_done s plan variables fine program is_plan entries most widest f (Stop y) (before (Stop y) k (ways_of x)) none (jump_over short leaves) (jump_over short skips) here tt t.wanted (around (plan.home f) (Stop y) none (ways_of x) (λ u. refl) t.right.apart) t.stands (omega arith) (blocks f (Stop y) k (jump_over short leaves) (jump_over short skips) tt) m w p h world
+        λ m w p h world facts. simple_done s plan variables fine program is_plan entries most widest f (Stop y) (before (Stop y) k (ways_of x)) none (jump_over short leaves) (jump_over short skips) here tt t.wanted (around (plan.home f) (variables f) (Stop y) none (ways_of x) (λ u. refl) t.right) t.stands (omega arith) (blocks f (Stop y) k (jump_over short leaves) (jump_over short skips) tt) m w p h world
     action_done f known (Compute v y) k x leaves skips here settled to_leave to_skip low near close t = simply f known (Compute v y) k x leaves skips here tt (λ u. refl) t
     action_done f known (Issue kind y) k x leaves skips here settled to_leave to_skip low near close t = simply f known (Issue kind y) k x leaves skips here tt (λ u. refl) t
     action_done f known (Own v kind y) k x leaves skips here settled to_leave to_skip low near close t = simply f known (Own v kind y) k x leaves skips here tt (λ u. refl) t
@@ -167,7 +168,7 @@ module _ (s : Setting) (plan : Plan) (variables : ℕ → ℕ) (fine : Fits s pl
 
     late_step : (f t : ℕ) (known : Facts) (need : Need) (y : Value) (d : ℕ) (mark : Mark) (k : Actions) (x : Exits) (leaves skips here : ℕ) → live k (ways_of x) t ≡ false → StepDone f known need (Late t y) mark x leaves skips here (Compute d (Same (Variable t))) k Settled
     late_step f t known need y d mark k x leaves skips here dead suits numbers settled wanted more right rights at low small to_leave to_skip near close = (
-      late_second s plan variables fine program is_plan entries most widest f t d y (live k (ways_of x)) known (ways_of x) x here dead numbers right.apart at small (blocks f (Compute d y) (live k (ways_of x)) [] [] tt),
+      late_second s plan variables fine program is_plan entries most widest f t d y (live k (ways_of x)) known (ways_of x) x here dead numbers right at small (blocks f (Compute d y) (live k (ways_of x)) [] [] tt),
       tt,
     )
 
@@ -190,7 +191,7 @@ module _ (s : Setting) (plan : Plan) (variables : ℕ → ℕ) (fine : Fits s pl
     placed_step : (f : ℕ) (known : Facts) (mark : Mark) (width : Width) (y : Operand) (k : Actions) (x : Exits) (leaves skips here : ℕ) (aligned : Bool) → is_aligned width (operand_bounds known y) ≡ aligned → StepDone f known (if aligned then Ends else All) Settled mark x leaves skips here (Probe (Place width y)) k Settled
     placed_step f known mark width y k x leaves skips here false e = plain_step f known mark (Probe (Place width y)) k x leaves skips here
     placed_step f known mark width y k x leaves skips here true e = λ suits numbers settled wanted more right rights at low small to_leave to_skip near close. (
-      placed_done s plan variables fine program is_plan entries most widest f width y (before (Probe (Place width y)) (live k (ways_of x)) (ways_of x)) (live k (ways_of x)) known here wanted (around (plan.home f) (Probe (Place width y)) (live k (ways_of x)) (ways_of x) (λ u. refl) right.apart) e at small (placed f (Probe (Place width y))),
+      placed_done s plan variables fine program is_plan entries most widest f width y (before (Probe (Place width y)) (live k (ways_of x)) (ways_of x)) (live k (ways_of x)) known here wanted (around (plan.home f) (variables f) (Probe (Place width y)) (live k (ways_of x)) (ways_of x) (λ u. refl) right) e at small (placed f (Probe (Place width y))),
       tt,
     )
 
@@ -206,7 +207,22 @@ module _ (s : Setting) (plan : Plan) (variables : ℕ → ℕ) (fine : Fits s pl
         stays true c e = refl
         stays false c e = rw e refl
 
+    itself_step : (f : ℕ) (known : Facts) (mark : Mark) (v u : ℕ) (k : Actions) (x : Exits) (leaves skips here : ℕ) (same : Bool) → nat_eq u v ≡ same → StepDone f known (if same then Nothing else All) Settled mark x leaves skips here (Compute v (Same (Variable u))) k Settled
+    itself_step f known mark v u k x leaves skips here false e = plain_step f known mark (Compute v (Same (Variable u))) k x leaves skips here
+    itself_step f known mark v u k x leaves skips here true e =
+        let is : u ≡ v = grind (arith, nat_tests) in
+        subst (λ (z : ℕ). StepDone f known Nothing Settled mark x leaves skips here (Compute v (Same (Variable z))) k Settled) (sym is)
+        (λ suits numbers settled wanted more right rights at low small to_leave to_skip near close. (
+          itself_done s plan variables fine program is_plan entries most widest f v (before (Compute v (Same (Variable v))) (live k (ways_of x)) (ways_of x)) (live k (ways_of x)) known here (λ w l. still (nat_eq w v) (live k (ways_of x) w) l),
+          tt,
+        ))
+      where
+        still : (b c : Bool) → c ≡ true → (b || (c && not b)) ≡ true
+        still true c e = refl
+        still false c e = rw e refl
+
     alone_step : (f : ℕ) (known : Facts) (mark : Mark) (a : Action) (k : Actions) (x : Exits) (leaves skips here : ℕ) → StepDone f known (need_of plan.memory known a k) Settled mark x leaves skips here a k Settled
+    alone_step f known mark (Compute v (Same (Variable u))) k x leaves skips here = itself_step f known mark v u k x leaves skips here (nat_eq u v) refl
     alone_step f known mark (Probe (Place width y)) k x leaves skips here = passed_step f known mark width y k x leaves skips here (tells_within 24 k) (is_good plan.memory width (operand_bounds known y)) refl
     alone_step f known mark a k x leaves skips here = plain_step f known mark a k x leaves skips here
 
@@ -222,14 +238,14 @@ module _ (s : Setting) (plan : Plan) (variables : ℕ → ℕ) (fine : Fits s pl
           (λ n w p h world facts.
               (let by_e = e_side s plan variables fine program is_plan entries wanted in
               early_first s plan variables fine program is_plan entries most widest 30 Ld refl (λ t r a b. rw by_e (takes_load_left s.copies t r a b)) (λ t r a b. rw by_e (takes_load_right s.copies t r a b))
-              f v d y (live k (ways_of x)) (ways_of x) here once dead more.0 rights.0.apart at small (early_short f 30 v d y) n p h)),
+              f v d y (live k (ways_of x)) (ways_of x) here once dead more.0 ((around (plan.home f) (variables f) (Receive v) (live (Do m (Compute d y) k) (ways_of x)) (ways_of x) (λ u. refl) right).scope v (grind (arith, nat_tests))) rights.0 at small (early_short f 30 v d y) n p h)),
           tt,
         ))
         (λ v m d y k e once dead suits numbers settled wanted more right rights at low small to_leave to_skip near close. (
           (λ n w p h world facts.
               (let by_e = e_side s plan variables fine program is_plan entries wanted.0 in let copies = wanted.1 in
               early_first s plan variables fine program is_plan entries most widest 28 Cq refl (λ t r a b. rw (by_e, copies) (takes_copy_left t r a b)) (λ t r a b. rw (by_e, copies) (takes_copy_right t r a b))
-              f v d y (live k (ways_of x)) (ways_of x) here once dead more.0 rights.0.apart at small (early_short f 28 v d y) n p h)),
+              f v d y (live k (ways_of x)) (ways_of x) here once dead more.0 ((around (plan.home f) (variables f) (Accept v) (live (Do m (Compute d y) k) (ways_of x)) (ways_of x) (λ u. refl) right).scope v (grind (arith, nat_tests))) rights.0 at small (early_short f 28 v d y) n p h)),
           tt,
         ))
         a k

@@ -1,7 +1,8 @@
 -- The block of each action. Registers: x1 the address to return to, x2 where the private frame begins, x3 where the frame
 -- in common memory does, x5, x6 and x7 for the work of one block, x6 also for a call's result. On A x4 is how many addresses
--- common memory has, and x10 the depth. On E x10 and x17 are for the environment call.
-use Rattle.std.specs.Prelude.{ℕ, ◌+◌, ◌-◌, ◌*◌, ◌/◌, ◌%◌, ◌^◌, ℤ, pos, negsuc, Bool, true, false, not, ◌&&◌, nat_lt, nat_eq, if◌then◌else◌, List, [], ◌∷◌, ◌++◌, Option, Some, None, zero, suc}
+-- common memory has, and x10 the depth. On E x10 and x17 are for the environment call. A number that stays in a register is read
+-- there.
+use Rattle.std.specs.Prelude.{ℕ, ◌+◌, ◌-◌, ◌*◌, ◌/◌, ◌%◌, ◌^◌, ℤ, pos, negsuc, Bool, true, false, not, ◌&&◌, nat_lt, nat_eq, if◌then◌else◌, List, [], ◌∷◌, ◌++◌, Option, Some, None, is_some, zero, suc}
 use Rattle.dae_base.specs.Words.{signed, size, minus}
 use Rattle.dae_base.specs.declared.Width.{Width}
 use Rattle.dae_base.specs.declared.Width.TheVariants.{B1, B2, B4}
@@ -25,7 +26,7 @@ use Rattle.dae_ir.specs.declared.form.Check.TheVariants.{Place, Zero, Room, Fram
 use Rattle.dae_ir.specs.declared.stream.Argument.{Argument}
 use Rattle.dae_select_walks.specs.declared.Home.{Home}
 use Rattle.dae_select_walks.specs.declared.Home.TheVariants.{Register, Slot}
-use Rattle.dae_select_walks.specs.Homes.{kept_at, slot_at}
+use Rattle.dae_select_walks.specs.Homes.{kept_at, slot_at, number_key, resident_register}
 use Rattle.dae_select_walks.specs.Agrees.{Plan}
 
 -- ---- a word as the immediates of LUI and of the instruction after it: the second is signed, of twelve bits
@@ -55,7 +56,17 @@ load_code r i = if nat_lt i 512 then Lw r 2 (pos (4 * i)) ∷ [] else Lui r (upp
 abbrev pub store_code : ℕ → ℕ → List Inst
 store_code r i = if nat_lt i 512 then Sw 2 r (pos (4 * i)) ∷ [] else Lui 7 (upper (4 * i)) ∷ (Add 7 7 2 ∷ (Sw 7 r (lower (4 * i)) ∷ []))
 
+-- these numbers come to stay, the first one in this register, the next one in the one below
+abbrev pub residents_code : ℕ → List ℕ → List Inst
+residents_code r [] = []
+residents_code r (n ∷ ns) = number_code r n ++ residents_code (r - 1) ns
+
 -- ---- operands
+
+-- a register, or else this one
+abbrev pub number_or : ℕ → Option ℕ → ℕ
+number_or r None = r
+number_or r (Some h) = h
 
 -- the register that an operand is in behind its fetching: its home, or the scratch register r. The number 0 is in x0
 abbrev pub register_or : ℕ → Home → ℕ
@@ -64,15 +75,20 @@ register_or r (Slot i) = r
 
 abbrev pub source : (ℕ → Home) → ℕ → Operand → ℕ
 source home r (Variable v) = register_or r (home v)
-source home r (Number n) = if nat_eq n 0 then 0 else r
+source home r (Number n) = if nat_eq n 0 then 0 else number_or r (resident_register (home (number_key n)))
 
 abbrev pub fetch_home : ℕ → Home → List Inst
 fetch_home r (Register h) = []
 fetch_home r (Slot i) = load_code r (slot_at i)
 
+-- a number that stays in no register
+abbrev pub fetch_number : ℕ → ℕ → Option ℕ → List Inst
+fetch_number r n None = number_code r n
+fetch_number r n (Some h) = []
+
 abbrev pub fetch : (ℕ → Home) → ℕ → Operand → List Inst
 fetch home r (Variable v) = fetch_home r (home v)
-fetch home r (Number n) = if nat_eq n 0 then [] else number_code r n
+fetch home r (Number n) = if nat_eq n 0 then [] else fetch_number r n (resident_register (home (number_key n)))
 
 -- an operand goes into a register t. Only the last instruction writes t, which may stand for a queue
 abbrev pub move_code : (ℕ → Home) → ℕ → Operand → List Inst
@@ -210,6 +226,10 @@ against_zero AtLeastSigned = Equal
 against_zero LessUnsigned = NotEqual
 against_zero AtLeastUnsigned = Equal
 
+-- whether it is one: a number that stays in a register is read there
+abbrev pub as_immediate : (ℕ → Home) → Comparison → ℕ → Bool
+as_immediate home comparison n = takes_number comparison n && not (is_some (resident_register (home (number_key n))))
+
 -- a comparison of two registers
 abbrev pub compare_registers : (ℕ → Home) → ℕ → Comparison → Operand → Operand → List Inst
 compare_registers home t comparison x y =
@@ -218,16 +238,16 @@ compare_registers home t comparison x y =
 abbrev pub compare_operands : (ℕ → Home) → ℕ → Comparison → Operand → Operand → List Inst
 compare_operands home t comparison x (Variable v) = compare_registers home t comparison x (Variable v)
 compare_operands home t comparison x (Number n) =
-    if takes_number comparison n then fetch home 5 x ++ compare_number_code comparison t (source home 5 x) n
+    if as_immediate home comparison n then fetch home 5 x ++ compare_number_code comparison t (source home 5 x) n
     else compare_registers home t comparison x (Number n)
 
 abbrev pub test_code : (ℕ → Home) → ℕ → Test → List Inst
 test_code home t test = compare_operands home t test.comparison test.left test.right
 
 -- a right operand that is in no register behind a test: an immediate other than 0
-abbrev pub immediate_of : Comparison → Operand → Option ℕ
-immediate_of comparison (Variable v) = None
-immediate_of comparison (Number n) = if takes_number comparison n && not (nat_eq n 0) then Some n else None
+abbrev pub immediate_of : (ℕ → Home) → Comparison → Operand → Option ℕ
+immediate_of home comparison (Variable v) = None
+immediate_of home comparison (Number n) = if as_immediate home comparison n && not (nat_eq n 0) then Some n else None
 
 -- the address that is so many bytes behind where the frame in common memory begins
 abbrev pub frame_code : ℕ → ℕ → List Inst

@@ -28,7 +28,7 @@ use Rattle.dae_select_walks.specs.Agrees.{Plan}
 use Rattle.dae_select_walks.specs.Compiled.{is_told}
 use Rattle.dae_select_walks.specs.declared.Standing.{Standing}
 use Rattle.dae_select_walks.specs.declared.Standing.TheVariants.{Settled, Early, Late}
-use Rattle.dae_select_blocks.specs.Blocks.{number_code, register_or, source, fetch, keep, value_code, issue_code, address_code, take_code, own_code, move_code, call_number, system_code, hear_code, stop_code, check_code, bounds_code, test_code, jump_over, jump_back, enter_code, goes_back, arguments_code, is_register, save_code, restore_code, deeper_code, back_code, result_code, leave_code, jump_words, one_way, goes_code, tell_number_code, against_zero, immediate_of}
+use Rattle.dae_select_blocks.specs.Blocks.{number_code, register_or, source, fetch, keep, value_code, issue_code, address_code, take_code, own_code, move_code, call_number, system_code, hear_code, stop_code, check_code, bounds_code, residents_code, test_code, jump_over, jump_back, enter_code, goes_back, arguments_code, is_register, save_code, restore_code, deeper_code, back_code, result_code, leave_code, jump_words, one_way, goes_code, tell_number_code, against_zero, immediate_of}
 use Rattle.dae_select_blocks.specs.Sizes.{most_words_in, is_short}
 
 -- ---- the registers that a call keeps
@@ -87,7 +87,7 @@ told_by (Some k) home go t way =
 abbrev pub branch_by : (ℕ → Home) → (Comparison → ℕ → ℕ → List Inst) → Branch → Bool → List Inst
 branch_by home go (Silent t) way =
     fetch home 5 t.left ++ (fetch home 6 t.right ++ go (one_way way t.comparison) (source home 5 t.left) (source home 6 t.right))
-branch_by home go (Tells t) way = told_by (immediate_of t.comparison t.right) home go t way
+branch_by home go (Tells t) way = told_by (immediate_of home t.comparison t.right) home go t way
 branch_by home go Hears way = go (one_way way NotEqual) 29 0
 
 -- ahead by n words
@@ -298,9 +298,9 @@ abbrev pub finish_code : Bool → List Inst
 finish_code true = Ecall ∷ []
 finish_code false = Addi 10 6 (pos 0) ∷ (Addi 17 0 (pos 0) ∷ (Ecall ∷ []))
 
--- the code that begins: where frames begin, on A how many addresses common memory has and that main stands at depth 1, and
--- the call of main
+-- the code that begins: where frames begin, the numbers that stay in registers, on A how many addresses common memory has and
+-- that main stands at depth 1, and the call of main
 abbrev pub start_code : Plan → ℕ → ℕ → List Inst
 start_code plan main first =
-    (number_code 3 first ++ (if plan.by_a then number_code 4 (plan.memory - 16) ++ Addi 10 0 (pos 1) ∷ [] else []))
+    (number_code 3 first ++ (residents_code 27 plan.residents ++ (if plan.by_a then number_code 4 (plan.memory - 16) ++ Addi 10 0 (pos 1) ∷ [] else [])))
     ++ enter_code (plan.entry main)

@@ -1,8 +1,11 @@
--- When a plan fits a processor: homes in their ranges, frames as long as the homes need, and numbers that don't wrap.
-use Rattle.std.specs.Prelude.{◌≡◌, ℕ, ◌^◌, ◌≤◌}
+-- When a plan fits a processor: homes in their ranges, frames as long as the homes need, numbers that don't wrap, and registers
+-- for numbers that are no variable's.
+use Rattle.std.specs.Prelude.{◌≡◌, ◌≢◌, ℕ, ◌^◌, ◌≤◌, ◌<◌, length, Some}
+use Rattle.std.specs.List.{AllByRecursion}
 use Rattle.dae_ir.specs.Programs.{side}
 use Rattle.dae_select_walks.specs.Walks.{Setting}
-use Rattle.dae_select_walks.specs.Homes.{IsHome, frame_words}
+use Rattle.dae_select_walks.specs.declared.Home.TheVariants.{Register}
+use Rattle.dae_select_walks.specs.Homes.{IsHome, frame_words, number_key, resident_home, resident_register}
 use Rattle.dae_select_walks.specs.Agrees.{Plan}
 
 pub record Fits (s : Setting) (plan : Plan) (variables : ℕ → ℕ) : Type 0 where
@@ -15,3 +18,7 @@ pub record Fits (s : Setting) (plan : Plan) (variables : ℕ → ℕ) : Type 0 w
   pub common : plan.memory ≤ 2 ^ 26
   pub least : 64 ≤ plan.memory
   pub limit : plan.limit ≤ 4096
+  pub residents : (f n : ℕ) → plan.home f (number_key n) ≡ resident_home 27 plan.residents n
+  pub apart : (f v n r : ℕ) → v < variables f → resident_register (resident_home 27 plan.residents n) ≡ Some r → plan.home f v ≢ Register r
+  pub few : length plan.residents ≤ 3
+  pub small : AllByRecursion (λ n. n < 2 ^ 32) plan.residents

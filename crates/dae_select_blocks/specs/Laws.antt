@@ -66,4 +66,4 @@ pub record Begins (s : Setting) (plan : Plan) (entries : ℕ → VariableSet) (m
 abbrev pub CodeBegins : Type 0
 CodeBegins =
     (s : Setting) (plan : Plan) (variables : ℕ → ℕ) (entries : ℕ → VariableSet) (main frames : ℕ) → Fits s plan variables → IsLinked s plan variables entries → Begins s plan entries main frames
-    → Comes s 8 (opened_with plan.private) (Stands' plan (entries main) (record { function = main; env = (λ _. 0); frame = frames; waiting = [] }) (plan.start main))
+    → Comes s 14 (opened_with plan.private) (Stands' plan (entries main) (record { function = main; env = (λ _. 0); frame = frames; waiting = [] }) (plan.start main))

@@ -1,7 +1,7 @@
 -- The plan that layouts are.
 use Rattle.std.specs.Prelude.{ℕ, ◌<◌, ◌^◌, List, [], length, slice_get, Option, Some, None}
 use Rattle.dae_select_walks.specs.declared.Home.{Home}
-use Rattle.dae_select_walks.specs.Homes.{frame_words, home_in}
+use Rattle.dae_select_walks.specs.Homes.{frame_words, home_among}
 use Rattle.dae_select_walks.specs.Agrees.{Plan}
 use Rattle.dae_select_values.specs.Sides.{is_a}
 use Rattle.dae_select_values.specs.Tables.{IsNear}
@@ -35,7 +35,7 @@ abbrev pub plan_of : Layouts → Plan
 plan_of all = record {
   by_a = is_a all.side;
   functions = length all.functions;
-  home = λ f. home_in (homes_at (slice_get all.functions f));
+  home = λ f. home_among (homes_at (slice_get all.functions f)) all.residents;
   entry = λ f. entry_at (slice_get all.functions f);
   start = λ f. start_at (slice_get all.functions f);
   words = λ f. frame_words (variables_at (slice_get all.functions f));
@@ -45,6 +45,7 @@ plan_of all = record {
   private = all.private;
   limit = all.limit;
   memory = all.memory;
+  residents = all.residents;
 }
 
 -- words of frames are near enough for their addresses to be words, and homes are registers or slots there

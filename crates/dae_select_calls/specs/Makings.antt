@@ -1,10 +1,9 @@
 -- What the code of a function is made from.
 use Rattle.std.specs.Prelude.{◌≡◌, ℕ, Bool}
 use Rattle.dae_select_walks.specs.Agrees.{Plan}
-use Rattle.dae_select_walks.specs.Homes.{home_in}
 use Rattle.dae_select_values.specs.Jumps.{is_jal}
 use Rattle.dae_select_calls.specs.Layouts.{plan_of, variables_of, AreSmall}
-use Rattle.dae_select_values.specs.Tables.{AreNear}
+use Rattle.dae_select_values.specs.Tables.{AreNear, home_by}
 use Rattle.dae_select_calls.specs.declared.making.Making.{Making}
 
 -- the plan of its side, and how many variables each function has
@@ -20,6 +19,6 @@ by_jal m = is_jal m.jumps
 
 -- the homes are those that a small plan gives the function
 pub record IsSound (m : Making) : Type 0 where
-  pub near : AreNear m.homes.now
-  pub homes : home_in m.homes.now ≡ (plan_of m.layouts.now).home m.function
+  pub near : AreNear m.homes
+  pub homes : home_by m.homes ≡ (plan_of m.layouts.now).home m.function
   pub small : AreSmall m.layouts.now

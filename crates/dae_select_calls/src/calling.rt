@@ -6,9 +6,9 @@ ghost use Rattle.dae_select_blocks.specs.Code.{some_below, filtered, registers_i
 ghost use Rattle.dae_select_calls.specs.Layouts.{plan_of, AreSmall};
 ghost use Rattle.dae_select_calls.specs.Makings.{plan_by, variables_by, IsSound};
 ghost use Rattle.dae_select_walks.specs.Live.{with_all};
-ghost use Rattle.dae_select_values.specs.Tables.{IsNear, AreNear};
+ghost use Rattle.dae_select_values.specs.Tables.{IsNear, AreNear, home_by};
 ghost use Rattle.dae_select_live.specs.Members.{member};
-ghost use Rattle.dae_select_walks.specs.Homes.{kept_at, home_in};
+ghost use Rattle.dae_select_walks.specs.Homes.{kept_at};
 
 use crate::layouts::Layouts;
 use crate::making::Making;
@@ -17,8 +17,8 @@ use dae_encode::Inst;
 use dae_ir::{Argument, Operand};
 use dae_select_live::LiveSet;
 use dae_select_values::{
-    enter_code, fetch, home_of, keep, less_code, load_code, more_code, move_code, register_or,
-    source, store_code,
+    HomeTable, enter_code, fetch, home_of, keep, less_code, load_code, more_code, move_code,
+    register_or, source, store_code,
 };
 use dae_select_walks::Home;
 use std::alloc::{AllocError, Global};
@@ -101,9 +101,14 @@ fn hold_home(held: &mut LiveSet, home: Home) -> Result<(), AllocError>
 }
 
 /// The register in which a variable is, of those below so many, comes into a set of registers.
-fn hold(held: &mut LiveSet, homes: &[Home], variables: u32, variable: u32) -> Result<(), AllocError>
+fn hold(
+    held: &mut LiveSet,
+    homes: HomeTable,
+    variables: u32,
+    variable: u32,
+) -> Result<(), AllocError>
     ensures { OnOk result (member held.new ≡ with_all (λ r.
-        nat_lt variable variables && is_register r (home_in homes.now variable))
+        nat_lt variable variables && is_register r (home_by homes.entry variable))
         (member held.old)) }
 {
     if variable < variables {
@@ -116,12 +121,12 @@ fn hold(held: &mut LiveSet, homes: &[Home], variables: u32, variable: u32) -> Re
 /// The registers in which a live variable is, by one pass over the live variables.
 fn held_registers(
     alloc: Global,
-    homes: &[Home],
+    homes: HomeTable,
     variables: u32,
     live: &LiveSet,
 ) -> Result<LiveSet, AllocError>
     ensures { IfOk result (λ held. member held ≡ (λ r. some_below variables (λ v.
-        member live.now v && is_register r (home_in homes.now v)))) }
+        member live.now v && is_register r (home_by homes.entry v)))) }
 {
     let mut held = LiveSet::new(alloc);
     for variable in live.variables() {
@@ -145,13 +150,13 @@ fn registers_among(alloc: Global, held: &LiveSet, registers: &[u8]) -> Result<Ve
 /// Those of some registers in which a live variable is.
 fn live_among(
     alloc: Global,
-    homes: &[Home],
+    homes: HomeTable,
     variables: u32,
     live: &LiveSet,
     registers: &[u8],
 ) -> Result<Vec<u8>, AllocError>
     ensures { IfOk result (λ found. found.items ≡ filtered (λ r. some_below variables (λ v.
-        member live.now v && is_register r (home_in homes.now v))) registers.now) }
+        member live.now v && is_register r (home_by homes.entry v))) registers.now) }
 {
     let held = held_registers(alloc, homes, variables, live)?;
     registers_among(alloc, &held, registers)
@@ -160,12 +165,12 @@ fn live_among(
 /// The registers in which a live variable is.
 fn registers_in(
     alloc: Global,
-    homes: &[Home],
+    homes: HomeTable,
     variables: u32,
     live: &LiveSet,
 ) -> Result<Vec<u8>, AllocError>
     ensures { IfOk result (λ registers. registers.items
-        ≡ registers_in (home_in homes.now) variables (member live.now)) }
+        ≡ registers_in (home_by homes.entry) variables (member live.now)) }
 {
     live_among(alloc, homes, variables, live, &HOME_REGISTERS)
 }
@@ -225,12 +230,12 @@ fn back_code(code: &mut Vec<Inst>, layouts: &Layouts, function: u32) -> Result<(
 
 fn result_code(
     code: &mut Vec<Inst>,
-    homes: &[Home],
+    homes: HomeTable,
     variable: Option<u32>,
 ) -> Result<(), AllocError>
-    requires { AreNear homes.now }
+    requires { AreNear homes }
     ensures { OnOk result (code.new.items ≡ code.old.items
-        ++ result_code (home_in homes.now) variable) }
+        ++ result_code (home_by homes.entry) variable) }
 {
     match variable {
         None => Ok(()),
@@ -277,12 +282,12 @@ pub fn call_code(
 /// The block of a return.
 pub fn leave_code(
     code: &mut Vec<Inst>,
-    homes: &[Home],
+    homes: HomeTable,
     answer: Option<Operand>,
 ) -> Result<(), AllocError>
-    requires { AreNear homes.now }
+    requires { AreNear homes }
     ensures { OnOk result (code.new.items ≡ code.old.items
-        ++ leave_code (home_in homes.now) answer) }
+        ++ leave_code (home_by homes.entry) answer) }
 {
     match answer {
         None => code.extend_from_slice(&[Inst::Lw(1, 2, 0), Inst::Jalr(0, 1, 0)]),

@@ -5,15 +5,13 @@ ghost use Rattle.dae_select_blocks.specs.Blocks.{fail_code, over, align_code, bo
 ghost use Rattle.dae_select_blocks.specs.Code.{placed_code};
 ghost use Rattle.dae_select_values.specs.Sides.{is_a};
 ghost use Rattle.dae_select_calls.specs.Makings.{plan_by, IsSound};
-ghost use Rattle.dae_select_walks.specs.Homes.{home_in};
-ghost use Rattle.dae_select_values.specs.Tables.{AreNear};
+ghost use Rattle.dae_select_values.specs.Tables.{AreNear, home_by};
 
 use crate::making::Making;
 use dae_base::{Side, Width};
 use dae_encode::Inst;
 use dae_ir::{Action, Check, Operand};
-use dae_select_values::{fetch, number_code, source};
-use dae_select_walks::Home;
+use dae_select_values::{HomeTable, fetch, number_code, source};
 use std::alloc::AllocError;
 
 /// The code of a trap is pushed, and the processor halts.
@@ -67,13 +65,13 @@ fn bounds_code(code: &mut Vec<Inst>, width: Width, register: u8) -> Result<(), A
 /// The address that an operand is must be good for an access of a width.
 fn place_code(
     code: &mut Vec<Inst>,
-    homes: &[Home],
+    homes: HomeTable,
     width: Width,
     operand: Operand,
 ) -> Result<(), AllocError>
-    requires { AreNear homes.now }
+    requires { AreNear homes }
     ensures { OnOk result (code.new.items ≡ code.old.items
-        ++ place_code (home_in homes.now) width operand) }
+        ++ place_code (home_by homes.entry) width operand) }
 {
     fetch(code, homes, 5, operand)?;
     let register = source(homes, 5, operand);
@@ -82,10 +80,14 @@ fn place_code(
 }
 
 /// The same where that address is a multiple of four.
-pub fn placed_code(code: &mut Vec<Inst>, homes: &[Home], action: &Action) -> Result<(), AllocError>
-    requires { AreNear homes.now }
+pub fn placed_code(
+    code: &mut Vec<Inst>,
+    homes: HomeTable,
+    action: &Action,
+) -> Result<(), AllocError>
+    requires { AreNear homes }
     ensures { OnOk result (code.new.items ≡ code.old.items
-        ++ placed_code (home_in homes.now) action.now) }
+        ++ placed_code (home_by homes.entry) action.now) }
 {
     match action {
         Action::Probe(Check::Place(width, operand)) => {
@@ -99,12 +101,12 @@ pub fn placed_code(code: &mut Vec<Inst>, homes: &[Home], action: &Action) -> Res
 fn zero_code(
     code: &mut Vec<Inst>,
     side: Side,
-    homes: &[Home],
+    homes: HomeTable,
     operand: Operand,
 ) -> Result<(), AllocError>
-    requires { AreNear homes.now }
+    requires { AreNear homes }
     ensures { OnOk result (code.new.items ≡ code.old.items
-        ++ zero_code (is_a side) (home_in homes.now) operand) }
+        ++ zero_code (is_a side) (home_by homes.entry) operand) }
 {
     fetch(code, homes, 5, operand)?;
     let over = match side {

@@ -2,11 +2,10 @@
 
 ghost use Rattle.std.specs.Prelude.{◌≡◌};
 ghost use Rattle.dae_select_calls.specs.Layouts.{plan_of, variables_of, AreSmall};
-ghost use Rattle.dae_select_values.specs.Tables.{AreNear};
-ghost use Rattle.dae_select_walks.specs.Homes.{home_in};
+ghost use Rattle.dae_select_values.specs.Tables.{AreNear, home_by};
 
 use dae_base::{Items, Side};
-use dae_select_values::home_of;
+use dae_select_values::{HomeTable, home_of};
 use dae_select_walks::Home;
 
 /// What is settled of a function: the homes of its variables, how many variables there are, the bytes of its frame in
@@ -21,7 +20,7 @@ pub struct FunctionLayout {
 }
 
 /// What is settled of a side: its functions, the word that main returns to, the most words of a private frame, the words
-/// of private memory, the call limit, and the bytes of common memory.
+/// of private memory, the call limit, the bytes of common memory, and the numbers that stay in registers.
 #[derive(Drop)]
 pub struct Layouts {
     pub side: Side,
@@ -31,17 +30,25 @@ pub struct Layouts {
     pub private: u32,
     pub limit: u16,
     pub memory: u32,
+    pub residents: Items<u32>,
 }
 
 impl Layouts {
-    /// The homes of a function's variables.
-    pub fn homes(&self, function: u32) -> &[Home]
-        ensures homes { home_in result.now ≡ (plan_of self.now).home function }
-        ensures near { AreSmall self.now → AreNear result.now }
+    /// The homes of a function's variables, and the numbers that stay in registers.
+    pub fn homes(&self, function: u32) -> HomeTable<'_>
+        ensures homes { home_by result ≡ (plan_of self.now).home function }
+        ensures near { AreSmall self.now → AreNear result }
     {
+        let residents = self.residents.as_slice();
         match self.functions.as_slice().get(function as usize) {
-            Some(layout) => layout.homes.as_slice(),
-            None => &[],
+            Some(layout) => HomeTable {
+                homes: layout.homes.as_slice(),
+                residents,
+            },
+            None => HomeTable {
+                homes: &[],
+                residents,
+            },
         }
     }
 
@@ -49,10 +56,7 @@ impl Layouts {
     pub fn home(&self, function: u32, variable: u32) -> Home
         ensures { result ≡ (plan_of self.now).home function variable }
     {
-        match self.functions.as_slice().get(function as usize) {
-            Some(layout) => home_of(layout.homes.as_slice(), variable),
-            None => Home::Register(8),
-        }
+        home_of(self.homes(function), variable)
     }
 
     /// The word at which a function is entered.

@@ -6,7 +6,7 @@ pub use calling::{Callee, call_code, entry_code, leave_code};
 pub use checking::{check_code, placed_code};
 pub use layouts::{FunctionLayout, Layouts};
 pub use making::Making;
-pub use opening::{finish_code, start_code};
+pub use opening::{finish_code, residents_code, start_code};
 
 mod calling;
 mod checking;

@@ -2,7 +2,7 @@
 
 ghost use Rattle.std.specs.Prelude.{◌≡◌, ◌-◌, ◌++◌, ◌∷◌, [], pos, if◌then◌else◌, IfOk, OnOk};
 ghost use Rattle.dae_encode.specs.declared.Inst.TheVariants.{Addi};
-ghost use Rattle.dae_select_blocks.specs.Blocks.{number_code};
+ghost use Rattle.dae_select_blocks.specs.Blocks.{number_code, residents_code};
 ghost use Rattle.dae_select_blocks.specs.Code.{start_code, finish_code};
 ghost use Rattle.dae_select_values.specs.Sides.{is_a};
 ghost use Rattle.dae_select_calls.specs.Layouts.{plan_of, AreSmall};
@@ -12,6 +12,18 @@ use dae_base::Side;
 use dae_encode::Inst;
 use dae_select_values::{enter_code, number_code};
 use std::alloc::{AllocError, Global};
+
+/// Numbers come to stay in registers: the first in x27, the next ones in those below.
+pub fn residents_code(code: &mut Vec<Inst>, residents: &[u32]) -> Result<(), AllocError>
+    ensures { OnOk result (code.new.items ≡ code.old.items ++ residents_code 27 residents.now) }
+{
+    let mut register: u8 = 27;
+    for number in residents {
+        number_code(code, register, *number)?;
+        register = register.saturating_sub(1);
+    }
+    Ok(())
+}
 
 /// On A common memory has so many addresses, and main stands at depth 1.
 fn counts_code(code: &mut Vec<Inst>, side: Side, memory: u32) -> Result<(), AllocError>
@@ -27,7 +39,7 @@ fn counts_code(code: &mut Vec<Inst>, side: Side, memory: u32) -> Result<(), Allo
     }
 }
 
-/// The code that begins: frames begin at this address of common memory, and main is called.
+/// The code that begins: frames begin at this address of common memory, numbers come to stay, and main is called.
 pub fn start_code(
     alloc: Global,
     layouts: &Layouts,
@@ -39,6 +51,7 @@ pub fn start_code(
 {
     let mut code = Vec::new(alloc);
     number_code(&mut code, 3, frames)?;
+    residents_code(&mut code, layouts.residents.as_slice())?;
     counts_code(&mut code, layouts.side, layouts.memory)?;
     enter_code(&mut code, layouts.entry(main))?;
     Ok(code)

@@ -1,4 +1,5 @@
 mod Setting
 mod Lists
 mod Turning
+mod Asked
 pub mod LawsOfFacts

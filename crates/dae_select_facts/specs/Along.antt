@@ -2,6 +2,9 @@
 use Rattle.std.specs.Prelude.{◌≡◌, ◌<◌, ℕ, zero, suc, List, [], ◌∷◌, length, drop, slice_index_or, Bool, true, false}
 use Rattle.dae_ir.specs.Code.{Done, Do, If, Loop}
 use Rattle.dae_ir.specs.Streams.{Actions, actions_of, step_onto}
+use Rattle.dae_ir.specs.declared.form.Check.TheVariants.{Place}
+use Rattle.dae_ir.specs.declared.stream.Action.{Action}
+use Rattle.dae_ir.specs.declared.stream.Action.TheVariants.{Probe}
 use Rattle.dae_ir.specs.declared.stream.Step.{Step, Act, If', Loop'}
 use Rattle.dae_select_walks.specs.Facts.{Facts, facts_behind, facts_past_if, facts_past_loop, need_of}
 use Rattle.dae_select_walks.specs.declared.Need.{Need}
@@ -41,6 +44,16 @@ abbrev pub has_lists : Step → Bool
 has_lists (Act m a) = false
 has_lists (If' m b i p j q) = true
 has_lists (Loop' m i p j q) = true
+
+-- what is known before an action, and before a step, is asked for
+abbrev pub asks_for : Action → Bool
+asks_for (Probe (Place width x)) = true
+asks_for _ = false
+
+abbrev pub asks : Step → Bool
+asks (Act m a) = asks_for a
+asks (If' m b i p j q) = true
+asks (Loop' m i p j q) = true
 
 -- so much is needed of the block of a step, before which something is known and behind which these come; where it has lists, that is
 -- told

@@ -1,12 +1,12 @@
 // Which affine word a variable equals, and which variable equals an affine word.
 
-ghost use Rattle.std.specs.Prelude.{◌≡◌, ◌++◌, OnOk};
+ghost use Rattle.std.specs.Prelude.{◌≡◌};
 ghost use Rattle.dae_select_walks.specs.Facts.{gives_affine, own_word, fact_affine, affine_among};
 ghost use Rattle.dae_select_walks.specs.Facts.{has_affine, fact_variable, equal_among, affine_fact};
+ghost use Rattle.dae_select_facts.specs.Knowns.{listed};
 
 use dae_select_bounds::same_affine;
 use dae_select_walks::{Affine, Fact};
-use std::alloc::AllocError;
 
 /// The word of a variable itself.
 pub fn own_word(variable: u32) -> Affine
@@ -79,20 +79,18 @@ pub fn equal_among(facts: &[Fact], affine: Affine, otherwise: Option<u32>) -> Op
     otherwise
 }
 
-/// That a variable equals a word comes behind other facts, but where its bounds tell as much, and where the word was made of
-/// the variable itself.
-pub fn push_affine(
-    facts: &mut Vec<Fact>,
-    variable: u32,
-    affine: Option<Affine>,
-) -> Result<(), AllocError>
-    ensures { OnOk result
-        (facts.new.items ≡ facts.old.items ++ affine_fact variable affine) }
+/// That a variable equals a word, but where its bounds tell as much, and where the word was made of the variable itself.
+pub fn affine_fact(variable: u32, affine: Option<Affine>) -> Option<Fact>
+    ensures { listed result ≡ affine_fact variable affine }
 {
-    if let Some(affine) = affine {
-        if affine.scale != 0 && affine.base != variable {
-            facts.push(Fact::Equals(variable, affine))?;
+    match affine {
+        None => None,
+        Some(affine) => {
+            if affine.scale == 0 || affine.base == variable {
+                None
+            } else {
+                Some(Fact::Equals(variable, affine))
+            }
         }
     }
-    Ok(())
 }

@@ -1,15 +1,15 @@
 // What is known of variables at a place of a list, and behind an action.
 
-ghost use Rattle.std.specs.Prelude.{◌≡◌, ◌++◌, IfOk, OnOk};
+ghost use Rattle.std.specs.Prelude.{◌≡◌, ◌++◌, take, IfOk, OnOk};
 ghost use Rattle.dae_select_walks.specs.Facts.{unknown, gives_bounds, fact_bounds, bounds_among};
 ghost use Rattle.dae_select_walks.specs.Facts.{bounds_in, operand_bounds, affine_in, operand_affine};
 ghost use Rattle.dae_select_walks.specs.Facts.{some_bounds, equal_in, equal_bounds, result_affine};
 ghost use Rattle.dae_select_walks.specs.Facts.{value_bounds, affine_of, just, is_about, less};
-ghost use Rattle.dae_select_walks.specs.Facts.{fact_of, latest, any, with_bounds, with_affine};
+ghost use Rattle.dae_select_walks.specs.Facts.{fact_of, any, with_bounds, with_affine};
 ghost use Rattle.dae_select_walks.specs.Facts.{refined, facts_behind, result_bounds};
-ghost use Rattle.dae_select_facts.specs.Knowns.{facts_by};
+ghost use Rattle.dae_select_facts.specs.Knowns.{facts_by, listed};
 
-use crate::affine::{affine_among, equal_among, own_word, push_affine};
+use crate::affine::{affine_among, affine_fact, equal_among, own_word};
 use crate::bounds::{passed_bounds, says_nothing};
 use dae_ir::{Action, Check, Operand, Value};
 use dae_meaning::Operator;
@@ -135,13 +135,20 @@ fn result_affine(known: &Known, operator: Operator, left: Operand, right: Operan
     }
 }
 
-/// The bounds of an operation's result: by those of its operands, and by what is told of variables that equal it.
-fn result_bounds(known: &Known, operator: Operator, left: Operand, right: Operand) -> Bounds
+/// The bounds of an operation's result, which is this affine word if one: by those of its operands, and by what is told of
+/// variables that equal it.
+fn result_bounds(
+    known: &Known,
+    operator: Operator,
+    left: Operand,
+    right: Operand,
+    affine: Option<Affine>,
+) -> Bounds
+    requires { affine ≡ result_affine (facts_by known.now) operator left right }
     ensures { result ≡ result_bounds (facts_by known.now) operator left right }
 {
     let one = operand_bounds(known, left);
     let bounds = combined_bounds(operator, one, operand_bounds(known, right));
-    let affine = result_affine(known, operator, left, right);
     closer(bounds, equal_bounds(known, affine))
 }
 
@@ -156,12 +163,16 @@ fn affine_of(known: &Known, value: Value) -> Option<Affine>
     }
 }
 
-fn value_bounds(known: &Known, value: Value) -> Bounds
+/// The bounds of a value, which is this affine word if one.
+fn value_bounds(known: &Known, value: Value, affine: Option<Affine>) -> Bounds
+    requires { affine ≡ affine_of (facts_by known.now) value }
     ensures { result ≡ value_bounds (facts_by known.now) value }
 {
     match value {
         Value::Same(operand) => operand_bounds(known, operand),
-        Value::Binary(operator, left, right) => result_bounds(known, operator, left, right),
+        Value::Binary(operator, left, right) => {
+            result_bounds(known, operator, left, right, affine)
+        }
         Value::Extended(kind, operand) => extended_bounds(kind, operand_bounds(known, operand)),
         Value::Holds(_) => flag_bounds(),
         Value::FrameAddress(_) => any(),
@@ -178,84 +189,65 @@ fn is_of(variable: u32, fact: Fact) -> bool
     }
 }
 
-/// Facts come behind others, but those of a variable.
-fn push_less(kept: &mut Vec<Fact>, facts: &[Fact], variable: u32) -> Result<(), AllocError>
-    ensures { OnOk result (kept.new.items ≡ kept.old.items ++ less (just variable) facts.now) }
+/// What is told of a variable is told no longer.
+fn remove_facts(facts: &mut Vec<Fact>, variable: u32)
+    ensures { facts.new.items ≡ less (just variable) facts.old.items }
 {
-    for fact in facts {
-        if !is_of(variable, *fact) {
-            kept.push(*fact)?;
-        }
+    facts.retain(|fact| !is_of(variable, *fact));
+}
+
+/// A fact, where there is one, comes before others, of which the latest few are kept.
+fn push_latest(facts: &mut Vec<Fact>, fact: Option<Fact>) -> Result<(), AllocError>
+    ensures { OnOk result (facts.new.items ≡ take 64 (listed fact ++ facts.old.items)) }
+{
+    if let Some(fact) = fact {
+        facts.insert(0, fact)?;
     }
+    facts.truncate(64);
     Ok(())
 }
 
-/// A variable's bounds come before what the latest actions told.
-fn latest(
-    alloc: Global,
-    variable: u32,
-    bounds: Bounds,
-    facts: &[Fact],
-) -> Result<Vec<Fact>, AllocError>
-    ensures { IfOk result (λ new. new.items ≡ latest variable bounds facts.now) }
+/// That a variable's word is in these bounds, where they say anything.
+fn fact_of(variable: u32, bounds: Bounds) -> Option<Fact>
+    ensures { listed result ≡ fact_of variable bounds }
 {
-    let mut new = Vec::new(alloc);
-    if !says_nothing(bounds) {
-        new.push(Fact::Within(variable, bounds))?;
+    if says_nothing(bounds) {
+        None
+    } else {
+        Some(Fact::Within(variable, bounds))
     }
-    push_less(&mut new, facts, variable)?;
-    new.truncate(64);
-    Ok(new)
 }
 
 /// A variable gets a word in these bounds.
-fn with_bounds(
-    alloc: Global,
-    known: Known,
-    variable: u32,
-    bounds: Bounds,
-) -> Result<Known, AllocError>
+fn with_bounds(known: Known, variable: u32, bounds: Bounds) -> Result<Known, AllocError>
     ensures { IfOk result (λ new. facts_by new ≡ with_bounds variable bounds (facts_by known)) }
 {
-    let mut outer = Vec::new(alloc);
-    push_less(&mut outer, known.outer.as_slice(), variable)?;
-    let inner = latest(alloc, variable, bounds, known.inner.as_slice())?;
+    let Known {
+        mut outer,
+        mut inner,
+    } = known;
+    remove_facts(&mut outer, variable);
+    remove_facts(&mut inner, variable);
+    push_latest(&mut inner, fact_of(variable, bounds))?;
     Ok(Known { outer, inner })
 }
 
 /// A variable that was set equals an affine word.
-fn with_affine(
-    alloc: Global,
-    known: Known,
-    variable: u32,
-    affine: Option<Affine>,
-) -> Result<Known, AllocError>
+fn with_affine(known: Known, variable: u32, affine: Option<Affine>) -> Result<Known, AllocError>
     ensures { IfOk result (λ new. facts_by new ≡ with_affine variable affine (facts_by known)) }
 {
-    let mut inner = Vec::new(alloc);
-    push_affine(&mut inner, variable, affine)?;
-    inner.extend_from_slice(known.inner.as_slice())?;
-    inner.truncate(64);
-    Ok(Known {
-        outer: known.outer,
-        inner,
-    })
+    let Known { outer, mut inner } = known;
+    push_latest(&mut inner, affine_fact(variable, affine))?;
+    Ok(Known { outer, inner })
 }
 
 /// More is known of a variable.
-fn refine(alloc: Global, known: Known, variable: u32, bounds: Bounds) -> Result<Known, AllocError>
+fn refine(known: Known, variable: u32, bounds: Bounds) -> Result<Known, AllocError>
     ensures { IfOk result (λ new. facts_by new ≡ refined variable bounds (facts_by known)) }
 {
-    let mut inner = Vec::new(alloc);
-    if !says_nothing(bounds) {
-        inner.push(Fact::Within(variable, bounds))?;
-    }
-    inner.extend_from_slice(known.inner.as_slice())?;
-    inner.truncate(64);
-    Ok(Known {
-        outer: known.outer,
-        inner,
-    })
+    let Known { outer, mut inner } = known;
+    push_latest(&mut inner, fact_of(variable, bounds))?;
+    Ok(Known { outer, inner })
 }
 
 /// Nothing is known.
@@ -269,31 +261,26 @@ pub fn unknown(alloc: Global) -> Known
 }
 
 /// What is known behind an action.
-pub fn facts_behind(
-    alloc: Global,
-    memory: u32,
-    known: Known,
-    action: &Action,
-) -> Result<Known, AllocError>
+pub fn facts_behind(memory: u32, known: Known, action: &Action) -> Result<Known, AllocError>
     ensures { IfOk result (λ new. facts_by new
         ≡ facts_behind memory action.now (facts_by known)) }
 {
     match action {
         Action::Set(variable, value) => {
-            let bounds = value_bounds(&known, *value);
             let affine = affine_of(&known, *value);
-            let next = with_bounds(alloc, known, *variable, bounds)?;
-            with_affine(alloc, next, *variable, affine)
+            let bounds = value_bounds(&known, *value, affine);
+            let next = with_bounds(known, *variable, bounds)?;
+            with_affine(next, *variable, affine)
         }
         Action::Own(variable, _, _) | Action::Receive(variable) | Action::Accept(variable) => {
-            with_bounds(alloc, known, *variable, any())
+            with_bounds(known, *variable, any())
         }
         Action::Probe(Check::Place(width, Operand::Variable(variable))) => {
             let bounds = passed_bounds(memory, *width, bounds_in(&known, *variable));
-            refine(alloc, known, *variable, bounds)
+            refine(known, *variable, bounds)
         }
         Action::Call(None, _, _) => Ok(known),
-        Action::Call(Some(variable), _, _) => { with_bounds(alloc, known, *variable, any()) }
+        Action::Call(Some(variable), _, _) => { with_bounds(known, *variable, any()) }
         _ => Ok(known),
     }
 }

@@ -3,9 +3,12 @@
 #![tactic(auto)]
 
 pub use along::{Before, all_before};
-pub use known::{Known, unknown};
+pub use bounds::is_good;
+pub use known::{Known, bounds_in, facts_behind, unknown};
 pub use sets::only_leaves;
-pub use through::{facts_at_turn, facts_behind_turn, facts_in_list, facts_past_if};
+pub use through::{
+    facts_at_turn, facts_behind_turn, facts_in_list, facts_past_if, facts_past_loop,
+};
 
 mod affine;
 mod along;

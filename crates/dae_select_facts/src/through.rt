@@ -225,12 +225,7 @@ fn counter_guess(body: &[Step], step: &[Step], known: &Known) -> Option<Fact>
 }
 
 /// What is known behind a step, where that is an action behind which the list goes on.
-fn behind_step(
-    alloc: Global,
-    memory: u32,
-    known: Known,
-    step: &Step,
-) -> Result<Option<Known>, AllocError>
+fn behind_step(memory: u32, known: Known, step: &Step) -> Result<Option<Known>, AllocError>
     ensures { IfOk result (λ new. (k : Actions)
         → behind_straight memory (step_onto step.now k) (facts_by known)
         ≡ straight_on memory k (facts_if new)) }
@@ -239,25 +234,20 @@ fn behind_step(
         Step::Act(_, Action::Break) => Ok(None),
         Step::Act(_, Action::Continue) => Ok(None),
         Step::Act(_, Action::Return(_)) => Ok(None),
-        Step::Act(_, action) => Ok(Some(facts_behind(alloc, memory, known, action)?)),
+        Step::Act(_, action) => Ok(Some(facts_behind(memory, known, action)?)),
         Step::If(_, _, _, _) => Ok(None),
         Step::Loop(_, _, _) => Ok(None),
     }
 }
 
 /// What is known behind actions alone.
-fn behind_straight(
-    alloc: Global,
-    memory: u32,
-    known: Known,
-    steps: &[Step],
-) -> Result<Option<Known>, AllocError>
+fn behind_straight(memory: u32, known: Known, steps: &[Step]) -> Result<Option<Known>, AllocError>
     ensures { IfOk result (λ new. facts_if new
         ≡ behind_straight memory (actions_of steps.now) (facts_by known)) }
 {
     let mut known = known;
     for index in 0..steps.len() {
-        match behind_step(alloc, memory, known, &steps[index])? {
+        match behind_step(memory, known, &steps[index])? {
             None => return Ok(None),
             Some(next) => known = next,
         }
@@ -308,7 +298,7 @@ fn stays(
         (facts_behind_turn (actions_of body.now) (facts_by turn.now))) (listed (Some guess))) }
 {
     let begin = facts_behind_turn(alloc, body, turn)?;
-    match behind_straight(alloc, memory, begin, step)? {
+    match behind_straight(memory, begin, step)? {
         None => Ok(false),
         Some(end) => Ok(is_said(&end, guess)),
     }

@@ -1,3 +1,4 @@
 mod Rising
 pub mod Laws
 mod Several
+mod Anew

@@ -8,7 +8,7 @@ ghost use Rattle.dae_select_live.specs.Members.{member};
 ghost use Rattle.dae_select_live.specs.Before.{IsLiveBefore};
 
 use crate::LiveSet;
-use crate::reads::{add_action, add_branch, set_by};
+use crate::reads::{add_action, add_branch, set_anew};
 use dae_ir::{Action, Branch, Step};
 use std::alloc::{AllocError, Global};
 
@@ -25,7 +25,7 @@ pub fn live_before_action(
         ≡ before action.now (member next) (ways n (member leaves.now) (member skips.now))) }
 {
     let mut set = live_after_action(alloc, action, next, leaves, skips)?;
-    set.remove_known(set_by(action));
+    set.remove_known(set_anew(action));
     add_action(&mut set, action)?;
     Ok(set)
 }

@@ -1,6 +1,7 @@
 // What an action or a branch reads, and what an action sets.
 
-ghost use Rattle.std.specs.Prelude.{◌≡◌, OnOk};
+ghost use Rattle.std.specs.Prelude.{◌≡◌, ◌&&◌, not, Some, None, if◌then◌else◌, OnOk};
+ghost use Rattle.dae_ir.specs.Classes.{VariableSet};
 ghost use Rattle.dae_select_walks.specs.Live.{with_all, in_operand, in_option, in_test, in_value, in_check, in_arguments, reads, sets, is, decided};
 ghost use Rattle.dae_select_live.specs.Members.{member};
 
@@ -120,5 +121,51 @@ pub fn set_by(action: &Action) -> Option<u32>
         | Action::Accept(variable) => Some(*variable),
         Action::Call(result, _, _) => *result,
         _ => None,
+    }
+}
+
+/// Whether an operand is a variable.
+fn is_operand(operand: Operand, variable: u32) -> bool
+    ensures { result ≡ in_operand operand variable }
+{
+    match operand {
+        Operand::Variable(other) => variable == other,
+        Operand::Number(_) => false,
+    }
+}
+
+/// Whether a value is computed from a variable.
+fn value_reads(value: Value, variable: u32) -> bool
+    ensures { result ≡ in_value value variable }
+{
+    match value {
+        Value::Same(operand) => is_operand(operand, variable),
+        Value::Extended(_, operand) => is_operand(operand, variable),
+        Value::Binary(_, left, right) => is_operand(left, variable) || is_operand(right, variable),
+        Value::Holds(test) => is_operand(test.left, variable) || is_operand(test.right, variable),
+        Value::FrameAddress(_) => false,
+    }
+}
+
+/// The variable, unless the value is computed from it.
+fn unless_read(variable: u32, value: Value) -> Option<u32>
+    ensures { result ≡ (if in_value value variable then None else Some variable) }
+{
+    if value_reads(value, variable) {
+        None
+    } else {
+        Some(variable)
+    }
+}
+
+/// The variable that an action sets, unless it is computed from itself: that needn't go out of the set before what the action
+/// reads comes in.
+pub fn set_anew(action: &Action) -> Option<u32>
+    ensures { (s : VariableSet) → with_all (reads action.now) (λ u. s u && not (is result u))
+        ≡ with_all (reads action.now) (λ u. s u && not (sets action.now u)) }
+{
+    match action {
+        Action::Set(variable, value) => unless_read(*variable, *value),
+        _ => set_by(action),
     }
 }

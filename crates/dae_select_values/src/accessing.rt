@@ -3,10 +3,10 @@
 ghost use Rattle.std.specs.Prelude.{◌≡◌, ◌++◌, ◌∷◌, [], OnOk};
 ghost use Rattle.dae_select_blocks.specs.Blocks.{source, fetch, issue_code, address_code, take_code, call_number, system_code, hear_code, stop_code};
 ghost use Rattle.dae_select_values.specs.Sides.{is_a};
-ghost use Rattle.dae_select_walks.specs.Homes.{home_in};
-ghost use Rattle.dae_select_values.specs.Tables.{IsNear, AreNear};
+ghost use Rattle.dae_select_values.specs.Tables.{IsNear, AreNear, home_by};
 
 use crate::fetching::{fetch, keep, move_code, register_or, source};
+use crate::tables::HomeTable;
 use dae_base::{LoadKind, Side, Width};
 use dae_encode::Inst;
 use dae_ir::Operand;
@@ -29,14 +29,14 @@ fn issue_inst(kind: LoadKind, queue: u8, base: u8) -> Inst
 /// A slot of a load queue, x30 or x31, is reserved for a load from the address that an operand is.
 pub fn issue_code(
     code: &mut Vec<Inst>,
-    homes: &[Home],
+    homes: HomeTable,
     kind: LoadKind,
     queue: u8,
     operand: Operand,
 ) -> Result<(), AllocError>
-    requires { AreNear homes.now }
-    ensures { OnOk result (code.new.items ≡ code.old.items ++ (fetch (home_in homes.now) 5 operand
-        ++ issue_code kind queue (source (home_in homes.now) 5 operand) ∷ [])) }
+    requires { AreNear homes }
+    ensures { OnOk result (code.new.items ≡ code.old.items ++ (fetch (home_by homes.entry) 5 operand
+        ++ issue_code kind queue (source (home_by homes.entry) 5 operand) ∷ [])) }
 {
     fetch(code, homes, 5, operand)?;
     code.push(issue_inst(kind, queue, source(homes, 5, operand)))?;
@@ -56,13 +56,13 @@ fn address_inst(width: Width, base: u8) -> Inst
 /// The address of a store is pushed.
 pub fn address_code(
     code: &mut Vec<Inst>,
-    homes: &[Home],
+    homes: HomeTable,
     width: Width,
     operand: Operand,
 ) -> Result<(), AllocError>
-    requires { AreNear homes.now }
-    ensures { OnOk result (code.new.items ≡ code.old.items ++ (fetch (home_in homes.now) 5 operand
-        ++ address_code width (source (home_in homes.now) 5 operand) ∷ [])) }
+    requires { AreNear homes }
+    ensures { OnOk result (code.new.items ≡ code.old.items ++ (fetch (home_by homes.entry) 5 operand
+        ++ address_code width (source (home_by homes.entry) 5 operand) ∷ [])) }
 {
     fetch(code, homes, 5, operand)?;
     code.push(address_inst(width, source(homes, 5, operand)))?;
@@ -93,13 +93,13 @@ pub fn call_number(spelling: Spelling) -> u8
 /// An environment call of this number with an operand.
 pub fn system_code(
     code: &mut Vec<Inst>,
-    homes: &[Home],
+    homes: HomeTable,
     number: u8,
     operand: Operand,
 ) -> Result<(), AllocError>
-    requires { AreNear homes.now }
+    requires { AreNear homes }
     ensures { OnOk result (code.new.items ≡ code.old.items
-        ++ system_code (home_in homes.now) number operand) }
+        ++ system_code (home_by homes.entry) number operand) }
 {
     move_code(code, homes, 10, operand)?;
     code.extend_from_slice(&[Inst::Addi(17, 0, i32::from(number)), Inst::Ecall])
@@ -124,12 +124,12 @@ pub fn hear_code(code: &mut Vec<Inst>, side: Side) -> Result<(), AllocError>
 pub fn stop_code(
     code: &mut Vec<Inst>,
     side: Side,
-    homes: &[Home],
+    homes: HomeTable,
     status: Option<Operand>,
 ) -> Result<(), AllocError>
-    requires { AreNear homes.now }
+    requires { AreNear homes }
     ensures { OnOk result (code.new.items ≡ code.old.items
-        ++ stop_code (is_a side) (home_in homes.now) status) }
+        ++ stop_code (is_a side) (home_by homes.entry) status) }
 {
     match (side, status) {
         (Side::A, _) => code.extend_from_slice(&[Inst::Ecall]),

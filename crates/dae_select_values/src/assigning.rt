@@ -1,14 +1,14 @@
 // The code of values: of what an action sets a variable to.
 
-ghost use Rattle.std.specs.Prelude.{◌≡◌, ◌++◌, OnOk};
-ghost use Rattle.dae_select_blocks.specs.Blocks.{operation_code, combine_registers, binary_code, extend_code, compare_code, compare_registers, test_code, frame_code, value_code, register_or, keep};
-ghost use Rattle.dae_select_walks.specs.Homes.{home_in};
-ghost use Rattle.dae_select_values.specs.Tables.{AreNear};
+ghost use Rattle.std.specs.Prelude.{◌≡◌, ◌++◌, not, is_some, OnOk};
+ghost use Rattle.dae_select_blocks.specs.Blocks.{operation_code, combine_registers, binary_code, extend_code, compare_code, as_immediate, compare_registers, test_code, frame_code, value_code, register_or, keep};
+ghost use Rattle.dae_select_values.specs.Tables.{AreNear, home_by};
 
 use crate::fetching::{
-    fetch, home_of, is_immediate, keep, lower, move_code, number_code, register_or, source,
+    fetch, is_immediate, keep, lower, move_code, number_code, register_or, source,
 };
 use crate::numbers::{compare_number, exchanged, immediate, takes_number};
+use crate::tables::{HomeTable, home_of, resident};
 use dae_base::LoadKind;
 use dae_encode::Inst;
 use dae_ir::{Operand, Test, Value};
@@ -40,15 +40,15 @@ pub fn operation(operator: Operator, target: u8, left: u8, right: u8) -> Inst
 /// An operation on two registers.
 fn combine_registers(
     code: &mut Vec<Inst>,
-    homes: &[Home],
+    homes: HomeTable,
     target: u8,
     operator: Operator,
     left: Operand,
     right: Operand,
 ) -> Result<(), AllocError>
-    requires { AreNear homes.now }
+    requires { AreNear homes }
     ensures { OnOk result (code.new.items ≡ code.old.items
-        ++ combine_registers (home_in homes.now) target operator left right) }
+        ++ combine_registers (home_by homes.entry) target operator left right) }
 {
     fetch(code, homes, 5, left)?;
     fetch(code, homes, 6, right)?;
@@ -63,15 +63,15 @@ fn combine_registers(
 /// An operation, with a number as an immediate where it can be one.
 fn binary_code(
     code: &mut Vec<Inst>,
-    homes: &[Home],
+    homes: HomeTable,
     target: u8,
     operator: Operator,
     left: Operand,
     right: Operand,
 ) -> Result<(), AllocError>
-    requires { AreNear homes.now }
+    requires { AreNear homes }
     ensures { OnOk result (code.new.items ≡ code.old.items
-        ++ binary_code (home_in homes.now) target operator left right) }
+        ++ binary_code (home_by homes.entry) target operator left right) }
 {
     match right {
         Operand::Number(number) => {
@@ -151,13 +151,13 @@ pub fn compare(
 /// A comparison of two operands in registers.
 fn compare_registers(
     code: &mut Vec<Inst>,
-    homes: &[Home],
+    homes: HomeTable,
     target: u8,
     test: Test,
 ) -> Result<(), AllocError>
-    requires { AreNear homes.now }
+    requires { AreNear homes }
     ensures { OnOk result (code.new.items ≡ code.old.items
-        ++ compare_registers (home_in homes.now) target test.comparison test.left test.right) }
+        ++ compare_registers (home_by homes.entry) target test.comparison test.left test.right) }
 {
     fetch(code, homes, 5, test.left)?;
     fetch(code, homes, 6, test.right)?;
@@ -170,21 +170,38 @@ fn compare_registers(
     )
 }
 
+/// Whether a number stays in no register.
+fn is_absent(resident: Option<u8>) -> bool
+    ensures { result ≡ not (is_some resident) }
+{
+    match resident {
+        Some(_) => false,
+        None => true,
+    }
+}
+
+/// Whether a comparison has the number as an immediate: one that stays in a register is read there.
+pub fn as_immediate(homes: HomeTable, comparison: Comparison, number: u32) -> bool
+    ensures { result ≡ as_immediate (home_by homes.entry) comparison number }
+{
+    takes_number(comparison, number) && is_absent(resident(homes, number))
+}
+
 /// A register, or the queue that it stands for, gets 1 where the test holds, and else 0.
 pub fn test_code(
     code: &mut Vec<Inst>,
-    homes: &[Home],
+    homes: HomeTable,
     target: u8,
     test: Test,
 ) -> Result<(), AllocError>
-    requires { AreNear homes.now }
+    requires { AreNear homes }
     ensures { OnOk result (code.new.items ≡ code.old.items
-        ++ test_code (home_in homes.now) target test) }
+        ++ test_code (home_by homes.entry) target test) }
 {
     match test.right {
         Operand::Variable(_) => compare_registers(code, homes, target, test),
         Operand::Number(number) => {
-            if takes_number(test.comparison, number) {
+            if as_immediate(homes, test.comparison, number) {
                 fetch(code, homes, 5, test.left)?;
                 let register = source(homes, 5, test.left);
                 compare_number(code, test.comparison, target, register, number)
@@ -210,13 +227,13 @@ fn frame_code(code: &mut Vec<Inst>, target: u8, offset: u32) -> Result<(), Alloc
 /// A value goes into a register.
 pub fn value_code(
     code: &mut Vec<Inst>,
-    homes: &[Home],
+    homes: HomeTable,
     target: u8,
     value: Value,
 ) -> Result<(), AllocError>
-    requires { AreNear homes.now }
+    requires { AreNear homes }
     ensures { OnOk result (code.new.items ≡ code.old.items
-        ++ value_code (home_in homes.now) target value) }
+        ++ value_code (home_by homes.entry) target value) }
 {
     match value {
         Value::Same(operand) => move_code(code, homes, target, operand),
@@ -235,14 +252,14 @@ pub fn value_code(
 /// The block that sets a variable.
 pub fn set_code(
     code: &mut Vec<Inst>,
-    homes: &[Home],
+    homes: HomeTable,
     variable: u32,
     value: Value,
 ) -> Result<(), AllocError>
-    requires { AreNear homes.now }
+    requires { AreNear homes }
     ensures { OnOk result (code.new.items ≡ code.old.items
-        ++ (value_code (home_in homes.now) (register_or 5 (home_in homes.now variable)) value
-        ++ keep (home_in homes.now variable))) }
+        ++ (value_code (home_by homes.entry) (register_or 5 (home_by homes.entry variable)) value
+        ++ keep (home_by homes.entry variable))) }
 {
     let home = home_of(homes, variable);
     value_code(code, homes, register_or(5, home), value)?;

@@ -1,10 +1,10 @@
 // How numbers, words of the private frame and operands come into registers, and how results go home.
 
 ghost use Rattle.std.specs.Prelude.{◌≡◌, ◌<◌, ◌^◌, ◌*◌, ◌+◌, ◌++◌, OnOk};
-ghost use Rattle.dae_select_blocks.specs.Blocks.{upper, lower, is_immediate, number_code, load_code, store_code, source, register_or, fetch, fetch_home, move_code, keep};
-ghost use Rattle.dae_select_walks.specs.Homes.{home_in};
-ghost use Rattle.dae_select_values.specs.Tables.{IsNear, AreNear};
+ghost use Rattle.dae_select_blocks.specs.Blocks.{upper, lower, is_immediate, number_code, load_code, store_code, source, register_or, number_or, fetch, fetch_home, fetch_number, move_code, keep};
+ghost use Rattle.dae_select_values.specs.Tables.{IsNear, AreNear, home_by};
 
+use crate::tables::{HomeTable, home_of, resident};
 use dae_encode::Inst;
 use dae_ir::Operand;
 use dae_select_walks::Home;
@@ -84,25 +84,24 @@ pub fn store_code(code: &mut Vec<Inst>, register: u8, index: u32) -> Result<(), 
     }
 }
 
-/// The home of a variable.
-pub fn home_of(homes: &[Home], variable: u32) -> Home
-    ensures home { result ≡ home_in homes.now variable }
-    ensures near { AreNear homes.now → IsNear result }
+/// A register, or else the one for work.
+fn number_or(register: u8, resident: Option<u8>) -> u8
+    ensures { result ≡ number_or register resident }
 {
-    match homes.get(variable as usize) {
-        Some(home) => *home,
-        None => Home::Register(8),
+    match resident {
+        Some(other) => other,
+        None => register,
     }
 }
 
-/// The register that an operand is in behind its fetching. The number 0 is in x0.
-pub fn source(homes: &[Home], register: u8, operand: Operand) -> u8
-    ensures { result ≡ source (home_in homes.now) register operand }
+/// The register that an operand is in behind its fetching. The number 0 is in x0, and another may stay in a register.
+pub fn source(homes: HomeTable, register: u8, operand: Operand) -> u8
+    ensures { result ≡ source (home_by homes.entry) register operand }
 {
     match operand {
         Operand::Variable(variable) => register_or(register, home_of(homes, variable)),
         Operand::Number(0) => 0,
-        Operand::Number(_) => register,
+        Operand::Number(number) => number_or(register, resident(homes, number)),
     }
 }
 
@@ -119,18 +118,34 @@ pub fn register_or(register: u8, home: Home) -> u8
 /// An operand goes into a register.
 pub fn fetch(
     code: &mut Vec<Inst>,
-    homes: &[Home],
+    homes: HomeTable,
     register: u8,
     operand: Operand,
 ) -> Result<(), AllocError>
-    requires { AreNear homes.now }
+    requires { AreNear homes }
     ensures { OnOk result (code.new.items ≡ code.old.items
-        ++ fetch (home_in homes.now) register operand) }
+        ++ fetch (home_by homes.entry) register operand) }
 {
     match operand {
         Operand::Variable(variable) => fetch_home(code, register, home_of(homes, variable)),
         Operand::Number(0) => Ok(()),
-        Operand::Number(number) => number_code(code, register, number),
+        Operand::Number(number) => fetch_number(code, register, number, resident(homes, number)),
+    }
+}
+
+/// A number goes into a register, unless it stays in one.
+fn fetch_number(
+    code: &mut Vec<Inst>,
+    register: u8,
+    number: u32,
+    resident: Option<u8>,
+) -> Result<(), AllocError>
+    ensures { OnOk result (code.new.items ≡ code.old.items
+        ++ fetch_number register number resident) }
+{
+    match resident {
+        Some(_) => Ok(()),
+        None => number_code(code, register, number),
     }
 }
 
@@ -147,13 +162,13 @@ fn fetch_home(code: &mut Vec<Inst>, register: u8, home: Home) -> Result<(), Allo
 /// An operand goes into a register, which may stand for a queue: only the last instruction writes it.
 pub fn move_code(
     code: &mut Vec<Inst>,
-    homes: &[Home],
+    homes: HomeTable,
     target: u8,
     operand: Operand,
 ) -> Result<(), AllocError>
-    requires { AreNear homes.now }
+    requires { AreNear homes }
     ensures { OnOk result (code.new.items ≡ code.old.items
-        ++ move_code (home_in homes.now) target operand) }
+        ++ move_code (home_by homes.entry) target operand) }
 {
     match operand {
         Operand::Variable(variable) => {

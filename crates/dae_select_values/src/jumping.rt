@@ -8,16 +8,16 @@ ghost use Rattle.dae_select_blocks.specs.Code.{told_by, branch_by, branch_code, 
 ghost use Rattle.dae_select_values.specs.Fronts.{IsFront};
 ghost use Rattle.dae_select_values.specs.Jumps.{is_jal};
 ghost use Rattle.dae_select_walks.specs.Edges.{is_then};
-ghost use Rattle.dae_select_walks.specs.Homes.{home_in};
-ghost use Rattle.dae_select_values.specs.Tables.{AreNear};
+ghost use Rattle.dae_select_values.specs.Tables.{AreNear, home_by};
 
-use crate::assigning::test_code;
+use crate::assigning::{as_immediate, test_code};
 use crate::fetching::{fetch, lower, source, upper};
-use crate::numbers::{takes_number, tell_number};
+use crate::numbers::tell_number;
+use crate::tables::HomeTable;
 use dae_encode::Inst;
 use dae_ir::{Branch, Operand, Test};
 use dae_meaning::Comparison;
-use dae_select_walks::{Edge, Home};
+use dae_select_walks::Edge;
 use std::alloc::{AllocError, Global};
 
 /// As many words as the bytes of all addresses are.
@@ -183,10 +183,10 @@ struct Compared {
 }
 
 /// The operands of a test, which are in their registers, as they compare along an edge.
-fn compared_operands(homes: &[Home], test: Test, edge: Edge) -> Compared
+fn compared_operands(homes: HomeTable, test: Test, edge: Edge) -> Compared
     ensures relation { result.relation ≡ one_way (is_then edge) test.comparison }
-    ensures first { result.first ≡ source (home_in homes.now) 5 test.left }
-    ensures second { result.second ≡ source (home_in homes.now) 6 test.right }
+    ensures first { result.first ≡ source (home_by homes.entry) 5 test.left }
+    ensures second { result.second ≡ source (home_by homes.entry) 6 test.right }
 {
     Compared {
         relation: one_way(edge, test.comparison),
@@ -210,13 +210,13 @@ fn against_zero(relation: Comparison) -> Comparison
 }
 
 /// A right operand that is in no register behind a test: an immediate other than 0.
-fn immediate_of(comparison: Comparison, operand: Operand) -> Option<u32>
-    ensures { result ≡ immediate_of comparison operand }
+fn immediate_of(homes: HomeTable, comparison: Comparison, operand: Operand) -> Option<u32>
+    ensures { result ≡ immediate_of (home_by homes.entry) comparison operand }
 {
     match operand {
         Operand::Variable(_) => None,
         Operand::Number(number) => {
-            if takes_number(comparison, number) && number != 0 {
+            if as_immediate(homes, comparison, number) && number != 0 {
                 Some(number)
             } else {
                 None
@@ -229,16 +229,16 @@ fn immediate_of(comparison: Comparison, operand: Operand) -> Option<u32>
 /// are still in their registers, or else x7 with 0.
 fn told_front(
     code: &mut Vec<Inst>,
-    homes: &[Home],
+    homes: HomeTable,
     test: Test,
     edge: Edge,
 ) -> Result<Compared, AllocError>
-    requires { AreNear homes.now }
+    requires { AreNear homes }
     ensures { IfOk result (λ c. IsFront (told_by
-        (immediate_of test.comparison test.right) (home_in homes.now)) test (is_then edge)
-        code.old.items code.new.items c.relation c.first c.second) }
+        (immediate_of (home_by homes.entry) test.comparison test.right) (home_by homes.entry)) test
+        (is_then edge) code.old.items code.new.items c.relation c.first c.second) }
 {
-    match immediate_of(test.comparison, test.right) {
+    match immediate_of(homes, test.comparison, test.right) {
         None => {
             test_code(code, homes, 29, test)?;
             Ok(compared_operands(homes, test, edge))
@@ -258,12 +258,12 @@ fn told_front(
 /// What comes before the branch itself: along the edge it goes on elsewhere where two registers compare so.
 fn branch_front(
     code: &mut Vec<Inst>,
-    homes: &[Home],
+    homes: HomeTable,
     branch: Branch,
     edge: Edge,
 ) -> Result<Compared, AllocError>
-    requires { AreNear homes.now }
-    ensures { IfOk result (λ c. IsFront (branch_by (home_in homes.now)) branch
+    requires { AreNear homes }
+    ensures { IfOk result (λ c. IsFront (branch_by (home_by homes.entry)) branch
         (is_then edge) code.old.items code.new.items c.relation c.first c.second) }
 {
     match branch {
@@ -286,15 +286,15 @@ fn branch_front(
 /// The block of a branch: along the edge it goes on to what stands so many words ahead of its end.
 pub fn branch_code(
     code: &mut Vec<Inst>,
-    homes: &[Home],
+    homes: HomeTable,
     form: JumpForm,
     branch: Branch,
     edge: Edge,
     words: u64,
 ) -> Result<(), AllocError>
-    requires { AreNear homes.now }
+    requires { AreNear homes }
     ensures { OnOk result (code.new.items ≡ code.old.items
-        ++ branch_code (home_in homes.now) (is_jal form) branch (is_then edge) words) }
+        ++ branch_code (home_by homes.entry) (is_jal form) branch (is_then edge) words) }
 {
     let compared = branch_front(code, homes, branch, edge)?;
     let Compared {
@@ -316,14 +316,14 @@ fn back_offset(words: u64) -> i32
 /// The block of a branch that goes back where its test holds, to what stands so many words before it.
 pub fn back_branch(
     alloc: Global,
-    homes: &[Home],
+    homes: HomeTable,
     branch: Branch,
     words: u64,
 ) -> Result<Vec<Inst>, AllocError>
-    requires near { AreNear homes.now }
+    requires near { AreNear homes }
     requires words { words ≤ 900 }
     ensures { IfOk result (λ block. block.items
-        ≡ back_branch (home_in homes.now) branch true words) }
+        ≡ back_branch (home_by homes.entry) branch true words) }
 {
     let mut block = Vec::new(alloc);
     let compared = branch_front(&mut block, homes, branch, Edge::Then)?;

@@ -5,17 +5,19 @@
 pub use accessing::{
     address_code, call_number, hear_code, issue_code, stop_code, system_code, take_code,
 };
-pub use assigning::{compare, extend, operation, set_code, value_code};
+pub use assigning::{as_immediate, compare, extend, operation, set_code, value_code};
 pub use fetching::{
-    fetch, home_of, keep, load_code, move_code, number_code, register_or, source, store_code,
+    fetch, keep, load_code, move_code, number_code, register_or, source, store_code,
 };
 pub use jumping::{
     JumpForm, back_branch, branch_code, enter_code, jump_back, jump_over, jump_words,
 };
 pub use numbers::{compare_number, exchanged, immediate, less_code, more_code, takes_number};
+pub use tables::{HomeTable, home_of};
 
 mod accessing;
 mod assigning;
 mod fetching;
 mod jumping;
 mod numbers;
+mod tables;

@@ -3,6 +3,7 @@ pub use Rattle.dae_select_walks.proofs.Composed.{acts_does, acts_map, comes_does
 pub use Rattle.dae_select_walks.proofs.Steps.{put, read, step, step_address, step_ends, step_load, step_prints, step_shared, step_stops, step_store, store}
 pub use Rattle.dae_select_walks.proofs.Lives.{turn_again}
 pub use Rattle.dae_select_walks.proofs.SetBefore.{live_set}
+pub use Rattle.dae_select_walks.proofs.Residents.{variable_home, number_home}
 pub use Rattle.dae_select_walks.proofs.Facts.{operand_is, aligned_is, good_is, returned_facts, deed_facts}
 pub use Rattle.dae_select_walks.proofs.Going.{Reach, facts_go}
 pub use Rattle.dae_select_walks.proofs.Tested.{Goes_by, branch_lies}

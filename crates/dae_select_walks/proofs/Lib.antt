@@ -4,6 +4,7 @@ mod Steps
 mod Lives
 mod Paths
 mod SetBefore
+mod Residents
 mod Words
 mod Facts
 pub mod LawsOfWalks

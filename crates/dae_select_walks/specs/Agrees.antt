@@ -1,18 +1,19 @@
--- What a processor holds at a moment of its stream: the variables that are live; where the frame in common memory and the
--- private frame begin; on A the depth and how many addresses common memory has; and for each waiting call its return address
+-- What a processor holds at a moment of its stream: the variables that are live; the numbers that stay in registers; where the
+-- frame in common memory and the private frame begin; on A the depth and how many addresses common memory has; and for each waiting call its return address
 -- and what is live behind it.
-use Rattle.std.specs.Prelude.{◌≡◌, ℕ, ◌+◌, ◌-◌, ◌*◌, ◌^◌, ◌≤◌, ◌<◌, Bool, true, List, [], ◌∷◌, length, slice_index, None}
+use Rattle.std.specs.Prelude.{◌≡◌, ℕ, ◌+◌, ◌-◌, ◌*◌, ◌^◌, ◌≤◌, ◌<◌, Bool, true, List, [], ◌∷◌, length, slice_index, Some, None}
 use Rattle.dae_base.specs.Words.{loaded}
 use Rattle.dae_base.specs.declared.LoadKind.TheVariants.{I32}
 use Rattle.dae_encode.specs.Processor.{Processor}
 use Rattle.dae_ir.specs.Classes.{VariableSet}
 use Rattle.dae_meaning.specs.Variables.{Env}
-use Rattle.dae_select_walks.specs.Homes.{Contents, held, kept}
+use Rattle.dae_select_walks.specs.Homes.{Contents, held, kept, resident_home, resident_register}
 use Rattle.dae_select_walks.specs.declared.Home.{Home}
 
 -- what is settled before the code runs: the side, the number of functions and their homes; of each function the words at which it is entered and at which its actions
 -- begin, the words of its private frame and the bytes of its frame in common memory; the word that main returns to; the most
--- words of a private frame and the words of private memory; the call limit; and the size of common memory
+-- words of a private frame and the words of private memory; the call limit; the size of common memory; and the numbers that stay
+-- in registers
 pub record Plan : Type 0 where
   pub by_a : Bool
   pub functions : ℕ
@@ -26,6 +27,7 @@ pub record Plan : Type 0 where
   pub private : ℕ
   pub limit : ℕ
   pub memory : ℕ
+  pub residents : List ℕ
 
 -- a call that waits: its function, its variables and which of them are live behind it, the result aside, where its frame
 -- begins in common memory, and the word of the code that it is returned to
@@ -59,6 +61,10 @@ pub record IsWithin (plan : Plan) (m : Moment) : Type 0 where
 abbrev pub AreIn : (Home → ℕ) → (ℕ → Home) → VariableSet → Env → Type 0
 AreIn place home live env = (v : ℕ) → live v ≡ true → place (home v) ≡ env v
 
+-- each number that stays in a register is there
+abbrev pub AreResident : Plan → Contents → Type 0
+AreResident plan c = (n r : ℕ) → resident_register (resident_home 27 plan.residents n) ≡ Some r → c.register r ≡ n
+
 -- the calls that wait below a frame that begins at a word of private memory and at an address of common memory
 abbrev pub AreWaiting : Plan → Contents → ℕ → ℕ → List Waiting → Type 0
 AreWaiting plan c base frame [] = (base ≡ 0) × (plan.finish < 2 ^ 29) × (c.word base ≡ 4 * plan.finish)
@@ -74,6 +80,7 @@ pub record Agrees (plan : Plan) (live : VariableSet) (m : Moment) (c : Contents)
   pub frame : c.register 3 ≡ m.frame
   pub depth : plan.by_a ≡ true → c.register 10 ≡ depth_of m
   pub addresses : plan.by_a ≡ true → c.register 4 ≡ plan.memory - 16
+  pub residents : AreResident plan c
   pub waiting : AreWaiting plan c base m.frame m.waiting
   pub room : base + (plan.limit + 1 - depth_of m) * plan.largest ≤ plan.private
   pub within : IsWithin plan m

@@ -23,7 +23,7 @@ use Rattle.dae_select_walks.specs.Does.{Does, event}
 use Rattle.dae_select_walks.specs.Live.{Ways, ways, behind, live, is, turn, step_ways}
 use Rattle.dae_select_walks.specs.Facts.{Facts, Hold, facts_behind, facts_in_first, facts_in_second, facts_past_if, facts_at_turn, facts_at_step, facts_past_loop}
 use Rattle.dae_select_walks.specs.Homes.{Contents}
-use Rattle.dae_select_walks.specs.Agrees.{Plan, Moment, Waiting, depth_of, top_of, IsWithin, AreWaiting, Shows, Stands}
+use Rattle.dae_select_walks.specs.Agrees.{Plan, Moment, Waiting, depth_of, top_of, IsWithin, AreWaiting, AreResident, Shows, Stands}
 
 -- where code goes on, as a word of the code; what is live there of what the processor holds; and how that stands to the moment
 pub record Exit : Type 0 where
@@ -85,6 +85,7 @@ pub record Lands (plan : Plan) (w : Waiting) (ws : List Waiting) (result : Optio
   pub low : frame ≤ plan.memory
   pub depth : plan.by_a ≡ true → contents.register 10 ≡ length ws + 2
   pub addresses : plan.by_a ≡ true → contents.register 4 ≡ plan.memory - 16
+  pub residents : AreResident plan contents
   pub waiting : AreWaiting plan contents base frame (w ∷ ws)
   pub given : (x : ℕ) → result ≡ Some x → contents.register 6 ≡ x
 

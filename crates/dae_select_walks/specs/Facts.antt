@@ -335,12 +335,13 @@ tells_within (suc n) (Do m (Tell x) k) = true
 tells_within (suc n) (Do m a k) = tells_within n k
 tells_within n code = false
 
--- what is needed of the block of an action, behind which these come
+-- what is needed of the block of an action, behind which these come. A variable that is set to itself needs none
 abbrev pub needed : ℕ → Bool → Width → Bounds → Need
 needed memory told width b = if told && is_good memory width b then Nothing else (if is_aligned width b then Ends else All)
 
 abbrev pub need_of : ℕ → Facts → Action → Actions → Need
 need_of memory facts (Probe (Place width x)) k = needed memory (tells_within 24 k) width (operand_bounds facts x)
+need_of memory facts (Compute v (Same (Variable u))) k = if nat_eq u v then Nothing else All
 need_of memory facts a k = All
 
 -- an address that has passed the test

@@ -1,6 +1,6 @@
 -- Where variables are kept. A private frame has the address to return to, then a word for each of the 18 registers that
 -- variables may have, kept across a call, and then the slots.
-use Rattle.std.specs.Prelude.{◌≡◌, ◌≢◌, ℕ, ◌+◌, ◌-◌, ◌<◌, Bool, true, nat_lt, ◌||◌, ◌&&◌, if◌then◌else◌, List, nat_le, slice_get, Option, Some, None}
+use Rattle.std.specs.Prelude.{◌≡◌, ◌≢◌, ℕ, ◌+◌, ◌-◌, ◌^◌, ◌<◌, Bool, true, nat_lt, nat_eq, ◌||◌, ◌&&◌, if◌then◌else◌, List, [], ◌∷◌, nat_le, slice_get, Option, Some, None}
 use Rattle.std.specs.List.{AllByRecursion}
 use Rattle.dae_ir.specs.Classes.{VariableSet}
 use Rattle.dae_select_walks.specs.declared.Home.{Home}
@@ -25,6 +25,28 @@ home_or (Some home) = home
 -- the homes of a table
 abbrev pub home_in : List Home → ℕ → Home
 home_in homes v = home_or (slice_get homes v)
+
+-- ---- numbers that stay in registers
+
+-- a number's place among the homes, behind those of all variables
+unfoldable pub number_key : ℕ → ℕ
+number_key n = 2 ^ 32 + n
+
+-- the first number stays in this register, the next one in the one below. What is told of a number that stays in none is x8
+abbrev pub resident_home : ℕ → List ℕ → ℕ → Home
+resident_home r [] n = Register 8
+resident_home r (x ∷ xs) n = if nat_eq n x then Register r else resident_home (r - 1) xs n
+
+-- the register that has the number: x25, x26 or x27
+abbrev pub resident_register : Home → Option ℕ
+resident_register (Register r) = if nat_lt 24 r && nat_lt r 28 then Some r else None
+resident_register (Slot i) = None
+
+-- the homes of a table, and behind them the registers of such numbers, from x27 on
+unfoldable pub home_among : List Home → List ℕ → ℕ → Home
+home_among homes numbers v = if nat_lt v (2 ^ 32) then home_in homes v else resident_home 27 numbers (v - 2 ^ 32)
+
+-- ---- homes apart
 
 -- two variables that are live at one place have different homes
 abbrev pub AreApart : (ℕ → Home) → VariableSet → Type 0

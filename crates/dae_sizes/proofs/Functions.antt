@@ -4,7 +4,8 @@ use Rattle.std.proofs.lemmas.List.{length-drop}
 use Rattle.std.proofs.lemmas.List.Sums.{count_by-le-length}
 use Rattle.std.specs.Prelude.{slice_get}
 use Rattle.dae_tree.specs.Marks.{literal_numbers}
-use Rattle.dae_tree.specs.Statements.{spell_external}
+use Rattle.dae_tree.specs.FileViews.{view_externals}
+use Rattle.dae_tree.specs.Statements.{spell_external, spell_file}
 use Rattle.dae_tree.specs.Trees.{External}
 use Rattle.dae_program.specs.Trees as tree
 use Rattle.dae_program.specs.Views.{view_statements}
@@ -27,7 +28,7 @@ use Rattle.dae_types_typed.specs.Sound.{tables_of}
 use Rattle.dae_types_typed.specs.declared.files.FileParts.{FileParts}
 use Rattle.dae_types_typed.specs.declared.files.TypedFunction.{TypedFunction}
 use Rattle.dae_lower_formed.specs.Sizes.{most_made_in}
-use Rattle.dae_sizes.specs.Worth.{priced, TokensPay}
+use Rattle.dae_sizes.specs.Worth.{pay_of_all, priced, PartsPay, TokensPay}
 use Rattle.dae_sizes.specs.Bodies.{PlannedBody, bodies_in, IsPaidBy, ArePaidBy, BodiesPaid}
 use Rattle.dae_sizes.specs.Paid.{for_each, bytes_of_literal, price}
 use Rattle.dae_lower_formed.specs.Code.{most_code_in}
@@ -37,6 +38,7 @@ use Rattle.dae_lower_bounds.specs.Voids.{void_statements}
 use Rattle.dae_void_laws.specs.Tested.{BodyTestsValues, BodiesTestValues}
 use Rattle.dae_sizes.specs.From.{AreFrom}
 use Rattle.dae_unit.specs.Parameters.{HasParameters}
+use Rattle.dae_sizes.specs.Promise.{FunctionsAreCounted}
 use Rattle.dae_sizes.specs.Small.{IsPlanned, HasFew, HasLittle, VariablesAreFew, CodeIsLittle}
 use Rattle.dae_sizes.specs.Tests.{HasTestedValues}
 use Rattle.dae_sizes.proofs.From.{AreAlike, from_alike, alike_all}
@@ -194,6 +196,41 @@ code_is_little pay bodies checked xs s file is parameters =
     let paid = from_paid 1 s.literals xs (bodies_in is.products) (paid_by bodies checked 1 xs s t is.products (omega arith) is.checked) in
     let all = alike_all (IsBodyOf t) (HasParameters file) (bodies_in is.products) file.functions parameters (alike t is.spellings is.products file.functions reads.functions) in
     from_alike (λ x d f p b. little pay s.literals t x d f p b.0 (within t file d f reads.shapes reads.routines b.0 b.1)) xs (bodies_in is.products) file.functions paid all
+
+-- ---- how many functions there are
+
+same_length : {Y Z : Type 0} (T : Y → Z → Type 0) (ys : List Y) (zs : List Z) → AreAlike T ys zs → length ys ≡ length zs
+same_length T [] [] h = refl
+same_length T [] (z ∷ zs) h = absurd h
+same_length T (y ∷ ys) [] h = absurd h
+same_length T (y ∷ ys) (z ∷ zs) h = ap suc (same_length T ys zs h.1)
+
+-- the tokens of definitions pay 8 for each body
+bodies_cost : TokensPay → (ls : List (List ℕ)) (xs : List External) (ds : List PlannedBody) → ArePaidBy 0 ls xs ds → 8 * length ds ≤ pay_of_all (price 0 ls) xs
+bodies_cost pay ls xs [] h = omega arith
+bodies_cost pay ls [] (d ∷ ds) h = absurd h
+bodies_cost pay ls (x ∷ xs) (d ∷ ds) (inl h) =
+    let one = h.0 in let weight = one.weight in let paid = pay (price 0 ls) x in let rest = bodies_cost pay ls xs ds h.1 in omega (arith, weight, paid, rest)
+bodies_cost pay ls (x ∷ xs) (d ∷ ds) (inr h) = let rest = bodies_cost pay ls xs (d ∷ ds) h in omega (arith, rest)
+
+functions_of_file : TokensPay → PartsPay → BodiesPaid → FilesAreChecked → (xs : List External) (s : Tables) (file : FileParts) → IsPlanned xs s file → 2 * length file.functions ≤ length (spell_file xs [])
+functions_of_file pay parts bodies checked xs s file is =
+    let t = is.tables in
+    let reads = is.reads in
+    let same = same_length (IsBodyOf t) (bodies_in is.products) file.functions (alike t is.spellings is.products file.functions reads.functions) in
+    let cost = bodies_cost pay s.literals xs (bodies_in is.products) (paid_by bodies checked 0 xs s t is.products (omega arith) is.checked) in
+    let whole = parts (price 0 s.literals) xs in
+    let free = nothing_priced s.literals (literal_numbers (spell_file xs [])) in
+    omega (arith, same, cost, whole, free)
+
+pub functions_are_counted : TokensPay → PartsPay → BodiesPaid → FilesAreChecked → FunctionsAreCounted
+functions_are_counted pay parts bodies checked [] [] h = omega arith
+functions_are_counted pay parts bodies checked [] (f ∷ fs) h = absurd h
+functions_are_counted pay parts bodies checked (c ∷ cs) [] h = absurd h
+functions_are_counted pay parts bodies checked (c ∷ cs) (f ∷ fs) h =
+    let one = functions_of_file pay parts bodies checked (view_externals c.externals) h.0.0 f h.0.1 in
+    let rest = functions_are_counted pay parts bodies checked cs fs h.1 in
+    omega (arith, one, rest)
 
 -- ---- what is true of all that comes from others
 

@@ -22,7 +22,13 @@ use Rattle.dae_lower_formed.specs.Code.{loaded_burden, loads_in}
 use Rattle.dae_ir_pair.specs.Sizes.{words_in}
 use Rattle.dae_sizes.specs.From.{AreFrom}
 use Rattle.dae_sizes.specs.Small.{tokens, text, HasFew, HasLittle}
-use Rattle.dae_sizes.specs.Sources.{Source, sources_in, AreTypedAs, AreUpTo, tokens_in, bytes_in}
+use Rattle.dae_sizes.specs.Sources.{Source, sources_in, AreTypedAs, ArePlanned, AreUpTo, count_functions, tokens_in, bytes_in}
+
+-- ---- the functions of files
+
+-- at most one for every second token
+abbrev pub FunctionsAreCounted : Type 0
+FunctionsAreCounted = (files : List Contents) (typed : List FileParts) → ArePlanned files typed → 2 * count_functions typed ≤ tokens_in files
 
 -- ---- the functions that files join to
 

@@ -43,6 +43,18 @@ AreTypedAs [] (f ∷ fs) = ⊥
 AreTypedAs (c ∷ cs) [] = ⊥
 AreTypedAs (c ∷ cs) (f ∷ fs) = IsTypedAs c f × AreTypedAs cs fs
 
+-- no rule is broken in the files, whatever was declared before the first token of each, and this is what they come to
+abbrev pub ArePlanned : List Contents → List FileParts → Type 0
+ArePlanned [] [] = Unit {0}
+ArePlanned [] (f ∷ fs) = ⊥
+ArePlanned (c ∷ cs) [] = ⊥
+ArePlanned (c ∷ cs) (f ∷ fs) = ((s : Tables) × IsPlanned (view_externals c.externals) s f) × ArePlanned cs fs
+
+-- how many functions they have
+abbrev pub count_functions : List FileParts → ℕ
+count_functions [] = 0
+count_functions (f ∷ fs) = length f.functions + count_functions fs
+
 -- ---- the tokens of files, and the bytes of their literals
 
 abbrev pub tokens_of : Contents → ℕ

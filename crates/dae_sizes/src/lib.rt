@@ -9,7 +9,7 @@ ghost use Rattle.dae_sizes.specs.Data.{DataAreConstant};
 ghost use Rattle.dae_sizes.specs.Paid.{ValuesPaid};
 ghost use Rattle.dae_sizes.specs.Promise.{DefinitionsAreShort, FormsAreFew, FormsAreLittle};
 ghost use Rattle.dae_sizes.specs.Promise.{FormsAreWithin, FramesAreSmall, FramesAreWithin};
-ghost use Rattle.dae_sizes.specs.Promise.{FunctionsAreFew, FunctionsAreLittle};
+ghost use Rattle.dae_sizes.specs.Promise.{FunctionsAreCounted, FunctionsAreFew, FunctionsAreLittle};
 ghost use Rattle.dae_sizes.specs.Promise.{StreamsAreLittle, StreamsAreWithin};
 ghost use Rattle.dae_sizes.specs.Small.{CodeIsLittle, VariablesAreFew};
 ghost use Rattle.dae_sizes.specs.Tests.{FunctionsTestValues};
@@ -59,6 +59,16 @@ pub fn code_is_little()
     ensures { CodeIsLittle }
 {
     tokens_pay();
+    bodies_paid();
+    dae_types_file_plans::files_are_checked();
+}
+
+/// Files have at most one function for every second of their tokens.
+pub fn functions_are_counted()
+    ensures { FunctionsAreCounted }
+{
+    tokens_pay();
+    parts_pay();
     bodies_paid();
     dae_types_file_plans::files_are_checked();
 }

@@ -1,14 +1,11 @@
 -- Steps that grow at their end.
-use Rattle.std.proofs.Common.{◌≡◌, ℕ, ◌+◌, ◌<◌, ◌≤◌, List, [], ◌∷◌, ◌++◌, length, get_or, drop, refl, ap, sym, ◌∙◌}
+use Rattle.std.proofs.Common.{◌≡◌, ℕ, ◌+◌, ◌<◌, ◌≤◌, List, [], ◌∷◌, ◌++◌, length, get_or, drop, ap, sym, ◌∙◌}
 use Rattle.std.proofs.lemmas.List.{drop_all, drop_more}
 use Rattle.dae_ir.specs.Streams.{Actions, onto, step_onto, parts}
 use Rattle.dae_ir.specs.declared.stream.Part.{Part}
 use Rattle.dae_ir.specs.declared.stream.Step.{Step}
+use Rattle.dae_ir.proofs.Laws.{onto_push}
 use Rattle.dae_split.specs.Making.{Adds}
-
-pub onto_push : (xs : List Step) (s : Step) (k : Actions) → onto (xs ++ s ∷ []) k ≡ onto xs (step_onto s k)
-onto_push [] s k = refl
-onto_push (x ∷ xs) s k = ap (step_onto x) (onto_push xs s k)
 
 pub pushed : (xs ys : List Step) (s : Step) (k : Actions) → ys ≡ xs ++ s ∷ [] → onto ys k ≡ onto xs (step_onto s k)
 pushed xs ys s k e = ap (λ (l : List Step). onto l k) e ∙ onto_push xs s k

@@ -14,7 +14,7 @@ pub struct Task {
 }
 
 /// Where statements stand: outside of regions, in code that both processors walk, or inside of one processor's region.
-#[derive(Clone, Copy, PartialEq, Eq, Debug)]
+#[derive(Clone, Copy, PartialEq, Eq)]
 pub enum Zone {
     Outside,
     Region,

@@ -199,12 +199,14 @@ fn sums_of_arrays(alloc: Global) -> Result<Ir, AllocError> {
         store(variable(3), variable(10)),
     ];
     let summing = Vec::from_array(alloc, summing)?;
+    let step = count_up(alloc, 1, 11)?;
+    let printing = print_elements(alloc)?;
     let body = [
         copy(1, number(0)),
         copy(1, number(0)),
-        Statement::Loop(PLACE, summing, count_up(alloc, 1, 11)?),
+        Statement::Loop(PLACE, summing, step),
         copy(1, number(0)),
-        print_elements(alloc)?,
+        printing,
         halt(),
     ];
     program(alloc, 16, Vec::from_array(alloc, body)?)
@@ -238,10 +240,11 @@ fn words_behind_pointers(alloc: Global) -> Result<Ir, AllocError> {
         print_line_feed(),
     ];
     let printing = Vec::from_array(alloc, printing)?;
+    let step = count_up(alloc, 1, 6)?;
     let body = [
         copy(1, number(0)),
         copy(1, number(0)),
-        Statement::Loop(PLACE, printing, count_up(alloc, 1, 6)?),
+        Statement::Loop(PLACE, printing, step),
         halt(),
     ];
     program(alloc, 7, Vec::from_array(alloc, body)?)
@@ -293,12 +296,13 @@ fn each_from_the_one_before(alloc: Global) -> Result<Ir, AllocError> {
         store(variable(3), variable(8)),
     ];
     let turn = Vec::from_array(alloc, turn)?;
+    let step = count_up(alloc, 1, 9)?;
     let body = [
         copy(1, number(0)),
         expect(number(16)),
         store(number(16), number(0)),
         copy(1, number(1)),
-        Statement::Loop(PLACE, turn, count_up(alloc, 1, 9)?),
+        Statement::Loop(PLACE, turn, step),
         expect(number(52)),
         load(10, number(52)),
         print(variable(10)),
@@ -359,10 +363,11 @@ fn empty_loop(alloc: Global) -> Result<Ir, AllocError> {
 /// `for (i = 0; i < 4; i++); x[i] = 7; printf("%d\n", x[4]);`
 fn index_after_a_loop(alloc: Global) -> Result<Ir, AllocError> {
     let turn = Vec::from_array(alloc, [go_on_below(alloc, 1, 4)?])?;
+    let step = count_up(alloc, 1, 2)?;
     let body = [
         copy(1, number(0)),
         copy(1, number(0)),
-        Statement::Loop(PLACE, turn, count_up(alloc, 1, 2)?),
+        Statement::Loop(PLACE, turn, step),
         scale(3, 1),
         add(4, number(16), variable(3)),
         expect(variable(4)),
@@ -474,10 +479,11 @@ fn index_from_memory(alloc: Global) -> Result<Ir, AllocError> {
         print_line_feed(),
     ];
     let printing = Vec::from_array(alloc, printing)?;
+    let step = count_up(alloc, 1, 8)?;
     let body = [
         copy(1, number(0)),
         copy(1, number(0)),
-        Statement::Loop(PLACE, printing, count_up(alloc, 1, 8)?),
+        Statement::Loop(PLACE, printing, step),
         halt(),
     ];
     program(alloc, 9, Vec::from_array(alloc, body)?)

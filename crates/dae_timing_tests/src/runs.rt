@@ -8,17 +8,25 @@ use dae_cli_options::Costs;
 use dae_image::{Image, read};
 use dae_machine::OpenError;
 use dae_timing::{Tick, TickState, Timed};
-use std::alloc::Global;
+use std::alloc::{AllocError, Global};
 use std::process::Abort;
 use std::test::*;
 
+fn boxed<T: Drop>(alloc: Global, value: T) -> Result<Box<T>, AllocError> {
+    Ok(Box::new(alloc, value)?)
+}
+
+/// The image of these bytes, at most 4096.
+fn image_read(rt: &impl Abort, alloc: Global, bytes: &[u8]) -> Result<Box<Image>, Fail> {
+    assert!(rt; bytes.len() <= 4096);
+    let image = read(alloc, bytes)?;
+    Ok(boxed(alloc, image)?)
+}
+
 /// The image that a text spells in hexadecimal.
-fn image_of(rt: &impl Abort, alloc: Global, text: &str) -> Result<Image, Fail> {
+fn image_of(rt: &impl Abort, alloc: Global, text: &str) -> Result<Box<Image>, Fail> {
     match hex::decode(alloc, text) {
-        Ok(bytes) => {
-            assert!(rt; bytes.len() <= 4096);
-            Ok(read(alloc, bytes.as_slice())?)
-        }
+        Ok(bytes) => image_read(rt, alloc, bytes.as_slice()),
         Err(_) => panic!(rt; "{text}"),
     }
 }
@@ -54,10 +62,10 @@ fn opened(
     image: &Image,
     depth: u16,
     costs: Costs,
-) -> Result<Timed, Fail> {
+) -> Result<Box<Timed>, AllocError> {
     assert!(rt; depth >= 1);
     match Timed::open(alloc, image, depths_of(depth), costs) {
-        Ok(timed) => Ok(timed),
+        Ok(timed) => boxed(alloc, timed),
         Err(_) => panic!(rt; "not opened"),
     }
 }
@@ -102,11 +110,16 @@ fn waits_of_e(timed: &Timed) -> [u64; 5] {
 }
 
 /// Runs so many ticks at most, and tells of the run what a line of the table does.
-fn told(rt: &impl Abort, alloc: Global, timed: &mut Timed, most: u64) -> Result<String, Fail> {
+fn told(
+    rt: &impl Abort,
+    alloc: Global,
+    timed: &mut Timed,
+    most: u64,
+) -> Result<String, AllocError> {
     let state = make_ticks(rt, timed, most);
     let (steps, ticks) = (timed.machine().taken(), timed.ticks());
     let (a, e) = (waits_of_a(timed), waits_of_e(timed));
-    Ok(format!(in alloc; "{state:?} {steps} {ticks} {a:?} {e:?}")?)
+    format!(in alloc; "{state:?} {steps} {ticks} {a:?} {e:?}")
 }
 
 /// The number that a word of a line spells, or 0.
@@ -114,9 +127,22 @@ fn number_of(word: Option<&str>) -> u16 {
     word.unwrap_or("").parse::<u16>().unwrap_or(0)
 }
 
+/// Runs so many ticks at most, and tells of the run what is due.
+fn check_told(
+    rt: &impl Abort,
+    alloc: Global,
+    timed: &mut Timed,
+    most: u64,
+    due: &str,
+) -> Result<(), AllocError> {
+    let text = told(rt, alloc, timed, most)?;
+    assert_eq!(rt; text.as_str(), due);
+    Ok(())
+}
+
 /// Runs the image as a line of the table says: with the depth of each queue, the costs of loads, products and quotients and
 /// the most ticks, and then, behind a colon, what is due.
-fn check_line(rt: &impl Abort, alloc: Global, image: &Image, line: &str) -> Result<(), Fail> {
+fn check_line(rt: &impl Abort, alloc: Global, image: &Image, line: &str) -> Result<(), AllocError> {
     let mut parts = line.split(": ");
     let mut words = parts.next().unwrap_or("").split(' ');
     let depth = number_of(words.next());
@@ -128,17 +154,25 @@ fn check_line(rt: &impl Abort, alloc: Global, image: &Image, line: &str) -> Resu
     let most = u64::from(number_of(words.next()));
     let costs = costs_of(rt, load, mul, div);
     let mut timed = opened(rt, alloc, image, depth, costs)?;
-    let text = told(rt, alloc, &mut timed, most)?;
-    assert_eq!(rt; text.as_str(), parts.next().unwrap_or(""));
-    Ok(())
+    check_told(rt, alloc, &mut timed, most, parts.next().unwrap_or(""))
 }
 
 /// Runs the image of the first line as each other line says.
 fn check_image(rt: &impl Abort, alloc: Global, text: &str) -> Result<(), Fail> {
-    let mut lines = text.lines();
-    let image = image_of(rt, alloc, lines.next().unwrap_or(""))?;
-    for line in lines {
-        check_line(rt, alloc, &image, line)?;
+    let image = image_of(rt, alloc, text.lines().next().unwrap_or(""))?;
+    check_lines(rt, alloc, &image, text)?;
+    Ok(())
+}
+
+/// Runs the image as each line but the first says.
+fn check_lines(
+    rt: &impl Abort,
+    alloc: Global,
+    image: &Image,
+    text: &str,
+) -> Result<(), AllocError> {
+    for line in text.lines().skip(1) {
+        check_line(rt, alloc, image, line)?;
     }
     Ok(())
 }
@@ -156,16 +190,31 @@ fn runs_are_those_of_an_independent_machine(rt: HostRuntime) -> Result<(), Fail>
 }
 
 /// Makes a tick and tells its picks: the drain, the fill of al, that of ld, the step of E and that of A.
-fn picks_told(rt: &impl Abort, alloc: Global, timed: &mut Timed) -> Result<String, Fail> {
+fn picks_told(rt: &impl Abort, alloc: Global, timed: &mut Timed) -> Result<String, AllocError> {
     let tick = tick_of(rt, timed);
     let picks = [tick.drain, tick.fill_a, tick.fill_e, tick.e, tick.a];
-    Ok(format!(in alloc; "{picks:?}")?)
+    format!(in alloc; "{picks:?}")
 }
 
-fn check_ticks(rt: &impl Abort, alloc: Global, timed: &mut Timed, due: &str) -> Result<(), Fail> {
+fn check_tick(
+    rt: &impl Abort,
+    alloc: Global,
+    timed: &mut Timed,
+    line: &str,
+) -> Result<(), AllocError> {
+    let text = picks_told(rt, alloc, timed)?;
+    assert_eq!(rt; text.as_str(), line);
+    Ok(())
+}
+
+fn check_ticks(
+    rt: &impl Abort,
+    alloc: Global,
+    timed: &mut Timed,
+    due: &str,
+) -> Result<(), AllocError> {
     for line in due.lines() {
-        let text = picks_told(rt, alloc, timed)?;
-        assert_eq!(rt; text.as_str(), line);
+        check_tick(rt, alloc, timed, line)?;
     }
     Ok(())
 }
@@ -175,25 +224,43 @@ fn each_tick_tells_its_picks(rt: HostRuntime) -> Result<(), Fail> {
     let alloc = rt.alloc();
     let image = image_of(&rt, alloc, STORES_BESIDE)?;
     let mut timed = opened(&rt, alloc, &image, 1, costs_of(&rt, 1, 3, 20))?;
-    check_ticks(&rt, alloc, &mut timed, PICKS)
+    check_ticks(&rt, alloc, &mut timed, PICKS)?;
+    Ok(())
 }
 
 /// What so many ticks print.
-fn printed(rt: &impl Abort, alloc: Global, timed: &mut Timed, most: u64) -> Result<String, Fail> {
-    let mut text = String::new(alloc);
+fn print_ticks(
+    rt: &impl Abort,
+    timed: &mut Timed,
+    most: u64,
+    text: &mut String,
+) -> Result<(), AllocError> {
     for _ in 0..most {
         let tick = tick_of(rt, timed);
         text.push_str(std::str::from_utf8(tick.piece.text().as_bytes()).unwrap_or("?"))?;
     }
-    Ok(text)
+    Ok(())
+}
+
+/// So many ticks print this.
+fn check_prints(
+    rt: &impl Abort,
+    alloc: Global,
+    timed: &mut Timed,
+    most: u64,
+    due: &str,
+) -> Result<(), AllocError> {
+    let mut text = String::new(alloc);
+    print_ticks(rt, timed, most, &mut text)?;
+    assert_eq!(rt; text.as_str(), due);
+    Ok(())
 }
 
 /// So many ticks of the image that prints print this.
 fn check_printed(rt: &impl Abort, alloc: Global, most: u64, due: &str) -> Result<(), Fail> {
     let image = image_of(rt, alloc, PRINTS)?;
     let mut timed = opened(rt, alloc, &image, 1, costs_of(rt, 1, 1, 1))?;
-    let text = printed(rt, alloc, &mut timed, most)?;
-    assert_eq!(rt; text.as_str(), due);
+    check_prints(rt, alloc, &mut timed, most, due)?;
     Ok(())
 }
 
@@ -208,9 +275,7 @@ fn ticks_tell_what_they_print(rt: HostRuntime) -> Result<(), Fail> {
 fn a_depth_below_the_budget_is_refused(rt: HostRuntime) -> Result<(), Fail> {
     let alloc = rt.alloc();
     let image = image_of(&rt, alloc, WANTS_TWO_DATA)?;
-    match Timed::open(alloc, &image, depths_of(1), costs_of(&rt, 8, 3, 20)) {
-        Ok(_) => panic!(rt; "opened"),
-        Err(refused) => assert_eq!(rt; refused, OpenError::DepthBelow(Queue::Sd, 2, 1)),
-    }
+    let refusal = Timed::open(alloc, &image, depths_of(1), costs_of(&rt, 8, 3, 20)).err();
+    assert_eq!(rt; refusal, Some(OpenError::DepthBelow(Queue::Sd, 2, 1)));
     Ok(())
 }

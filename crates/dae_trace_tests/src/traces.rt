@@ -1,10 +1,12 @@
 //! Traces of three images, and bytes that are none.
 
+ghost use Rattle.std.specs.Prelude.{◌≤◌, length};
+
 use dae_base::{Depths, Queue};
-use dae_image::read;
+use dae_image::{Image, read};
 use dae_machine::End;
 use dae_trace::{TraceAnswer, check};
-use std::alloc::Global;
+use std::alloc::{AllocError, Global};
 use std::process::Abort;
 use std::test::*;
 
@@ -37,6 +39,18 @@ pub const ONES: Depths = Depths {
 const WHOLE: &str = "A 00000000\nA 00000004\nF E 0 00000007\nA 00000008\nE 00000000\nE 00000004\n\
     D 00000010 4 00000008\nE 00000008\n";
 
+pub fn boxed<T: Drop>(alloc: Global, value: T) -> Result<Box<T>, AllocError> {
+    Ok(Box::new(alloc, value)?)
+}
+
+/// The image of these bytes.
+pub fn image_of(alloc: Global, bytes: &[u8]) -> Result<Box<Image>, Fail>
+    requires { length bytes.now ≤ 108 }
+{
+    let image = read(alloc, bytes)?;
+    Ok(boxed(alloc, image)?)
+}
+
 fn check_trace(
     rt: &impl Abort,
     alloc: Global,
@@ -45,59 +59,70 @@ fn check_trace(
 ) -> Result<(), Fail> {
     assert!(rt; bytes.len() <= 108);
     assert!(rt; trace.len() <= 200);
-    let image = read(alloc, bytes)?;
+    let image = image_of(alloc, bytes)?;
     assert_eq!(rt; check(alloc, &image, ONES, trace.as_bytes()), due);
+    Ok(())
+}
+
+/// Traces of the first image, each with its answer.
+static TRACES: [(&str, TraceAnswer); 17] = [
+    (WHOLE, TraceAnswer::Run(Some(End::Ended(7)))),
+    ("", TraceAnswer::Run(None)),
+    (
+        "A 00000000\nA 00000004\nF E 0 00000007\n",
+        TraceAnswer::Run(None),
+    ),
+    (
+        "A 00000000\nA 00000000\nA 00000004\n",
+        TraceAnswer::NotARun(2),
+    ),
+    ("A 00000008\nA 00000000\n", TraceAnswer::NotARun(1)),
+    (
+        "A 00000000\nA 00000004\nF E 0 00000008\n",
+        TraceAnswer::NotARun(3),
+    ),
+    (
+        "A 00000000\nA 00000004\nF E 1 00000007\n",
+        TraceAnswer::NotARun(3),
+    ),
+    (
+        "A 00000000\nA 00000004\nF A 0 00000007\n",
+        TraceAnswer::NotARun(3),
+    ),
+    (
+        "A 00000000\nA 00000004\nF E 1099511627775 00000007\n",
+        TraceAnswer::NotARun(3),
+    ),
+    (
+        "A 00000000\nA 00000004\nF E 1099511627776 00000007\n",
+        TraceAnswer::BadLine(3),
+    ),
+    (
+        "A 00000000\nA 00000004\nF E 00 00000007\n",
+        TraceAnswer::BadLine(3),
+    ),
+    ("A 00000000\nA 00000004", TraceAnswer::BadLine(2)),
+    ("A 00000000\r\nA 00000004\n", TraceAnswer::BadLine(1)),
+    ("\nA 00000000\n", TraceAnswer::BadLine(1)),
+    ("A 0000000\n", TraceAnswer::BadLine(1)),
+    ("A  00000000\n", TraceAnswer::BadLine(1)),
+    ("B 00000000\n", TraceAnswer::BadLine(1)),
+];
+
+fn traces() -> &'static [(&'static str, TraceAnswer)] {
+    TRACES.as_slice()
+}
+
+fn check_traces(rt: &impl Abort, alloc: Global, rows: &[(&str, TraceAnswer)]) -> Result<(), Fail> {
+    for row in rows {
+        check_trace(rt, alloc, &STORES_BESIDE, *row)?;
+    }
     Ok(())
 }
 
 #[test]
 fn traces_are_runs_up_to_the_first_line_that_is_none(rt: HostRuntime) -> Result<(), Fail> {
-    let rows: [(&str, TraceAnswer); 17] = [
-        (WHOLE, TraceAnswer::Run(Some(End::Ended(7)))),
-        ("", TraceAnswer::Run(None)),
-        (
-            "A 00000000\nA 00000004\nF E 0 00000007\n",
-            TraceAnswer::Run(None),
-        ),
-        (
-            "A 00000000\nA 00000000\nA 00000004\n",
-            TraceAnswer::NotARun(2),
-        ),
-        ("A 00000008\nA 00000000\n", TraceAnswer::NotARun(1)),
-        (
-            "A 00000000\nA 00000004\nF E 0 00000008\n",
-            TraceAnswer::NotARun(3),
-        ),
-        (
-            "A 00000000\nA 00000004\nF E 1 00000007\n",
-            TraceAnswer::NotARun(3),
-        ),
-        (
-            "A 00000000\nA 00000004\nF A 0 00000007\n",
-            TraceAnswer::NotARun(3),
-        ),
-        (
-            "A 00000000\nA 00000004\nF E 1099511627775 00000007\n",
-            TraceAnswer::NotARun(3),
-        ),
-        (
-            "A 00000000\nA 00000004\nF E 1099511627776 00000007\n",
-            TraceAnswer::BadLine(3),
-        ),
-        (
-            "A 00000000\nA 00000004\nF E 00 00000007\n",
-            TraceAnswer::BadLine(3),
-        ),
-        ("A 00000000\nA 00000004", TraceAnswer::BadLine(2)),
-        ("A 00000000\r\nA 00000004\n", TraceAnswer::BadLine(1)),
-        ("\nA 00000000\n", TraceAnswer::BadLine(1)),
-        ("A 0000000\n", TraceAnswer::BadLine(1)),
-        ("A  00000000\n", TraceAnswer::BadLine(1)),
-        ("B 00000000\n", TraceAnswer::BadLine(1)),
-    ];
-    for row in rows {
-        check_trace(&rt, rt.alloc(), &STORES_BESIDE, row)?;
-    }
+    check_traces(&rt, rt.alloc(), traces())?;
     let stuck = (
         "A 00000000\nA 00000004\nA 00000008\n",
         TraceAnswer::Run(None),

@@ -14,7 +14,7 @@ use Rattle.dae_tree.specs.Views.{has_comma, view, view_optional, view_declarator
 
 abbrev mutual
   pub view_initialiser : Initialiser → tree.Initialiser
-  view_initialiser (initialiser.Value e) = tree.Value (view e)
+  view_initialiser (initialiser.Value e) = tree.Value (view e.value)
   view_initialiser (initialiser.List' p shape row c) = tree.Listed p (view_initialisers row) (has_comma c)
 
   pub view_initialisers : {m : _} → Row_of-Initialiser m → tree.Initialisers
@@ -30,7 +30,7 @@ view_value None = None
 view_value (Some v) = Some (v.0, view_initialiser v.1)
 
 abbrev pub view_item : Item → tree.Item
-view_item i = record { declarator = view_declarator i.declarator; initialiser = view_value i.initialiser }
+view_item i = record { declarator = view_declarator i.declarator.value; initialiser = view_value i.initialiser }
 
 abbrev pub view_items : List Item → List tree.Item
 view_items [] = []
@@ -47,17 +47,17 @@ abbrev mutual
   pub view_statement : Statement → tree.Statement
   view_statement (statement.Block' p ds shape row) = tree.Block p (view_declarations ds.items) (view_statements row)
   view_statement (statement.Empty p) = tree.Nothing p
-  view_statement (statement.Evaluate e p) = tree.Evaluate (view e) p
-  view_statement (statement.If' p t b s) = tree.If p t.place (view t.expression) (view_statement s)
-  view_statement (statement.IfElse' p t b s c u) = tree.IfElse p t.place (view t.expression) (view_statement s) (view_statement u)
-  view_statement (statement.While' p t b s) = tree.While p t.place (view t.expression) (view_statement s)
-  view_statement (statement.Do' p b s q t r) = tree.Do p (view_statement s) q t.place (view t.expression) r
+  view_statement (statement.Evaluate e p) = tree.Evaluate (view e.value) p
+  view_statement (statement.If' p t b s) = tree.If p t.place (view t.expression.value) (view_statement s)
+  view_statement (statement.IfElse' p t b s c u) = tree.IfElse p t.place (view t.expression.value) (view_statement s) (view_statement u)
+  view_statement (statement.While' p t b s) = tree.While p t.place (view t.expression.value) (view_statement s)
+  view_statement (statement.Do' p b s q t r) = tree.Do p (view_statement s) q t.place (view t.expression.value) r
   view_statement (statement.For' p q h b s) = tree.For p q (view_optional h.start) h.after_start (view_optional h.test) h.after_test (view_optional h.step) (view_statement s)
   view_statement (statement.Break p q) = tree.Break p q
   view_statement (statement.Continue p q) = tree.Continue p q
   view_statement (statement.Return p e q) = tree.Return p (view_optional e) q
-  view_statement (statement.Switch' p t b s) = tree.Switch p t.place (view t.expression) (view_statement s)
-  view_statement (statement.Case' p e b s) = tree.Case p (view e) (view_statement s)
+  view_statement (statement.Switch' p t b s) = tree.Switch p t.place (view t.expression.value) (view_statement s)
+  view_statement (statement.Case' p e b s) = tree.Case p (view e.value) (view_statement s)
   view_statement (statement.Default' p b s) = tree.Default p (view_statement s)
 
   pub view_statements : {m : _} → Row_of-Statement m → tree.Statements
@@ -71,7 +71,7 @@ views_statements (s ∷ ss) = tree.statement_then (view_statement s) (views_stat
 abbrev pub view_external : External → tree.External
 view_external (external.Declaration d) = tree.Declared (view_declaration d)
 view_external (external.Definition ws d b) =
-    tree.Defined (views_specifiers ws.items) (view_declarator d) b.place (view_declarations b.declarations.items) (views_statements b.statements.items)
+    tree.Defined (views_specifiers ws.items) (view_declarator d.value) b.place (view_declarations b.declarations.items) (views_statements b.statements.items)
 
 -- a file's tree
 abbrev pub view_externals : List External → List tree.External

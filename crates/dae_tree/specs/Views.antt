@@ -1,5 +1,6 @@
 -- Trees in memory as plain data.
-use Rattle.std.specs.Prelude.{Bool, true, false, List, [], ◌∷◌, Option, Some, None}
+use Rattle.std.specs.Prelude.{Bool, true, false, List, [], ◌∷◌, Option, Some, None, Box}
+use Rattle.std.specs.declared.alloc.Global.{Global}
 use Rattle.dae_tree.specs.declared.expressions.Expression.TheVariants as code
 use Rattle.dae_tree.specs.declared.expressions.Expression.{Expression}
 use Rattle.dae_tree.specs.declared.expressions.Specifier.TheVariants as specifier
@@ -110,6 +111,6 @@ abbrev pub views_parameters : List Parameter → tree.Parameters
 views_parameters [] = tree.no_parameters
 views_parameters (p ∷ ps) = tree.parameter_then (views_specifiers p.specifiers.items) (view_declarator p.declarator) (views_parameters ps)
 
-abbrev pub view_optional : Option Expression → Option tree.Expression
+abbrev pub view_optional : Option (Box Expression Global) → Option tree.Expression
 view_optional None = None
-view_optional (Some e) = Some (view e)
+view_optional (Some e) = Some (view e.value)

@@ -1,5 +1,5 @@
 /// The value of an integer constant, and whether its type is unsigned.
-#[derive(Clone, Copy, PartialEq, Eq, Debug)]
+#[derive(Clone, Copy, PartialEq, Eq)]
 pub struct Constant {
     pub value: u32,
     pub unsigned: bool,

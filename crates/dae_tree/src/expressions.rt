@@ -8,14 +8,14 @@ use crate::words::Keyword;
 use dae_base::Place;
 
 /// A name: its place, and its number in the list of names.
-#[derive(Clone, Copy, PartialEq, Eq, Debug)]
+#[derive(Clone, Copy, PartialEq, Eq)]
 pub struct Name {
     pub place: Place,
     pub number: u32,
 }
 
 /// Whether a comma stands behind the last part of a list in braces.
-#[derive(Clone, Copy, PartialEq, Eq, Debug)]
+#[derive(Clone, Copy, PartialEq, Eq)]
 pub enum TrailingComma {
     Present,
     Absent,

@@ -1,5 +1,5 @@
 /// The two headers of the standard library that a text may include.
-#[derive(Clone, Copy, PartialEq, Eq, Debug)]
+#[derive(Clone, Copy, PartialEq, Eq)]
 pub enum Header {
     Stdio,
     Stdlib,

@@ -12,7 +12,10 @@ pub use expressions::{
 pub use faults::{Construct, Fault, LexError};
 pub use files::File;
 pub use headers::{HEADERS, Header, STDIO_MACROS, STDLIB_MACROS};
-pub use levels::{ASSIGNMENT, CAST, COMMA, CONDITIONAL, LOGICAL_OR, NONE, POSTFIX, PRIMARY, UNARY};
+pub use levels::{
+    ADDITIVE, ASSIGNMENT, BITWISE_AND, BITWISE_OR, BITWISE_XOR, CAST, COMMA, CONDITIONAL, EQUALITY,
+    LOGICAL_AND, LOGICAL_OR, MULTIPLICATIVE, NONE, POSTFIX, PRIMARY, RELATIONAL, SHIFT, UNARY,
+};
 pub use literals::ESCAPES;
 pub use operators::{
     AssignmentOperator, BinaryOperator, MemberOperator, OPERATIONS, Operation, PREFIXES,

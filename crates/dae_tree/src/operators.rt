@@ -7,7 +7,7 @@ use crate::levels::{
 use crate::signs::Sign;
 
 /// A binary operator (C90 6.3.5 to 6.3.14).
-#[derive(Clone, Copy, PartialEq, Eq, Debug)]
+#[derive(Clone, Copy, PartialEq, Eq)]
 pub enum BinaryOperator {
     Multiply,
     Divide,
@@ -30,7 +30,7 @@ pub enum BinaryOperator {
 }
 
 /// An assignment operator (C90 6.3.16).
-#[derive(Clone, Copy, PartialEq, Eq, Debug)]
+#[derive(Clone, Copy, PartialEq, Eq)]
 pub enum AssignmentOperator {
     Assign,
     Multiply,
@@ -46,7 +46,7 @@ pub enum AssignmentOperator {
 }
 
 /// An operator before its operand (C90 6.3.3), sizeof left out.
-#[derive(Clone, Copy, PartialEq, Eq, Debug)]
+#[derive(Clone, Copy, PartialEq, Eq)]
 pub enum PrefixOperator {
     Increment,
     Decrement,
@@ -59,21 +59,21 @@ pub enum PrefixOperator {
 }
 
 /// An operator behind its operand (C90 6.3.2.4).
-#[derive(Clone, Copy, PartialEq, Eq, Debug)]
+#[derive(Clone, Copy, PartialEq, Eq)]
 pub enum PostfixOperator {
     Increment,
     Decrement,
 }
 
 /// An operator before the name of a member (C90 6.3.2.3).
-#[derive(Clone, Copy, PartialEq, Eq, Debug)]
+#[derive(Clone, Copy, PartialEq, Eq)]
 pub enum MemberOperator {
     Dot,
     Arrow,
 }
 
 /// What a sign behind an operand begins (C90 6.3.2 and 6.3.5 to 6.3.16), or that it begins nothing.
-#[derive(Clone, Copy, PartialEq, Eq, Debug)]
+#[derive(Clone, Copy, PartialEq, Eq)]
 pub enum Operation {
     Subscript,
     Call,

@@ -12,9 +12,34 @@ use crate::statements::{Declaration, External, Statement};
 use dae_base::Place;
 
 impl Expression {
-    /// The place of the first token.
+    /// The operand at whose first token an expression begins.
+    #[tactic(auto, using(crate::proofs::Laws::view_call))]
+    fn leftmost(&self) -> &Expression
+        ensures { place_of (view result.now) ≡ place_of (view self.now) }
+    {
+        match self {
+            Expression::Identifier(_) => self,
+            Expression::Constant(_, _) => self,
+            Expression::Literal(_, _) => self,
+            Expression::Parenthesised(_, _) => self,
+            Expression::Index(base, _, _) => base.leftmost(),
+            Expression::Call(callee, _, _) => callee.leftmost(),
+            Expression::Member(base, _, _, _) => base.leftmost(),
+            Expression::Postfix(base, _, _) => base.leftmost(),
+            Expression::Prefix(_, _, _) => self,
+            Expression::SizeofExpression(_, _) => self,
+            Expression::SizeofType(_, _, _) => self,
+            Expression::Cast(_, _, _) => self,
+            Expression::Binary(left, _, _, _) => left.leftmost(),
+            Expression::Conditional(test, _, _, _) => test.leftmost(),
+            Expression::Assignment(left, _, _, _) => left.leftmost(),
+            Expression::Comma(left, _) => left.leftmost(),
+        }
+    }
+
+    /// The place of the first token, which is handed up from operand to operand.
     #[tactic(auto, using(crate::proofs::Laws::view_call, crate::proofs::Laws::view_sizeof_type, crate::proofs::Laws::view_cast))]
-    pub fn place(&self) -> Place
+    fn place_from_operands(&self) -> Place
         ensures { result ≡ place_of (view self.now) }
     {
         match self {
@@ -22,19 +47,26 @@ impl Expression {
             Expression::Constant(place, _) => *place,
             Expression::Literal(place, _) => *place,
             Expression::Parenthesised(place, _) => *place,
-            Expression::Index(base, _, _) => base.place(),
-            Expression::Call(callee, _, _) => callee.place(),
-            Expression::Member(base, _, _, _) => base.place(),
-            Expression::Postfix(base, _, _) => base.place(),
+            Expression::Index(base, _, _) => base.place_from_operands(),
+            Expression::Call(callee, _, _) => callee.place_from_operands(),
+            Expression::Member(base, _, _, _) => base.place_from_operands(),
+            Expression::Postfix(base, _, _) => base.place_from_operands(),
             Expression::Prefix(place, _, _) => *place,
             Expression::SizeofExpression(place, _) => *place,
             Expression::SizeofType(place, _, _) => *place,
             Expression::Cast(place, _, _) => *place,
-            Expression::Binary(left, _, _, _) => left.place(),
-            Expression::Conditional(test, _, _, _) => test.place(),
-            Expression::Assignment(left, _, _, _) => left.place(),
-            Expression::Comma(left, _) => left.place(),
+            Expression::Binary(left, _, _, _) => left.place_from_operands(),
+            Expression::Conditional(test, _, _, _) => test.place_from_operands(),
+            Expression::Assignment(left, _, _, _) => left.place_from_operands(),
+            Expression::Comma(left, _) => left.place_from_operands(),
         }
+    }
+
+    /// The place of the first token.
+    pub fn place(&self) -> Place
+        ensures { result ≡ place_of (view self.now) }
+    {
+        self.leftmost().place_from_operands()
     }
 }
 

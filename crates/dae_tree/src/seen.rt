@@ -9,7 +9,7 @@ use crate::words::Keyword;
 use dae_base::Signedness;
 
 /// An arithmetic type that words of specifiers name (C90 6.5.2).
-#[derive(Clone, Copy, PartialEq, Eq, Debug)]
+#[derive(Clone, Copy, PartialEq, Eq)]
 pub enum Arithmetic {
     Char,
     SignedChar,
@@ -23,7 +23,7 @@ pub enum Arithmetic {
 }
 
 /// What was read of specifiers (C90 6.5.1 and 6.5.2).
-#[derive(Clone, Copy, PartialEq, Eq, Debug)]
+#[derive(Clone, Copy, PartialEq, Eq)]
 pub struct Seen {
     /// A storage class.
     pub storage: Option<Keyword>,

@@ -4,7 +4,7 @@ use crate::faults::Construct;
 use crate::pieces::PieceKind;
 
 /// A sign of the grammar: an operator or punctuator (C90 6.1.5 and 6.1.6).
-#[derive(Clone, Copy, PartialEq, Eq, Debug)]
+#[derive(Clone, Copy, PartialEq, Eq)]
 pub enum Sign {
     ShiftLeftAssign,
     ShiftRightAssign,

@@ -6,7 +6,7 @@ use dae_base::Place;
 /// An initialiser (C90 6.5.7).
 #[derive(Drop)]
 pub enum Initialiser {
-    Value(Expression),
+    Value(Box<Expression>),
     /// `{`, the initialisers, and whether a comma stands behind the last.
     List(Place, Vec<Initialiser>, TrailingComma),
 }
@@ -14,7 +14,7 @@ pub enum Initialiser {
 /// A declarator of a declaration, with the place of `=` and the initialiser or without.
 #[derive(Drop)]
 pub struct Item {
-    pub declarator: Declarator,
+    pub declarator: Box<Declarator>,
     pub initialiser: Option<(Place, Initialiser)>,
 }
 
@@ -39,7 +39,7 @@ pub struct Block {
 #[derive(Drop)]
 pub struct Test {
     pub place: Place,
-    pub expression: Expression,
+    pub expression: Box<Expression>,
 }
 
 /// A statement (C90 6.6). The first place is that of the first word, the last that of the semicolon.
@@ -49,7 +49,7 @@ pub enum Statement {
     Block(Block),
     /// A semicolon alone.
     Empty(Place),
-    Evaluate(Expression, Place),
+    Evaluate(Box<Expression>, Place),
     If(Place, Test, Box<Statement>),
     IfElse(Place, Test, Box<Statement>, Box<Statement>),
     While(Place, Test, Box<Statement>),
@@ -59,25 +59,25 @@ pub enum Statement {
     For(Place, Place, Heading, Box<Statement>),
     Break(Place, Place),
     Continue(Place, Place),
-    Return(Place, Option<Expression>, Place),
+    Return(Place, Option<Box<Expression>>, Place),
     Switch(Place, Test, Box<Statement>),
-    Case(Place, Expression, Box<Statement>),
+    Case(Place, Box<Expression>, Box<Statement>),
     Default(Place, Box<Statement>),
 }
 
 /// What stands in the parentheses of a `for`, with the places of the two semicolons.
 #[derive(Drop)]
 pub struct Heading {
-    pub start: Option<Expression>,
+    pub start: Option<Box<Expression>>,
     pub after_start: Place,
-    pub test: Option<Expression>,
+    pub test: Option<Box<Expression>>,
     pub after_test: Place,
-    pub step: Option<Expression>,
+    pub step: Option<Box<Expression>>,
 }
 
 /// A declaration at file scope, or the definition of a function (C90 6.7).
 #[derive(Drop)]
 pub enum External {
     Declaration(Declaration),
-    Definition(Vec<Specifier>, Declarator, Block),
+    Definition(Vec<Specifier>, Box<Declarator>, Block),
 }

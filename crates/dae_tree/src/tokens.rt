@@ -10,7 +10,7 @@ use dae_base::{Items, Place};
 use std::marker::Model;
 
 /// What a token is. A name and a literal are numbers into the lists of the text's names and literals.
-#[derive(Clone, Copy, PartialEq, Eq, Debug)]
+#[derive(Clone, Copy, PartialEq, Eq)]
 pub enum Kind {
     Keyword(Keyword),
     Sign(Sign),
@@ -21,7 +21,7 @@ pub enum Kind {
 
 /// A token: what it is, the offsets in the text where it starts and ends, and its place. A token that a macro made has
 /// those of the name in the text that was replaced.
-#[derive(Clone, Copy, PartialEq, Eq, Debug)]
+#[derive(Clone, Copy, PartialEq, Eq)]
 pub struct Token {
     pub kind: Kind,
     pub start: u32,
@@ -31,7 +31,7 @@ pub struct Token {
 
 /// What is left of the limits on all texts of a job: tokens before literals join, replacements of macros, and bytes of
 /// string literals.
-#[derive(Clone, Copy, PartialEq, Eq, Debug)]
+#[derive(Clone, Copy, PartialEq, Eq)]
 pub struct Room {
     pub tokens: u32,
     pub replacements: u32,
@@ -180,7 +180,7 @@ impl<'t> Tokens<'t> {
 }
 
 /// Which headers a text includes.
-#[derive(Clone, Copy, PartialEq, Eq, Debug)]
+#[derive(Clone, Copy, PartialEq, Eq)]
 pub struct Includes {
     pub stdio: bool,
     pub stdlib: bool,

@@ -3,7 +3,7 @@
 use crate::faults::Construct;
 
 /// A keyword that is taken (C90 6.1.1).
-#[derive(Clone, Copy, PartialEq, Eq, Debug)]
+#[derive(Clone, Copy, PartialEq, Eq)]
 pub enum Keyword {
     Auto,
     Break,

@@ -14,7 +14,7 @@ armed [] = []
 armed (a ∷ arms) = view_armed a ∷ armed arms
 
 abbrev pub view_arming : ArmingInMemory → Arming
-view_arming a = record { seen = a.seen.items; arms = armed a.arms.items }
+view_arming a = record { seen = a.seen.keys; arms = armed a.arms.items }
 
 -- an arm of one label, without statements
 abbrev pub arm_of : Option ℕ → Armed

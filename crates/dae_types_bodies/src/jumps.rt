@@ -4,7 +4,7 @@ ghost use Rattle.std.specs.Prelude.{◌≡◌};
 ghost use Rattle.dae_program.specs.Views.{view};
 ghost use Rattle.dae_types_file_plans.specs.Statements.{as_result, break_at, continue_at, nothing_returned, return_at, returned, test_at};
 ghost use Rattle.dae_types_tables.specs.Seen.{tables, FollowsBy};
-ghost use Rattle.dae_types_folding.specs.Views.{MakesTree, view_value};
+ghost use Rattle.dae_types_folding.specs.Views.{MakesTree, view_boxed, view_value};
 ghost use Rattle.dae_types_values.specs.Results.{one};
 ghost use Rattle.dae_types_bodies.specs.Written.{GivesStatements, MakesStatements};
 
@@ -12,15 +12,15 @@ use crate::sequences::alone;
 use dae_base::Place;
 use dae_program::{Expression, Statement};
 use dae_types_file_plans::Surrounding;
-use dae_types_folding::Value;
+use dae_types_folding::{Value, boxed};
 use dae_types_kinds::{CheckError, Rule};
 use dae_types_tables::{Checker, broken, is_structure, is_void};
 use dae_types_values::{convert, fits, scalar, value};
 use std::alloc::Global;
 
 /// The tree of a condition: a value that is a scalar.
-pub fn test(checker: &mut Checker, place: Place, x: Value) -> Result<Expression, CheckError>
-    ensures { FollowsBy view checker.new result (test_at place (one x)) checker.old }
+pub fn test(checker: &mut Checker, place: Place, x: Value) -> Result<Box<Expression>, CheckError>
+    ensures { FollowsBy view_boxed checker.new result (test_at place (one x)) checker.old }
 {
     let x = value(checker, place, x)?;
     let x = scalar(checker, place, x)?;
@@ -32,16 +32,13 @@ fn returned(
     alloc: Global,
     place: Place,
     around: Surrounding,
-    e: Expression,
+    e: Box<Expression>,
 ) -> Result<Vec<Statement>, CheckError>
-    ensures { MakesStatements result (returned place around.is_main (view e)) }
+    ensures { MakesStatements result (returned place around.is_main (view e.value)) }
 {
     if around.is_main {
-        let e = Box::new(alloc, e)?;
-        alone(
-            alloc,
-            Statement::Evaluate(place, Expression::Exit(place, e)),
-        )
+        let exit = boxed(alloc, Expression::Exit(place, e))?;
+        alone(alloc, Statement::Evaluate(place, exit))
     } else {
         alone(alloc, Statement::Return(place, Some(e)))
     }
@@ -53,7 +50,7 @@ fn as_result(
     place: Place,
     wanted: Option<usize>,
     x: Value,
-) -> Result<Expression, CheckError>
+) -> Result<Box<Expression>, CheckError>
     ensures { MakesTree result (as_result place (tables checker.now) wanted (view_value x)) }
 {
     match wanted {
@@ -93,11 +90,9 @@ pub fn return_nothing(
     ensures { MakesStatements result (nothing_returned place around.is_main) }
 {
     if around.is_main {
-        let zero = Box::new(alloc, Expression::Number(0))?;
-        alone(
-            alloc,
-            Statement::Evaluate(place, Expression::Exit(place, zero)),
-        )
+        let zero = boxed(alloc, Expression::Number(0))?;
+        let exit = boxed(alloc, Expression::Exit(place, zero))?;
+        alone(alloc, Statement::Evaluate(place, exit))
     } else {
         alone(alloc, Statement::Return(place, None))
     }

@@ -2,6 +2,7 @@
 // whose own initialiser names it is 0 before.
 
 ghost use Rattle.std.specs.Prelude.{◌≡◌, Ok, slice_get};
+ghost use Rattle.dae_program.specs.Trees.{Number};
 ghost use Rattle.dae_program.specs.Views.{view, view_target};
 ghost use Rattle.dae_types_rules.specs.Plan.{Gives, pure};
 ghost use Rattle.dae_types_file_plans.specs.Statements.{assigned_to, begin_local, frame_offset, initialised_at, offset_of_local, names_stored, own_set, scalar_value_at, set_to, storage_target, taken_or_not, type_of_local};
@@ -12,11 +13,11 @@ ghost use Rattle.dae_types_fills.specs.Fillings.{view_content};
 ghost use Rattle.dae_types_bodies.specs.Written.{GivesStatements, MakesStatements, as_statements};
 
 use crate::naming::names_variable;
-use crate::sequences::append;
+use crate::sequences::{alone, append};
 use dae_base::Place;
 use dae_program::{Expression, Statement, Target};
 use dae_types_fills::Content;
-use dae_types_folding::{Value, load_kind};
+use dae_types_folding::{Value, boxed, load_kind};
 use dae_types_kinds::{CheckError, INT_ID, Local, Rule, Storage};
 use dae_types_tables::{Checker, broken, is_scalar, is_structure};
 use dae_types_values::{convert, fits};
@@ -43,11 +44,11 @@ fn storage_target(
     match storage {
         Some(Storage::Variable(variable)) => Ok(Target::Variable(variable)),
         Some(Storage::Frame(offset)) => {
-            let address = Box::new(alloc, Expression::Frame(place, offset))?;
+            let address = boxed(alloc, Expression::Frame(place, offset))?;
             Ok(Target::Object(false, address))
         }
         None => {
-            let address = Box::new(alloc, Expression::Frame(place, 0))?;
+            let address = boxed(alloc, Expression::Frame(place, 0))?;
             Ok(Target::Object(false, address))
         }
     }
@@ -58,14 +59,16 @@ fn assigned_to(
     checker: &Checker,
     place: Place,
     number: usize,
-    value: Expression,
-) -> Result<Expression, CheckError>
-    ensures { MakesTree result (assigned_to place (tables checker.now) number (view value)) }
+    value: Box<Expression>,
+) -> Result<Box<Expression>, CheckError>
+    ensures { MakesTree result (assigned_to place (tables checker.now) number (view value.value)) }
 {
     let kind = load_kind(checker.shape_of(type_of_local(checker, number)));
     let target = storage_target(checker.alloc, checker.storage(number), place)?;
-    let value = Box::new(checker.alloc, value)?;
-    Ok(Expression::Assign(place, kind, target, value))
+    boxed(
+        checker.alloc,
+        Expression::Assign(place, kind, target, value),
+    )
 }
 
 /// Sets a local scalar.
@@ -73,14 +76,20 @@ fn set_to(
     checker: &Checker,
     place: Place,
     number: usize,
-    value: Expression,
+    value: Box<Expression>,
 ) -> Result<Vec<Statement>, CheckError>
-    ensures { MakesStatements result (set_to place (tables checker.now) number (view value)) }
+    ensures { MakesStatements result (set_to place (tables checker.now) number (view value.value)) }
 {
     let tree = assigned_to(checker, place, number, value)?;
-    let mut statements = Vec::new(checker.alloc);
-    statements.push(Statement::Evaluate(place, tree))?;
-    Ok(statements)
+    alone(checker.alloc, Statement::Evaluate(place, tree))
+}
+
+/// Sets a local scalar to 0.
+fn set_to_zero(checker: &Checker, place: Place, number: usize) -> Result<Vec<Statement>, CheckError>
+    ensures { MakesStatements result (set_to place (tables checker.now) number (Number 0)) }
+{
+    let zero = boxed(checker.alloc, Expression::Number(0))?;
+    set_to(checker, place, number, zero)
 }
 
 /// Whether an expression names what is kept so, in a variable.
@@ -98,16 +107,16 @@ fn set_by_own(
     checker: &Checker,
     place: Place,
     number: usize,
-    value: Expression,
+    value: Box<Expression>,
 ) -> Result<Vec<Statement>, CheckError>
     ensures { MakesStatements result
-        (own_set (names_stored (slice_get (tables checker.now).storages number) (view value))
-        place (tables checker.now) number (view value)) }
+        (own_set (names_stored (slice_get (tables checker.now).storages number) (view value.value))
+        place (tables checker.now) number (view value.value)) }
 {
     if !names_stored(checker.storage(number), &value) {
         return set_to(checker, place, number, value);
     }
-    let zero = set_to(checker, place, number, Expression::Number(0))?;
+    let zero = set_to_zero(checker, place, number)?;
     let rest = set_to(checker, place, number, value)?;
     append(zero, rest)
 }
@@ -144,7 +153,7 @@ pub fn begin_local(
     ensures { GivesStatements checker.now result (begin_local place number) checker.now }
 {
     if is_scalar(checker.shape_of(type_of_local(checker, number))) {
-        set_to(checker, place, number, Expression::Number(0))
+        set_to_zero(checker, place, number)
     } else {
         Ok(Vec::new(checker.alloc))
     }
@@ -190,8 +199,8 @@ pub fn initialise_aggregate(
     let offset = offset_of_local(checker, number);
     let size = checker.layout_at(content.type_id).size;
     let taken = is_taken(checker.local(number));
-    let mut statements = Vec::new(checker.alloc);
-    statements.push(Statement::Initialise(place, offset, size, content.items))?;
+    let whole = Statement::Initialise(place, offset, size, content.items);
+    let statements = alone(checker.alloc, whole)?;
     let type_id = content.type_id;
     checker.set_local(number, Local { type_id, taken });
     Ok(statements)

@@ -1,8 +1,8 @@
 // The parts of a switch (C90 6.6.4.2): its labels, each of them once, and the statements behind them.
 
-ghost use Rattle.std.specs.Prelude.{◌≡◌, [], ◌∷◌, ◌++◌, Ok};
+ghost use Rattle.std.specs.Prelude.{◌≡◌, [], ◌∷◌, ◌++◌, false, Ok, OnOk};
 ghost use Rattle.dae_types_rules.specs.Plan.{Gives, pure};
-ghost use Rattle.dae_types_file_plans.specs.Statements.{case_at, default_at, is_seen, labelled, same_label, with_label, with_statement};
+ghost use Rattle.dae_types_file_plans.specs.Statements.{case_at, default_at, is_seen, labelled, with_label, with_statement};
 ghost use Rattle.dae_types_tables.specs.Seen.{FollowsBy};
 ghost use Rattle.dae_types_bodies.specs.Written.{as_statements};
 ghost use Rattle.dae_types_bodies.specs.Arms.{arm_of, armed, view_armed, view_arming};
@@ -11,36 +11,41 @@ use dae_base::Place;
 use dae_program::{Arm, Statement};
 use dae_types_kinds::{CheckError, Rule};
 use dae_types_tables::{Checker, broken};
-use std::alloc::Global;
+use indexmap::IndexSet;
+use std::alloc::{AllocError, Global};
 
-/// What a switch has so far: its labels in the order of the text, and its arms.
+/// What a switch has so far: its labels in the order of the text, where `default` is none, and its arms.
 #[derive(Drop)]
 pub struct Arming {
-    pub seen: Vec<Option<u32>>,
+    pub seen: IndexSet<Option<u32>>,
     pub arms: Vec<Arm>,
 }
 
-/// Whether two labels are the same; `default` is none.
-fn same_label(one: Option<u32>, other: Option<u32>) -> bool
-    ensures { result ≡ same_label one other }
-{
-    match (one, other) {
-        (None, None) => true,
-        (Some(one), Some(other)) => one == other,
-        _ => false,
+impl Arming {
+    /// Neither labels nor arms.
+    pub fn new(alloc: Global) -> Arming
+        ensures { view_arming result ≡ record { seen = []; arms = [] } }
+    {
+        let seen = IndexSet::new(alloc);
+        let arms = Vec::new(alloc);
+        Arming { seen, arms }
     }
 }
 
-/// Whether a label is among others. It costs a step for each of them.
-fn is_seen(label: Option<u32>, labels: &[Option<u32>]) -> bool
-    ensures { result ≡ is_seen label labels.now }
+/// Whether a label is among others.
+fn is_seen(label: Option<u32>, labels: &IndexSet<Option<u32>>) -> bool
+    ensures { result ≡ is_seen label labels.now.keys }
 {
-    for other in labels {
-        if same_label(label, *other) {
-            return true;
-        }
-    }
-    false
+    labels.contains(&label)
+}
+
+/// Adds a label to others, among which it isn't yet.
+fn see(labels: &mut IndexSet<Option<u32>>, label: Option<u32>) -> Result<(), AllocError>
+    requires { is_seen label labels.old.keys ≡ false }
+    ensures { OnOk result (labels.new.keys ≡ labels.old.keys ++ label ∷ []) }
+{
+    labels.insert(label)?;
+    Ok(())
 }
 
 /// Adds an arm with one label.
@@ -115,11 +120,12 @@ pub fn add_statements(
 
 /// Adds a label that isn't seen yet.
 fn label(alloc: Global, arming: Arming, label: Option<u32>) -> Result<Arming, CheckError>
+    requires { is_seen label arming.seen.keys ≡ false }
     ensures { Gives view_arming result (Ok (labelled label (view_arming arming))) }
 {
     let arms = add_label(alloc, arming.arms, label)?;
     let mut seen = arming.seen;
-    seen.push(label)?;
+    see(&mut seen, label)?;
     Ok(Arming { seen, arms })
 }
 

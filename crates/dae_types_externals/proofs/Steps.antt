@@ -2,7 +2,7 @@
 use Rattle.std.proofs.Common.{◌≡◌, ℕ, List, [], ◌∷◌, Option, Some, None, Bool, true, false, Result, Ok, Err, ◌⊎◌, inl, inr, refl, ap, subst, sym, ◌∙◌}
 use Rattle.dae_base.specs.declared.Place.{Place}
 use Rattle.dae_tree.specs.declared.expressions.Name.{Name}
-use Rattle.std.specs.Prelude.{Vec}
+use Rattle.std.specs.Prelude.{Box, Vec}
 use Rattle.std.specs.declared.alloc.Global.{Global}
 use Rattle.dae_tree.specs.declared.words.Keyword.{Keyword}
 use Rattle.dae_tree.specs.declared.expressions.Declarator.{Declarator}
@@ -119,6 +119,8 @@ pub definition_of : {X : Type 0} (see : X → Tables × List Product) (r : Resul
 definition_of see r p k n name ps parameters b t s same called h =
     subst (λ x. Gives see r (check_of (plan_definition p k n x b t) s)) same (subst (λ x. Gives see r (check_of (plan_definition p k x parameters b t) s)) called h)
 
-pub external_of : {X : Type 0} (see : X → Tables × List Product) (r : Result X CheckError) (done : List Product) (e : External) (ws : Vec Specifier Global) (d : Declarator) (b : Block) (xs : List Specifier) (s : Tables) → e ≡ external.Definition ws d b → xs ≡ ws.items → Gives see r (check_of (plan_defined done (views_specifiers xs) (view_declarator d) b.place (view_declarations b.declarations.items) (views_statements b.statements.items)) s) → Gives see r (check_of (plan_external done (view_external e)) s)
-external_of see r done e ws d b xs s is same h =
-    subst (λ x. Gives see r (check_of (plan_external done (view_external x)) s)) (sym is) (subst (λ ys. Gives see r (check_of (plan_defined done (views_specifiers ys) (view_declarator d) b.place (view_declarations b.declarations.items) (views_statements b.statements.items)) s)) same h)
+pub external_of : {X : Type 0} (see : X → Tables × List Product) (r : Result X CheckError) (done : List Product) (e : External) (ws : Vec Specifier Global) (d : Box Declarator Global) (b : Block) (xs : List Specifier) (x : Declarator) (s : Tables) → e ≡ external.Definition ws d b → xs ≡ ws.items → x ≡ d.value
+    → Gives see r (check_of (plan_defined done (views_specifiers xs) (view_declarator x) b.place (view_declarations b.declarations.items) (views_statements b.statements.items)) s) → Gives see r (check_of (plan_external done (view_external e)) s)
+external_of see r done e ws d b xs x s is same inside h =
+    let by : Gives see r (check_of (plan_defined done (views_specifiers xs) (view_declarator d.value) b.place (view_declarations b.declarations.items) (views_statements b.statements.items)) s) = subst (λ (k : Declarator). Gives see r (check_of (plan_defined done (views_specifiers xs) (view_declarator k) b.place (view_declarations b.declarations.items) (views_statements b.statements.items)) s)) inside h in
+    subst (λ y. Gives see r (check_of (plan_external done (view_external y)) s)) (sym is) (subst (λ ys. Gives see r (check_of (plan_defined done (views_specifiers ys) (view_declarator d.value) b.place (view_declarations b.declarations.items) (views_statements b.statements.items)) s)) same by)

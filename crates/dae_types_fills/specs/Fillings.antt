@@ -1,8 +1,9 @@
 -- What is filled so far, in memory, as plain data.
 use Rattle.std.specs.Prelude.{ℕ, List, [], ◌∷◌, ◌++◌, Option, Some, None, suc, length}
 use Rattle.dae_base.specs.declared.LoadKind.{LoadKind}
-use Rattle.dae_program.specs.Trees.{Setting}
+use Rattle.dae_program.specs.Trees.{Expression, Setting}
 use Rattle.dae_program.specs.Views.{view, view_settings}
+use Rattle.dae_program.specs.declared.expressions.Expression.{Expression as ExpressionInMemory}
 use Rattle.dae_program.specs.declared.statements.Setting.{Setting as SettingInMemory}
 use Rattle.dae_types_kinds.specs.Tables.{Tables}
 use Rattle.dae_types_kinds.specs.Types.{shape_of, word_for}
@@ -19,6 +20,11 @@ use Rattle.dae_types_fills.specs.declared.filling.Landing.{Landing as LandingInM
 use Rattle.dae_types_fills.specs.declared.lists.Opening.{Opening as OpeningInMemory}
 use Rattle.dae_types_fills.specs.declared.lists.Content.{Content as ContentInMemory}
 use Rattle.dae_types_fills.specs.Slots.{view_stack}
+
+-- the tree of a constant, if there is one
+abbrev pub view_constant : Option ExpressionInMemory → Option Expression
+view_constant None = None
+view_constant (Some e) = Some (view e)
 
 abbrev pub view_setting : SettingInMemory → Setting
 view_setting item = record { offset = item.offset; width = item.width; value = view item.value }

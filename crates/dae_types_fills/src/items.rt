@@ -1,14 +1,14 @@
 // What an item of an initialiser writes (C90 6.5.7): a constant, the bytes of a literal, or nothing of a structure.
 
 ghost use Rattle.std.specs.Prelude.{◌≡◌, [], ◌∷◌, ◌++◌, Ok};
-ghost use Rattle.dae_program.specs.Views.{view, view_settings, view_some};
+ghost use Rattle.dae_program.specs.Views.{view, view_settings};
 ghost use Rattle.dae_types_kinds.specs.Values.{constant_tree, is_division};
 ghost use Rattle.dae_types_rules.specs.Table.{is_longer};
 ghost use Rattle.dae_types_rules.specs.Plan.{Gives};
 ghost use Rattle.dae_types_file_plans.specs.Initialisers.{byte_setting, byte_settings, item_at, literal_bytes, setting};
 ghost use Rattle.dae_types_tables.specs.Seen.{tables, FollowsBy};
 ghost use Rattle.dae_types_folding.specs.Views.{view_value};
-ghost use Rattle.dae_types_fills.specs.Fillings.{scalar_item, structure_item, text_item, view_filling, view_landing, view_setting};
+ghost use Rattle.dae_types_fills.specs.Fillings.{scalar_item, structure_item, text_item, view_constant, view_filling, view_landing, view_setting};
 
 use crate::filling::{Destination, Filling, Landing};
 use crate::slots::behind_bytes;
@@ -40,7 +40,7 @@ fn is_division(known: Known) -> bool
 
 /// The tree of a constant for an initialiser: an integer constant expression or an address constant (C90 6.4).
 fn constant_tree(known: Known) -> Option<Expression>
-    ensures { view_some result ≡ constant_tree known }
+    ensures { view_constant result ≡ constant_tree known }
 {
     match known {
         Known::Number(word) => Some(Expression::Number(word)),

@@ -16,7 +16,7 @@ use crate::printing::literal_in;
 use crate::slots::{Rest, is_text_array, next_slot, parts_of};
 use dae_base::Place;
 use dae_program::Setting;
-use dae_tree::{Expression, Initialiser};
+use dae_tree::Initialiser;
 use dae_types_folding::Value;
 use dae_types_kinds::{CheckError, Rule, Shape};
 use dae_types_tables::{Checker, MOST_BYTES, broken, is_scalar, is_structure};
@@ -57,8 +57,8 @@ fn is_literal(initialiser: &Initialiser) -> bool
     ensures { result ≡ is_literal (view_initialiser initialiser.now) }
 {
     match initialiser {
-        Initialiser::Value(Expression::Literal(_, _)) => true,
-        _ => false,
+        Initialiser::Value(e) => has_literal(literal_in(e)),
+        Initialiser::List(_, _, _) => false,
     }
 }
 

@@ -105,6 +105,6 @@ pub fn add_printed(
     if text == Some(false) && !is_integer(shape) {
         return Err(broken(Rule::BadFormat, place));
     }
-    done.push(x.tree)?;
+    done.push(Box::into_inner(x.tree))?;
     Ok(done)
 }

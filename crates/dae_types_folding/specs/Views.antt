@@ -1,5 +1,6 @@
 -- Values in memory as plain data.
-use Rattle.std.specs.Prelude.{Bool, false, true, Option, Some, None, Result, Ok}
+use Rattle.std.specs.Prelude.{Bool, false, true, Option, Some, None, Result, Ok, Box}
+use Rattle.std.specs.declared.alloc.Global.{Global}
 use Rattle.dae_base.specs.declared.Signedness.{Signedness}
 use Rattle.dae_base.specs.declared.Signedness.TheVariants as signedness
 use Rattle.dae_program.specs.Trees as program
@@ -15,7 +16,11 @@ use Rattle.dae_types_folding.specs.declared.operators.Combination.{Combination a
 use Rattle.dae_types_folding.specs.declared.operators.Combination.TheVariants as combinations
 
 abbrev pub view_value : Value → Typed
-view_value x = typed (view x.tree) x.type_id x.category x.known
+view_value x = typed (view x.tree.value) x.type_id x.category x.known
+
+-- a tree in a box
+abbrev pub view_boxed : Box Expression Global → program.Expression
+view_boxed b = view b.value
 
 abbrev pub is_without_sign : Signedness → Bool
 is_without_sign signedness.Signed = false
@@ -37,8 +42,8 @@ view_combined None = None
 view_combined (Some c) = Some (view_combination c)
 
 -- a function makes this tree, or this value, unless memory ran out
-abbrev pub MakesTree : Result Expression CheckError → program.Expression → Type 0
-MakesTree r e = Gives view r (Ok e)
+abbrev pub MakesTree : Result (Box Expression Global) CheckError → program.Expression → Type 0
+MakesTree r e = Gives view_boxed r (Ok e)
 
 abbrev pub MakesValue : Result Value CheckError → Typed → Type 0
 MakesValue r x = Gives view_value r (Ok x)

@@ -12,7 +12,7 @@ pub use operators::{
 };
 pub use shapes::{common, load_kind, pointee, promoted};
 pub use trees::{changed, difference_of, further, operated, scaled, sum_of, target_of, tree_by};
-pub use value::Value;
+pub use value::{Value, boxed};
 
 mod knowing;
 mod operators;

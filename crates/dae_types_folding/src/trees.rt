@@ -1,14 +1,14 @@
 // The trees of conversions, addresses and operations (C90 6.2 and 6.3).
 
-ghost use Rattle.std.specs.Prelude.{◌≡◌, Ok};
+ghost use Rattle.std.specs.Prelude.{◌≡◌};
+ghost use Rattle.dae_program.specs.Trees as program;
 ghost use Rattle.dae_program.specs.Views.{view, view_target};
-ghost use Rattle.dae_types_rules.specs.Plan.{Gives};
 ghost use Rattle.dae_types_kinds.specs.Values.{changes, changed, further, scaled, sum_of, difference_of, tree_by, address_tree, operated, target_of};
 ghost use Rattle.dae_types_folding.specs.Views.{MakesTree, MakesValue, view_deed, view_value};
 
 use crate::knowing::known_by;
 use crate::operators::Deed;
-use crate::value::Value;
+use crate::value::{Value, boxed, refilled};
 use dae_base::{LoadKind, Place};
 use dae_meaning::Operator;
 use dae_program::{Expression, Target};
@@ -35,12 +35,12 @@ pub fn changed(
     place: Place,
     from: LoadKind,
     to: LoadKind,
-    tree: Expression,
-) -> Result<Expression, CheckError>
-    ensures { MakesTree result (changed place from to (view tree)) }
+    tree: Box<Expression>,
+) -> Result<Box<Expression>, CheckError>
+    ensures { MakesTree result (changed place from to (view tree.value)) }
 {
     if changes(from, to) {
-        Ok(Expression::Convert(place, to, Box::new(alloc, tree)?))
+        boxed(alloc, Expression::Convert(place, to, tree))
     } else {
         Ok(tree)
     }
@@ -51,42 +51,53 @@ fn binary(
     alloc: Global,
     place: Place,
     operator: Operator,
-    left: Expression,
-    right: Expression,
-) -> Result<Expression, CheckError>
-    ensures { MakesTree result (tree.Binary place operator (view left) (view right)) }
+    left: Box<Expression>,
+    right: Box<Expression>,
+) -> Result<Box<Expression>, CheckError>
+    ensures { MakesTree result
+        (program.Binary place operator (view left.value) (view right.value)) }
 {
-    let left = Box::new(alloc, left)?;
-    let right = Box::new(alloc, right)?;
-    Ok(Expression::Binary(place, operator, left, right))
+    boxed(alloc, Expression::Binary(place, operator, left, right))
 }
 
-ghost use Rattle.dae_program.specs.Trees as tree;
+/// An operation on a tree and a number.
+fn binary_with(
+    alloc: Global,
+    place: Place,
+    operator: Operator,
+    left: Box<Expression>,
+    number: u32,
+) -> Result<Box<Expression>, CheckError>
+    ensures { MakesTree result
+        (program.Binary place operator (view left.value) (program.Number number)) }
+{
+    let right = boxed(alloc, Expression::Number(number))?;
+    binary(alloc, place, operator, left, right)
+}
 
 /// An address so many bytes further.
 pub fn further(
     alloc: Global,
     place: Place,
-    address: Expression,
+    address: Box<Expression>,
     bytes: u32,
-) -> Result<Expression, CheckError>
-    ensures { MakesTree result (further place (view address) bytes) }
+) -> Result<Box<Expression>, CheckError>
+    ensures { MakesTree result (further place (view address.value) bytes) }
 {
-    match address {
-        Expression::Number(word) => Ok(Expression::Number(word.wrapping_add(bytes))),
+    match *address {
+        Expression::Number(word) => {
+            let moved = Expression::Number(word.wrapping_add(bytes));
+            Ok(refilled(address, moved))
+        }
         Expression::Address(object, offset) => {
-            Ok(Expression::Address(object, offset.wrapping_add(bytes)))
+            let moved = Expression::Address(object, offset.wrapping_add(bytes));
+            Ok(refilled(address, moved))
         }
         Expression::Frame(start, offset) => {
-            Ok(Expression::Frame(start, offset.wrapping_add(bytes)))
+            let moved = Expression::Frame(start, offset.wrapping_add(bytes));
+            Ok(refilled(address, moved))
         }
-        other => binary(
-            alloc,
-            place,
-            Operator::Add,
-            other,
-            Expression::Number(bytes),
-        ),
+        _ => binary_with(alloc, place, Operator::Add, address, bytes),
     }
 }
 
@@ -94,21 +105,18 @@ pub fn further(
 pub fn scaled(
     alloc: Global,
     place: Place,
-    index: Expression,
+    index: Box<Expression>,
     size: u32,
-) -> Result<Expression, CheckError>
-    ensures { MakesTree result (scaled place (view index) size) }
+) -> Result<Box<Expression>, CheckError>
+    ensures { MakesTree result (scaled place (view index.value) size) }
 {
-    match index {
-        Expression::Number(word) => Ok(Expression::Number(word.wrapping_mul(size))),
-        other if size == 1 => Ok(other),
-        other => binary(
-            alloc,
-            place,
-            Operator::Multiply,
-            other,
-            Expression::Number(size),
-        ),
+    match *index {
+        Expression::Number(word) => {
+            let bytes = Expression::Number(word.wrapping_mul(size));
+            Ok(refilled(index, bytes))
+        }
+        _ if size == 1 => Ok(index),
+        _ => binary_with(alloc, place, Operator::Multiply, index, size),
     }
 }
 
@@ -116,15 +124,17 @@ pub fn scaled(
 pub fn sum_of(
     alloc: Global,
     place: Place,
-    left: Expression,
-    right: Expression,
-) -> Result<Expression, CheckError>
-    ensures { MakesTree result (sum_of place (view left) (view right)) }
+    left: Box<Expression>,
+    right: Box<Expression>,
+) -> Result<Box<Expression>, CheckError>
+    ensures { MakesTree result (sum_of place (view left.value) (view right.value)) }
 {
-    match (left, right) {
-        (address, Expression::Number(bytes)) => further(alloc, place, address, bytes),
-        (Expression::Number(bytes), address) => further(alloc, place, address, bytes),
-        (left, right) => binary(alloc, place, Operator::Add, left, right),
+    match *right {
+        Expression::Number(bytes) => further(alloc, place, left, bytes),
+        _ => match *left {
+            Expression::Number(bytes) => further(alloc, place, right, bytes),
+            _ => binary(alloc, place, Operator::Add, left, right),
+        },
     }
 }
 
@@ -132,14 +142,14 @@ pub fn sum_of(
 pub fn difference_of(
     alloc: Global,
     place: Place,
-    left: Expression,
-    right: Expression,
-) -> Result<Expression, CheckError>
-    ensures { MakesTree result (difference_of place (view left) (view right)) }
+    left: Box<Expression>,
+    right: Box<Expression>,
+) -> Result<Box<Expression>, CheckError>
+    ensures { MakesTree result (difference_of place (view left.value) (view right.value)) }
 {
-    match right {
+    match *right {
         Expression::Number(bytes) => further(alloc, place, left, 0u32.wrapping_sub(bytes)),
-        right => binary(alloc, place, Operator::Subtract, left, right),
+        _ => binary(alloc, place, Operator::Subtract, left, right),
     }
 }
 
@@ -148,27 +158,29 @@ pub fn tree_by(
     alloc: Global,
     place: Place,
     deed: Deed,
-    left: Expression,
-    right: Expression,
-) -> Result<Expression, CheckError>
-    ensures { MakesTree result (tree_by place (view_deed deed) (view left) (view right)) }
+    left: Box<Expression>,
+    right: Box<Expression>,
+) -> Result<Box<Expression>, CheckError>
+    ensures { MakesTree result
+        (tree_by place (view_deed deed) (view left.value) (view right.value)) }
 {
     match deed {
         Deed::Operates(operator) => binary(alloc, place, operator, left, right),
-        Deed::Compares(comparison, turned) => {
-            let left = Box::new(alloc, left)?;
-            let right = Box::new(alloc, right)?;
-            Ok(Expression::Compare(place, comparison, turned, left, right))
-        }
+        Deed::Compares(comparison, turned) => boxed(
+            alloc,
+            Expression::Compare(place, comparison, turned, left, right),
+        ),
     }
 }
 
 /// A constant address, or else this tree.
-fn address_tree(tree: Expression, known: Known) -> Expression
-    ensures { view result ≡ address_tree (view tree) known }
+fn address_tree(tree: Box<Expression>, known: Known) -> Box<Expression>
+    ensures { view result.value ≡ address_tree (view tree.value) known }
 {
     match known {
-        Known::Address(Some(object), offset) => Expression::Address(object, offset),
+        Known::Address(Some(object), offset) => {
+            refilled(tree, Expression::Address(object, offset))
+        }
         _ => tree,
     }
 }
@@ -191,15 +203,12 @@ pub fn operated(
 }
 
 /// What an assignment to an object writes.
-pub fn target_of(alloc: Global, x: Value) -> Result<Target, CheckError>
-    ensures { Gives view_target result (Ok (target_of (view_value x) x.category)) }
+pub fn target_of(x: Value) -> Target
+    ensures { view_target result ≡ target_of (view_value x) x.category }
 {
     match x.category {
-        Category::InVariable(variable) => Ok(Target::Variable(variable)),
-        Category::At(addressing) => Ok(Target::Object(
-            is_indirect(addressing),
-            Box::new(alloc, x.tree)?,
-        )),
-        _ => Ok(Target::Object(false, Box::new(alloc, x.tree)?)),
+        Category::InVariable(variable) => Target::Variable(variable),
+        Category::At(addressing) => Target::Object(is_indirect(addressing), x.tree),
+        _ => Target::Object(false, x.tree),
     }
 }

@@ -1,3 +1,4 @@
 pub mod Contexts
+pub mod Headers
 pub mod Numbering
 pub mod Rooms

@@ -4,6 +4,7 @@
 ghost use Rattle.std.specs.Prelude.{◌≡◌, IfOk};
 ghost use Rattle.dae_types_file_plans.specs.Files.{empty_tables, with_library, with_stdio, with_stdlib};
 ghost use Rattle.dae_types_tables.specs.Seen.{tables, Leaves};
+ghost use Rattle.dae_types_linkage.specs.Headers.{with_library_types};
 ghost use Rattle.dae_types_linkage.specs.Numbering.{view_numbers};
 
 use dae_base::Items;
@@ -33,6 +34,20 @@ pub struct Numbers {
     pub main: Option<u32>,
 }
 
+/// Makes the types of the library's functions.
+fn make_library_types(checker: &mut Checker) -> Result<(), CheckError>
+    ensures { Leaves checker.new result (with_library_types (tables checker.old)) }
+{
+    let text = checker.make(Shape::Pointer(CHAR_ID))?;
+    let list_of_text = checker.make(Shape::Parameter(NO_PARAMETERS_ID, text))?;
+    checker.make(Shape::Function(INT_ID, list_of_text))?;
+    let list_of_int = checker.make(Shape::Parameter(NO_PARAMETERS_ID, INT_ID))?;
+    checker.make(Shape::Function(INT_ID, list_of_int))?;
+    checker.make(Shape::Function(VOID_ID, list_of_int))?;
+    checker.make(Shape::Function(VOID_ID, NO_PARAMETERS_ID))?;
+    Ok(())
+}
+
 /// The tables of a file with these literals, in which the name main has this number, before anything is declared.
 pub fn begin_file(
     alloc: Global,
@@ -42,13 +57,7 @@ pub fn begin_file(
     ensures { IfOk result (λ c. tables c ≡ empty_tables literals main) }
 {
     let mut checker = Checker::new(alloc, literals, main)?;
-    let text = checker.make(Shape::Pointer(CHAR_ID))?;
-    let list_of_text = checker.make(Shape::Parameter(NO_PARAMETERS_ID, text))?;
-    checker.make(Shape::Function(INT_ID, list_of_text))?;
-    let list_of_int = checker.make(Shape::Parameter(NO_PARAMETERS_ID, INT_ID))?;
-    checker.make(Shape::Function(INT_ID, list_of_int))?;
-    checker.make(Shape::Function(VOID_ID, list_of_int))?;
-    checker.make(Shape::Function(VOID_ID, NO_PARAMETERS_ID))?;
+    make_library_types(&mut checker)?;
     Ok(checker)
 }
 

@@ -11,7 +11,7 @@ ghost use Rattle.dae_types_values.specs.Results.{Joins, three, GivesValue, two};
 
 use dae_base::Place;
 use dae_program::Expression;
-use dae_types_folding::{Value, common, known_and, known_branch, known_or};
+use dae_types_folding::{Value, boxed, common, known_and, known_branch, known_or};
 use dae_types_kinds::{Addressing, Category, CheckError, INT_ID, Known, Rule, Shape, VOID_ID};
 use dae_types_tables::{Checker, broken, is_integer, is_scalar, is_void};
 use dae_types_values::is_null;
@@ -34,9 +34,8 @@ pub fn and(
         return Err(broken(Rule::NotScalar, second));
     }
     let known = known_and(x.known, y.known);
-    let left = Box::new(checker.alloc, x.tree)?;
-    let right = Box::new(checker.alloc, y.tree)?;
-    Ok(Value::of_known(Expression::And(place, left, right), INT_ID, known))
+    let tree = boxed(checker.alloc, Expression::And(place, x.tree, y.tree))?;
+    Ok(Value::of_known(tree, INT_ID, known))
 }
 
 /// `||` between two values, at their places.
@@ -57,9 +56,8 @@ pub fn or(
         return Err(broken(Rule::NotScalar, second));
     }
     let known = known_or(x.known, y.known);
-    let left = Box::new(checker.alloc, x.tree)?;
-    let right = Box::new(checker.alloc, y.tree)?;
-    Ok(Value::of_known(Expression::Or(place, left, right), INT_ID, known))
+    let tree = boxed(checker.alloc, Expression::Or(place, x.tree, y.tree))?;
+    Ok(Value::of_known(tree, INT_ID, known))
 }
 
 /// The type of two pointers that are the branches of a conditional, where they go together.
@@ -132,8 +130,8 @@ fn known_if(is_integer: bool, known: Known) -> Known
 }
 
 /// A conditional's value.
-fn conditional_by(tree: Expression, type_id: usize, category: Category, known: Known) -> Value
-    ensures { view_value result ≡ conditional_by (view tree) type_id category known }
+fn conditional_by(tree: Box<Expression>, type_id: usize, category: Category, known: Known) -> Value
+    ensures { view_value result ≡ conditional_by (view tree.value) type_id category known }
 {
     match category {
         Category::Aggregate(_) => Value {
@@ -163,10 +161,8 @@ pub fn conditional(
     let known = known_branch(x.known, y.known, z.known);
     let known = known_if(is_integer(checker.shape_of(type_id)), known);
     let category = either_category(y.category, z.category);
-    let test = Box::new(checker.alloc, x.tree)?;
-    let first = Box::new(checker.alloc, y.tree)?;
-    let second = Box::new(checker.alloc, z.tree)?;
-    let tree = Expression::Conditional(place, test, first, second);
+    let tree = Expression::Conditional(place, x.tree, y.tree, z.tree);
+    let tree = boxed(checker.alloc, tree)?;
     Ok(conditional_by(tree, type_id, category, known))
 }
 
@@ -184,10 +180,8 @@ fn kept_category(category: Category) -> Category
 pub fn comma(checker: &Checker, x: Value, y: Value) -> Result<Value, CheckError>
     ensures { GivesValue checker.now result (comma_at (two x y)) checker.now }
 {
-    let left = Box::new(checker.alloc, x.tree)?;
-    let right = Box::new(checker.alloc, y.tree)?;
     Ok(Value {
-        tree: Expression::Comma(left, right),
+        tree: boxed(checker.alloc, Expression::Comma(x.tree, y.tree))?,
         type_id: y.type_id,
         category: kept_category(y.category),
         known: Known::Nothing,

@@ -16,8 +16,8 @@ use dae_meaning::Operator;
 use dae_program::Expression;
 use dae_tree::{AssignmentOperator, BinaryOperator, MemberOperator, Name};
 use dae_types_folding::{
-    Combination, Deed, Value, based, deed_of, further, known_further, load_kind, operator_of,
-    scaled, signedness_for, target_of,
+    Combination, Deed, Value, based, boxed, deed_of, further, known_further, load_kind,
+    operator_of, scaled, signedness_for, target_of,
 };
 use dae_types_kinds::{
     Addressing, Category, CheckError, Component, Known, Rule, Shape, is_indirect,
@@ -43,8 +43,8 @@ fn assigned(checker: &Checker, place: Place, x: Value, y: Value) -> Result<Value
     let type_id = x.type_id;
     let kind = load_kind(checker.shape_of(type_id));
     let y = convert(checker, place, y, type_id)?;
-    let target = target_of(checker.alloc, x)?;
-    let tree = Expression::Assign(place, kind, target, Box::new(checker.alloc, y.tree)?);
+    let tree = Expression::Assign(place, kind, target_of(x), y.tree);
+    let tree = boxed(checker.alloc, tree)?;
     Ok(Value::plain(tree, type_id))
 }
 
@@ -96,7 +96,7 @@ fn updated_by(
     x: &Value,
     y: Value,
     combination: Option<Combination>,
-) -> Result<Expression, CheckError>
+) -> Result<Box<Expression>, CheckError>
     ensures { MakesTree result
         (updated_by place (tables checker.now) operator (view_value x.now) (view_value y)
         (view_combined combination)) }
@@ -126,9 +126,8 @@ fn updated(
     let operation = operator_in(deed_of(signedness, operator));
     let combination = combination_of(checker, operator, &x, &y);
     let right = updated_by(checker, place, operator, &x, y, combination)?;
-    let right = Box::new(checker.alloc, right)?;
-    let target = target_of(checker.alloc, x)?;
-    let tree = Expression::Update(place, load_kind(left), target, operation, right);
+    let tree = Expression::Update(place, load_kind(left), target_of(x), operation, right);
+    let tree = boxed(checker.alloc, tree)?;
     Ok(Value::plain(tree, type_id))
 }
 
@@ -203,12 +202,12 @@ fn owner(checker: &Checker, operator: MemberOperator, x: &Value) -> Option<usize
 fn member_value(
     checker: &Checker,
     place: Place,
-    tree: Expression,
+    tree: Box<Expression>,
     type_id: usize,
     addressing: Addressing,
 ) -> Result<Value, CheckError>
     ensures { MakesValue result
-        (member_value place (tables checker.now) (view tree) type_id addressing
+        (member_value place (tables checker.now) (view tree.value) type_id addressing
         (shape_of (tables checker.now) type_id)) }
 {
     match checker.shape_of(type_id) {
@@ -219,9 +218,9 @@ fn member_value(
             known: Known::Nothing,
         }),
         shape => {
-            let address = Box::new(checker.alloc, tree)?;
             let indirect = is_indirect(addressing);
-            let tree = Expression::Read(place, load_kind(shape), indirect, address);
+            let tree = Expression::Read(place, load_kind(shape), indirect, tree);
+            let tree = boxed(checker.alloc, tree)?;
             Ok(Value::plain(tree, type_id))
         }
     }
@@ -235,7 +234,8 @@ fn member_in(
     x: Value,
 ) -> Result<Value, CheckError>
     ensures { MakesValue result
-        (member_in place (tables checker.now) operator (view x.tree) x.type_id x.category x.known) }
+        (member_in place (tables checker.now) operator (view x.tree.value) x.type_id x.category
+        x.known) }
 {
     match (operator, x.category) {
         (MemberOperator::Arrow, _) => Ok(Value {

@@ -17,9 +17,9 @@ use dae_meaning::Operator;
 use dae_program::Expression;
 use dae_tree::BinaryOperator;
 use dae_types_folding::{
-    Combination, Value, based, deed_of, difference_of, is_comparison, is_difference, is_equality,
-    is_sum, moved_back, moved_on, operated, scaled, scaled_known, signedness_for, sum_of, tree_by,
-    type_for,
+    Combination, Value, based, boxed, deed_of, difference_of, is_comparison, is_difference,
+    is_equality, is_sum, moved_back, moved_on, operated, scaled, scaled_known, signedness_for,
+    sum_of, tree_by, type_for,
 };
 use dae_types_kinds::{Addressing, Category, CheckError, INT_ID, Rule, Shape};
 use dae_types_tables::{Checker, broken, is_integer, is_pointer, is_void};
@@ -200,15 +200,14 @@ fn indexed_back(
 fn distance(alloc: Global, place: Place, size: u32, x: Value, y: Value) -> Result<Value, CheckError>
     ensures { MakesValue result (distance place size (view_value x) (view_value y)) }
 {
-    let left = Box::new(alloc, x.tree)?;
-    let right = Box::new(alloc, y.tree)?;
-    let bytes = Expression::Binary(place, Operator::Subtract, left, right);
+    let bytes = Expression::Binary(place, Operator::Subtract, x.tree, y.tree);
+    let bytes = boxed(alloc, bytes)?;
     if size == 1 {
         return Ok(Value::plain(bytes, INT_ID));
     }
-    let bytes = Box::new(alloc, bytes)?;
-    let size = Box::new(alloc, Expression::Number(size))?;
+    let size = boxed(alloc, Expression::Number(size))?;
     let tree = Expression::Binary(place, Operator::DivideSigned, bytes, size);
+    let tree = boxed(alloc, tree)?;
     Ok(Value::plain(tree, INT_ID))
 }
 

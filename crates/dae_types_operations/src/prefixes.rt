@@ -18,7 +18,7 @@ use dae_meaning::Operator;
 use dae_program::{Expression, Fixity};
 use dae_tree::{Name, PostfixOperator, PrefixOperator};
 use dae_types_folding::{
-    Deed, Value, based, known_not, load_kind, operated, pointee, promoted, target_of,
+    Deed, Value, based, boxed, known_not, load_kind, operated, pointee, promoted, target_of,
 };
 use dae_types_kinds::{Addressing, Category, CheckError, Entity, INT_ID, Local, Rule, Shape};
 use dae_types_tables::{Checker, broken, is_array, is_scalar, is_void};
@@ -131,8 +131,8 @@ fn stepped(
     let shape = checker.shape_of(type_id);
     let size = step_size(checker, shape);
     let change = change_by(direction, size);
-    let target = target_of(checker.alloc, x)?;
-    let tree = Expression::Step(place, load_kind(shape), target, change, fixity);
+    let tree = Expression::Step(place, load_kind(shape), target_of(x), change, fixity);
+    let tree = boxed(checker.alloc, tree)?;
     Ok(Value::plain(tree, type_id))
 }
 
@@ -168,7 +168,7 @@ fn step(
 fn negated(alloc: Global, place: Place, x: Value, type_id: usize) -> Result<Value, CheckError>
     ensures { MakesValue result (negated place (view_value x) type_id) }
 {
-    let zero = Value::number(0, INT_ID);
+    let zero = Value::number(alloc, 0, INT_ID)?;
     operated(
         alloc,
         place,
@@ -183,7 +183,7 @@ fn negated(alloc: Global, place: Place, x: Value, type_id: usize) -> Result<Valu
 fn complemented(alloc: Global, place: Place, x: Value, type_id: usize) -> Result<Value, CheckError>
     ensures { MakesValue result (complemented place (view_value x) type_id) }
 {
-    let ones = Value::number(u32::MAX, INT_ID);
+    let ones = Value::number(alloc, u32::MAX, INT_ID)?;
     operated(
         alloc,
         place,
@@ -199,7 +199,7 @@ fn inverted(alloc: Global, place: Place, x: Value) -> Result<Value, CheckError>
     ensures { MakesValue result (inverted place (view_value x)) }
 {
     let known = known_not(x.known);
-    let tree = Expression::Not(place, Box::new(alloc, x.tree)?);
+    let tree = boxed(alloc, Expression::Not(place, x.tree))?;
     Ok(Value::of_known(tree, INT_ID, known))
 }
 

@@ -1,7 +1,7 @@
 -- Steps of loops over flags, arms and statements.
 use Rattle.std.proofs.Common.{◌≡◌, ℕ, suc, ◌+◌, ◌-◌, ◌<◌, ◌≤◌, Bool, ◌&&◌, List, [], ◌∷◌, ◌++◌, length, drop, get_or, Option, Some, refl, ap, sym, ◌∙◌, arith}
 use Rattle.std.proofs.lemmas.List.{drop_all}
-use Rattle.std.specs.Prelude.{nat_lt, nat_le, Vec}
+use Rattle.std.specs.Prelude.{nat_lt, nat_le, Box, Vec}
 use Rattle.std.specs.declared.alloc.Global.{Global}
 use Rattle.dae_base.specs.declared.Place.{Place}
 use Rattle.dae_program.specs.declared.expressions.Expression.{Expression}
@@ -44,27 +44,27 @@ pub arms_step : (xs : List Arm) (i : ℕ) (arm : Arm) (d turn : List Bool) → i
 arms_step xs i arm d turn lt is h g =
     sym (ap (λ r. aside r d ⊳⊳ reading_arms (arms_of (drop (i + 1) xs))) g) ∙ sym (ap (λ a. reading_arms a d) (arms_at xs i arm lt is)) ∙ h
 
-pub if_reads : (p : Place) (a : Expression) (s t : Vec Statement Global) (d b y z new : List Bool) → reading (view a) d ≡ Some b → reading_statements (view_statements s.items) b ≡ Some y → reading_statements (view_statements t.items) b ≡ Some z → new ≡ meet y z → (k : tree.Statements) → reading_statements (statement_then (statement.If p a s t) k) d ≡ reading_statements k new
+pub if_reads : (p : Place) (a : Box Expression Global) (s t : Vec Statement Global) (d b y z new : List Bool) → reading (view a.value) d ≡ Some b → reading_statements (view_statements s.items) b ≡ Some y → reading_statements (view_statements t.items) b ≡ Some z → new ≡ meet y z → (k : tree.Statements) → reading_statements (statement_then (statement.If p a s t) k) d ≡ reading_statements k new
 if_reads p a s t d b y z new h g f e k =
     ap (λ ss. reading_statements ss d) (view_if p a s t k)
     ∙ ap (λ r. (r ⊳⊳ λ d. both_ways (reading_statements (view_statements s.items) d) (reading_statements (view_statements t.items) d)) ⊳⊳ reading_statements k) h
     ∙ ap (λ r. both_ways r (reading_statements (view_statements t.items) b) ⊳⊳ reading_statements k) g
     ∙ ap (λ r. both_ways (Some y) r ⊳⊳ reading_statements k) f ∙ ap (reading_statements k) (sym e)
 
-pub loop_reads : (p : Place) (test : Option Expression) (s : Vec Statement Global) (step : Option Expression) (d b turn after : List Bool) → reading_some (view_some test) d ≡ Some b → reading_statements (view_statements s.items) b ≡ Some turn → reading_some (view_some step) d ≡ Some after → (k : tree.Statements) → reading_statements (statement_then (statement.Loop p test s step) k) d ≡ reading_statements k d
+pub loop_reads : (p : Place) (test : Option (Box Expression Global)) (s : Vec Statement Global) (step : Option (Box Expression Global)) (d b turn after : List Bool) → reading_some (view_some test) d ≡ Some b → reading_statements (view_statements s.items) b ≡ Some turn → reading_some (view_some step) d ≡ Some after → (k : tree.Statements) → reading_statements (statement_then (statement.Loop p test s step) k) d ≡ reading_statements k d
 loop_reads p test s step d b turn after h g f k =
     ap (λ z. reading_statements z d) (view_loop p test s step k)
     ∙ ap (λ r. (aside (r ⊳⊳ reading_statements (view_statements s.items)) d ⊳⊳ λ d. aside (reading_some (view_some step) d) d) ⊳⊳ reading_statements k) h
     ∙ ap (λ r. (aside r d ⊳⊳ λ d. aside (reading_some (view_some step) d) d) ⊳⊳ reading_statements k) g
     ∙ ap (λ r. aside r d ⊳⊳ reading_statements k) f
 
-pub do_reads : (p : Place) (s : Vec Statement Global) (test : Expression) (d turn after : List Bool) → reading_statements (view_statements s.items) d ≡ Some turn → reading (view test) d ≡ Some after → (k : tree.Statements) → reading_statements (statement_then (statement.Do p s test) k) d ≡ reading_statements k d
+pub do_reads : (p : Place) (s : Vec Statement Global) (test : Box Expression Global) (d turn after : List Bool) → reading_statements (view_statements s.items) d ≡ Some turn → reading (view test.value) d ≡ Some after → (k : tree.Statements) → reading_statements (statement_then (statement.Do p s test) k) d ≡ reading_statements k d
 do_reads p s test d turn after g f k =
     ap (λ z. reading_statements z d) (view_do p s test k)
-    ∙ ap (λ r. (aside r d ⊳⊳ λ d. aside (reading (view test) d) d) ⊳⊳ reading_statements k) g
+    ∙ ap (λ r. (aside r d ⊳⊳ λ d. aside (reading (view test.value) d) d) ⊳⊳ reading_statements k) g
     ∙ ap (λ r. aside r d ⊳⊳ reading_statements k) f
 
-pub switch_reads : (p : Place) (a : Expression) (arms : Vec Arm Global) (d b new : List Bool) → reading (view a) d ≡ Some b → reading_arms (arms_of arms.items) b ≡ Some new → (k : tree.Statements) → reading_statements (statement_then (statement.Switch p a arms) k) d ≡ reading_statements k new
+pub switch_reads : (p : Place) (a : Box Expression Global) (arms : Vec Arm Global) (d b new : List Bool) → reading (view a.value) d ≡ Some b → reading_arms (arms_of arms.items) b ≡ Some new → (k : tree.Statements) → reading_statements (statement_then (statement.Switch p a arms) k) d ≡ reading_statements k new
 switch_reads p a arms d b new h g k =
     ap (λ z. reading_statements z d) (view_switch p a arms k)
     ∙ ap (λ r. (r ⊳⊳ reading_arms (arms_of arms.items)) ⊳⊳ reading_statements k) h ∙ ap (λ r. r ⊳⊳ reading_statements k) g

@@ -127,7 +127,11 @@ fn set_target(set: Vec<bool>, t: &Target) -> Result<Vec<bool>, Doubt>
 }
 
 /// The same of an expression, if there is one.
-pub fn read_some(alloc: Global, set: Vec<bool>, e: &Option<Expression>) -> Result<Vec<bool>, Doubt>
+pub fn read_some(
+    alloc: Global,
+    set: Vec<bool>,
+    e: &Option<Box<Expression>>,
+) -> Result<Vec<bool>, Doubt>
     ensures { IfOk result (Sets (reading_some (view_some e.now)) set.items) }
 {
     match e {

@@ -5,3 +5,4 @@ pub mod Steps
 mod Distinct
 pub mod Noted
 pub mod Whole
+mod UsedNumbers

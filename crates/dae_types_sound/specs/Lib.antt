@@ -3,3 +3,4 @@ pub mod Distinct
 pub mod Fit
 pub mod Names
 pub mod Shapes
+pub mod Used

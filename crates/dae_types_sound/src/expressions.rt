@@ -192,7 +192,7 @@ pub fn are_fit(names: &FileNames, extent: Extent, xs: &[Expression]) -> bool
 }
 
 /// Whether an expression fits, if there is one.
-pub fn is_fit_some(names: &FileNames, extent: Extent, e: &Option<Expression>) -> bool
+pub fn is_fit_some(names: &FileNames, extent: Extent, e: &Option<Box<Expression>>) -> bool
     ensures { result ≡ is_fit_some names.now extent (view_some e.now) }
 {
     match e {

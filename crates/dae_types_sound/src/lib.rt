@@ -15,3 +15,4 @@ mod shapes;
 mod sound;
 mod statements;
 mod tables;
+mod used;

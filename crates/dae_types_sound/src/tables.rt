@@ -3,14 +3,18 @@
 ghost use Rattle.std.specs.Prelude.{◌≡◌, IfOk, [], length, slice_get};
 ghost use Rattle.dae_types_kinds.specs.Types.{is_complete, layout, layout_at, layout_else, layout_of, layout_within, repeated, shape_of};
 ghost use Rattle.dae_types_plans.specs.Steps.{parameter_types, parameters_from};
-ghost use Rattle.dae_types_typed.specs.Sound.{is_use_of, is_used, same_entity, tables_of};
+ghost use Rattle.dae_types_kinds.specs.declared.tables.Entity.TheVariants as entities;
+ghost use Rattle.dae_types_typed.specs.Sound.{same_entity, tables_of};
+ghost use Rattle.dae_types_sound.specs.Used.{AreUsed};
 ghost use Rattle.dae_types_sound.specs.Names.{names_in, parameter_list, shorter, used_count, used_counts, used_layout, used_layouts};
 
 use crate::extents::FileNames;
+use crate::used::{used_functions, used_objects};
 use dae_base::Items;
-use dae_types_kinds::{Entity, Layout, Object, Routine, Shape, Use};
+use dae_types_kinds::{Entity, Layout, Object, Routine, Shape};
 use dae_types_ready::Doubt;
 use dae_types_typed::FileParts;
+use indexmap::IndexSet;
 use std::alloc::Global;
 
 /// The shape of a type of a file; of a number that is no type's, void.
@@ -153,46 +157,42 @@ pub fn same_entity(left: Entity, right: Entity) -> bool
     }
 }
 
-/// Whether an object or a function is used.
-pub fn is_used(uses: &[Use], entity: Entity) -> bool
-    ensures { result ≡ is_used uses.now entity }
-{
-    for used in uses {
-        if same_entity(entity, used.entity) {
-            return true;
-        }
-    }
-    false
-}
-
-fn used_layout(parts: &FileParts, number: usize, object: Object) -> Option<Layout>
+/// The layout of an object, where that is among those that are used.
+fn used_layout(
+    parts: &FileParts,
+    used: &IndexSet<usize>,
+    number: usize,
+    object: Object,
+) -> Option<Layout>
+    requires { AreUsed parts.now.uses entities.Object used.now }
     ensures { result ≡ used_layout parts.now number object }
 {
-    if is_used(parts.uses.as_slice(), Entity::Object(number)) {
-        Some(layout_at(parts, object.type_id))
-    } else {
-        None
+    if used.contains(&number) {
+        return Some(layout_at(parts, object.type_id));
     }
+    None
 }
 
 fn used_layouts(alloc: Global, parts: &FileParts) -> Result<Items<Option<Layout>>, Doubt>
     ensures { IfOk result (λ layouts. layouts ≡ used_layouts parts.now [] 0 parts.now.objects) }
 {
+    let used = used_objects(alloc, parts.uses.as_slice())?;
     let mut layouts = Vec::new(alloc);
     for (number, object) in parts.objects.as_slice().iter().enumerate() {
-        layouts.push(used_layout(parts, number, *object))?;
+        layouts.push(used_layout(parts, &used, number, *object))?;
     }
     Ok(Items::from_vec(layouts))
 }
 
-fn used_count(parts: &FileParts, number: usize) -> Option<usize>
+/// The number of a function's parameters, where that is among those that are used.
+fn used_count(parts: &FileParts, used: &IndexSet<usize>, number: usize) -> Option<usize>
+    requires { AreUsed parts.now.uses entities.Function used.now }
     ensures { result ≡ used_count parts.now number }
 {
-    if is_used(parts.uses.as_slice(), Entity::Function(number)) {
-        Some(count_parameters(parts, number))
-    } else {
-        None
+    if used.contains(&number) {
+        return Some(count_parameters(parts, number));
     }
+    None
 }
 
 fn used_counts(
@@ -202,9 +202,10 @@ fn used_counts(
 ) -> Result<Items<Option<usize>>, Doubt>
     ensures { IfOk result (λ counts. counts ≡ used_counts parts.now [] 0 routines.now) }
 {
+    let used = used_functions(alloc, parts.uses.as_slice())?;
     let mut counts = Vec::new(alloc);
     for (number, _) in routines.iter().enumerate() {
-        counts.push(used_count(parts, number))?;
+        counts.push(used_count(parts, &used, number))?;
     }
     Ok(Items::from_vec(counts))
 }

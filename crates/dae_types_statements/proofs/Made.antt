@@ -1,6 +1,6 @@
 -- A switch in memory, whose arms stand in a list, as plain data.
 use Rattle.std.proofs.Common.{◌≡◌, List, [], ◌∷◌, refl, ap, ◌∙◌}
-use Rattle.std.specs.Prelude.{Vec}
+use Rattle.std.specs.Prelude.{Box, Vec}
 use Rattle.std.specs.declared.alloc.Global.{Global}
 use Rattle.dae_base.specs.declared.Place.{Place}
 use Rattle.dae_program.proofs.LawsOfTrees.{view_switch}
@@ -16,6 +16,6 @@ same_arms : (arms : List Arm) → arms_of arms ≡ made_of (armed arms)
 same_arms [] = refl
 same_arms (arm ∷ arms) = ap (tree.arm_then arm.labels.items (view_statements arm.statements.items)) (same_arms arms)
 
-pub view_armed_switch : (p : Place) (e : Expression) (arms : Vec Arm Global) (k : tree.Statements)
-    → statement_then (statement.Switch p e arms) k ≡ tree.Switch p (view e) (made_of (armed arms.items)) k
-view_armed_switch p e arms k = view_switch p e arms k ∙ ap (λ u. tree.Switch p (view e) u k) (same_arms arms.items)
+pub view_armed_switch : (p : Place) (e : Box Expression Global) (arms : Vec Arm Global) (k : tree.Statements)
+    → statement_then (statement.Switch p e arms) k ≡ tree.Switch p (view e.value) (made_of (armed arms.items)) k
+view_armed_switch p e arms k = view_switch p e arms k ∙ ap (λ u. tree.Switch p (view e.value) u k) (same_arms arms.items)

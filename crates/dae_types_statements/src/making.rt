@@ -15,7 +15,7 @@ use std::alloc::Global;
 /// A condition that is done.
 #[derive(Drop)]
 pub struct Condition {
-    pub tree: Expression,
+    pub tree: Box<Expression>,
 }
 
 /// Statements that are done.
@@ -31,9 +31,9 @@ pub struct TypedHeading {
     pub place: Place,
     /// The place of the expression at the start, if there is one.
     pub first: Place,
-    pub start: Option<Expression>,
-    pub test: Option<Expression>,
-    pub step: Option<Expression>,
+    pub start: Option<Box<Expression>>,
+    pub test: Option<Box<Expression>>,
+    pub step: Option<Box<Expression>>,
 }
 
 /// `if` and `else`.
@@ -41,12 +41,12 @@ pub struct TypedHeading {
 pub fn choose(
     alloc: Global,
     place: Place,
-    test: Expression,
+    test: Box<Expression>,
     yes: Vec<Statement>,
     no: Vec<Statement>,
 ) -> Result<Vec<Statement>, CheckError>
     ensures { MakesStatements result
-        (If place (view test) (as_statements yes) (as_statements no) Done) }
+        (If place (view test.value) (as_statements yes) (as_statements no) Done) }
 {
     alone(alloc, Statement::If(place, test, yes, no))
 }
@@ -56,9 +56,9 @@ pub fn choose(
 pub fn repeat(
     alloc: Global,
     place: Place,
-    test: Option<Expression>,
+    test: Option<Box<Expression>>,
     body: Vec<Statement>,
-    step: Option<Expression>,
+    step: Option<Box<Expression>>,
 ) -> Result<Vec<Statement>, CheckError>
     ensures { MakesStatements result
         (Loop place (view_some test) (as_statements body) (view_some step) Done) }
@@ -98,9 +98,9 @@ pub fn repeat_before(
     alloc: Global,
     place: Place,
     body: Vec<Statement>,
-    test: Expression,
+    test: Box<Expression>,
 ) -> Result<Vec<Statement>, CheckError>
-    ensures { MakesStatements result (Do place (as_statements body) (view test) Done) }
+    ensures { MakesStatements result (Do place (as_statements body) (view test.value) Done) }
 {
     alone(alloc, Statement::Do(place, body, test))
 }
@@ -110,10 +110,11 @@ pub fn repeat_before(
 pub fn branch(
     alloc: Global,
     place: Place,
-    value: Expression,
+    value: Box<Expression>,
     arms: Vec<Arm>,
 ) -> Result<Vec<Statement>, CheckError>
-    ensures { MakesStatements result (Switch place (view value) (arms_of (armed arms.items)) Done) }
+    ensures { MakesStatements result
+        (Switch place (view value.value) (arms_of (armed arms.items)) Done) }
 {
     alone(alloc, Statement::Switch(place, value, arms))
 }

@@ -198,7 +198,7 @@ fn if_true(
     one: &TreeStatement,
 ) -> Result<Vec<Statement>, CheckError>
     ensures { GivesStatements checker.new result
-        (plan_chosen place (view test.tree) around (view_statement one.now)) checker.old }
+        (plan_chosen place (view test.tree.value) around (view_statement one.now)) checker.old }
 {
     let yes = statement(checker, around, one)?;
     choose(
@@ -222,7 +222,7 @@ fn if_false(
     one: &TreeStatement,
 ) -> Result<Vec<Statement>, CheckError>
     ensures { GivesStatements checker.new result
-        (plan_otherwise place (view test.tree) (as_statements yes.statements) around
+        (plan_otherwise place (view test.tree.value) (as_statements yes.statements) around
         (view_statement one.now)) checker.old }
 {
     let no = statement(checker, around, one)?;
@@ -240,7 +240,7 @@ fn while_true(
     one: &TreeStatement,
 ) -> Result<Vec<Statement>, CheckError>
     ensures { GivesStatements checker.new result
-        (plan_while place (view test.tree) around (view_statement one.now)) checker.old }
+        (plan_while place (view test.tree.value) around (view_statement one.now)) checker.old }
 {
     let body = statement(checker, in_loop(around), one)?;
     repeat(checker.alloc, place, Some(test.tree), body, None)
@@ -351,10 +351,7 @@ fn arms(
     ensures { FollowsBy view_arms checker.new result
         (plan_arms around unarmed (views_statements list.now)) checker.old }
 {
-    let mut arming = Arming {
-        seen: Vec::new(checker.alloc),
-        arms: Vec::new(checker.alloc),
-    };
+    let mut arming = Arming::new(checker.alloc);
     for one in list {
         arming = labelled(checker, around, arming, one)?;
     }

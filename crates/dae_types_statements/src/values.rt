@@ -2,7 +2,8 @@
 
 ghost use Rattle.std.specs.Prelude.{◌≡◌};
 ghost use Rattle.dae_tree.specs.Views.{view as view_tree, view_optional};
-ghost use Rattle.dae_program.specs.Views.{view, view_some};
+ghost use Rattle.dae_program.specs.Views.{view_some};
+ghost use Rattle.dae_types_folding.specs.Views.{view_boxed};
 ghost use Rattle.dae_types_file_plans.specs.Statements.{label_at, plan_condition, plan_optional, plan_return, plan_test, starting_place};
 ghost use Rattle.dae_types_tables.specs.Seen.{Follows, FollowsBy};
 ghost use Rattle.dae_types_values.specs.Results.{GivesValue};
@@ -22,8 +23,9 @@ use dae_types_walk::{constant_value, expression, operand};
 
 /// A condition, which must be a scalar.
 #[inline(never)]
-pub fn condition(checker: &mut Checker, e: &Tree) -> Result<Expression, CheckError>
-    ensures { FollowsBy view checker.new result (plan_condition (view_tree e.now)) checker.old }
+pub fn condition(checker: &mut Checker, e: &Tree) -> Result<Box<Expression>, CheckError>
+    ensures { FollowsBy view_boxed checker.new result
+        (plan_condition (view_tree e.now)) checker.old }
 {
     let x = expression(checker, e)?;
     test(checker, e.place(), x)
@@ -33,8 +35,8 @@ pub fn condition(checker: &mut Checker, e: &Tree) -> Result<Expression, CheckErr
 #[inline(never)]
 pub fn optional_condition(
     checker: &mut Checker,
-    e: &Option<Tree>,
-) -> Result<Option<Expression>, CheckError>
+    e: &Option<Box<Tree>>,
+) -> Result<Option<Box<Expression>>, CheckError>
     ensures { FollowsBy view_some checker.new result (plan_test (view_optional e.now)) checker.old }
 {
     match e {
@@ -47,8 +49,8 @@ pub fn optional_condition(
 #[inline(never)]
 pub fn optional_value(
     checker: &mut Checker,
-    e: &Option<Tree>,
-) -> Result<Option<Expression>, CheckError>
+    e: &Option<Box<Tree>>,
+) -> Result<Option<Box<Expression>>, CheckError>
     ensures { FollowsBy view_some checker.new result
         (plan_optional (view_optional e.now)) checker.old }
 {
@@ -59,7 +61,7 @@ pub fn optional_value(
 }
 
 /// The place of the expression at the start of a `for`, or else this one.
-pub fn starting_place(place: Place, start: &Option<Tree>) -> Place
+pub fn starting_place(place: Place, start: &Option<Box<Tree>>) -> Place
     ensures { result ≡ starting_place place (view_optional start.now) }
 {
     match start {
@@ -92,7 +94,7 @@ pub fn give_back(
     checker: &mut Checker,
     place: Place,
     around: Surrounding,
-    e: &Option<Tree>,
+    e: &Option<Box<Tree>>,
 ) -> Result<Vec<Statement>, CheckError>
     ensures { GivesStatements checker.new result
         (plan_return place around (view_optional e.now)) checker.old }

@@ -4,6 +4,7 @@ ghost use Rattle.std.specs.Prelude.{◌≡◌, IfOk};
 ghost use Rattle.dae_types_tables.specs.Seen.{tables, bare};
 
 use crate::basic::FIRST_SHAPES;
+use crate::names::Names;
 use dae_base::Items;
 use dae_types_kinds::{
     CheckError, Component, Designation, Innermost, Local, Object, Routine, Shape, Storage,
@@ -19,7 +20,7 @@ pub struct Checker {
     pub(crate) shapes: Vec<Shape>,
     pub(crate) structures: Vec<Structure>,
     pub(crate) components: Vec<Component>,
-    pub(crate) names: Vec<Designation>,
+    pub(crate) names: Names,
     pub(crate) tags: Vec<Tag>,
     pub(crate) innermost: Innermost,
     pub(crate) kept_names: Vec<Designation>,
@@ -48,7 +49,7 @@ impl Checker {
             shapes: Vec::from_array(alloc, FIRST_SHAPES)?,
             structures: Vec::new(alloc),
             components: Vec::new(alloc),
-            names: Vec::new(alloc),
+            names: Names::new(alloc),
             tags: Vec::new(alloc),
             innermost: Innermost { names: 0, tags: 0 },
             kept_names: Vec::new(alloc),

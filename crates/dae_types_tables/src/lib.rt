@@ -1,5 +1,6 @@
 // What a C file declares, in memory: the tables that the rules of types ask, and how they grow and go back at the ends of
-// scopes. A look-up by name goes through its table from the latest row: at most 65,536 uses of 10,000 names are about a second.
+// scopes. A look-up of a name takes the same time however many there are; one of a tag goes through its table
+// from the latest row.
 #![tactic(auto)]
 
 pub use checker::Checker;
@@ -16,6 +17,7 @@ mod entries;
 mod kept;
 mod layouts;
 mod lookups;
+mod names;
 mod sameness;
 mod scopes;
 mod shapes;

@@ -59,10 +59,7 @@ impl Checker {
     pub fn found_name(&self, name: u32) -> Option<Entity>
         ensures { result ≡ found_name (tables self.now) name }
     {
-        match self.names.iter().rev().find(|row| row.name == name) {
-            Some(row) => Some(row.entity),
-            None => None,
-        }
+        self.names.latest(name)
     }
 
     /// What a tag stands for, by its latest declaration in scope.
@@ -81,11 +78,7 @@ impl Checker {
     pub fn own_entity(&self, name: u32) -> Option<Entity>
         ensures { result ≡ own_entity (tables self.now) name }
     {
-        let start = self.innermost.names;
-        match self.names.iter().skip(start).find(|row| row.name == name) {
-            Some(row) => Some(row.entity),
-            None => None,
-        }
+        self.names.first_from(self.innermost.names, name)
     }
 
     /// Whether the innermost scope declares a name.

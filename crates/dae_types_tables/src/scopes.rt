@@ -40,7 +40,7 @@ impl Checker {
         ensures { LeavesAnd self.new result (continued (tables self.old)) }
     {
         let outer = self.open();
-        self.names.extend_from_slice(&self.kept_names)?;
+        self.names.push_all(&self.kept_names)?;
         self.tags.extend_from_slice(&self.kept_tags)?;
         Ok(outer)
     }

@@ -14,12 +14,11 @@ const HERE: Place = Place {
     col: 1,
 };
 
-fn entities() -> [Entity; 2] {
-    [Entity::Object(0), Entity::Function(0)]
-}
+const N: Entity = Entity::Object(0);
 
-fn shapes(alloc: Global) -> Result<Items<Shape>, AllocError> {
-    let mut shapes = Vec::new(alloc);
+const MAIN: Entity = Entity::Function(0);
+
+fn add_shapes(shapes: &mut Items<Shape>) -> Result<(), AllocError> {
     shapes.push(Shape::Void)?;
     shapes.push(Shape::Char)?;
     shapes.push(Shape::SignedChar)?;
@@ -29,94 +28,116 @@ fn shapes(alloc: Global) -> Result<Items<Shape>, AllocError> {
     shapes.push(Shape::Int)?;
     shapes.push(Shape::Unsigned)?;
     shapes.push(Shape::NoParameters)?;
-    shapes.push(Shape::Function(6, 8))?;
-    Ok(Items::from_vec(shapes))
+    shapes.push(Shape::Function(6, 8))
 }
 
-fn name(alloc: Global, text: &[u8]) -> Result<Items<u8>, AllocError> {
-    let mut bytes = Vec::new(alloc);
+fn add_bytes(bytes: &mut Items<u8>, text: &[u8]) -> Result<(), AllocError> {
     for byte in text {
         bytes.push(*byte)?;
     }
-    Ok(Items::from_vec(bytes))
+    Ok(())
+}
+
+fn add_name(alloc: Global, names: &mut Items<Items<u8>>, text: &[u8]) -> Result<(), AllocError> {
+    let mut bytes = Items::new(alloc);
+    add_bytes(&mut bytes, text)?;
+    names.push(bytes)
 }
 
 /// `main` ends with the object `n`, read so many bytes behind its start.
-fn main_body(alloc: Global, offset: u32) -> Result<TypedFunction, AllocError> {
+fn exit_with(alloc: Global, offset: u32) -> Result<Statement, AllocError> {
     let address = Box::new(alloc, Expression::Address(0, offset))?;
     let value = Box::new(alloc, Expression::Read(HERE, LoadKind::I32, false, address))?;
-    let mut body = Vec::new(alloc);
-    body.push(Statement::Evaluate(HERE, Expression::Exit(HERE, value)))?;
+    let exit = Box::new(alloc, Expression::Exit(HERE, value))?;
+    Ok(Statement::Evaluate(HERE, exit))
+}
+
+fn main_body(alloc: Global, offset: u32) -> Result<TypedFunction, AllocError> {
+    let name = Text::from_str(alloc, "main")?;
+    let mut body = Items::new(alloc);
+    body.push(exit_with(alloc, offset)?)?;
     Ok(TypedFunction {
         routine: 0,
-        name: Text::from_str(alloc, "main")?,
+        name,
         place: HERE,
         parameters: Items::new(alloc),
         variables: 1,
         frame: 0,
-        body: Items::from_vec(body),
+        body,
     })
 }
 
-fn file(alloc: Global, offset: u32, other: &[u8]) -> Result<FileParts, AllocError> {
-    let mut objects = Vec::new(alloc);
-    objects.push(Object {
+/// A file without parts.
+fn empty_file(alloc: Global) -> FileParts {
+    FileParts {
+        shapes: Items::new(alloc),
+        structures: Items::new(alloc),
+        components: Items::new(alloc),
+        objects: Items::new(alloc),
+        routines: Items::new(alloc),
+        declarations: Items::new(alloc),
+        contents: Items::new(alloc),
+        functions: Items::new(alloc),
+        uses: Items::new(alloc),
+        names: Items::new(alloc),
+        literals: Items::new(alloc),
+    }
+}
+
+fn declare(parts: &mut FileParts, entity: Entity, role: Role) -> Result<(), AllocError> {
+    parts.declarations.push(FileDeclaration {
+        entity,
+        place: HERE,
+        role,
+    })
+}
+
+/// Adds the object `n` and its declaration.
+fn add_object(parts: &mut FileParts) -> Result<(), AllocError> {
+    parts.objects.push(Object {
         name: 0,
         type_id: 6,
         own: false,
         initialised: false,
         placed: Some(HERE),
     })?;
-    let mut routines = Vec::new(alloc);
-    routines.push(Routine {
+    declare(parts, N, Role::Tentative)
+}
+
+/// Adds the function `main`, its definition and the use of `n` in it.
+fn add_main(alloc: Global, parts: &mut FileParts, offset: u32) -> Result<(), AllocError> {
+    parts.routines.push(Routine {
         name: 1,
         type_id: 9,
         own: false,
         defined: true,
         library: None,
     })?;
-    let [n, main] = entities();
-    let mut declarations = Vec::new(alloc);
-    declarations.push(FileDeclaration {
-        entity: n,
+    declare(parts, MAIN, Role::Definition)?;
+    parts.functions.push(main_body(alloc, offset)?)?;
+    parts.uses.push(Use {
+        entity: N,
         place: HERE,
-        role: Role::Tentative,
-    })?;
-    declarations.push(FileDeclaration {
-        entity: main,
-        place: HERE,
-        role: Role::Definition,
-    })?;
-    let mut functions = Vec::new(alloc);
-    functions.push(main_body(alloc, offset)?)?;
-    let mut uses = Vec::new(alloc);
-    uses.push(Use {
-        entity: n,
-        place: HERE,
-    })?;
-    let mut names = Vec::new(alloc);
-    names.push(name(alloc, other)?)?;
-    names.push(name(alloc, b"main")?)?;
-    Ok(FileParts {
-        shapes: shapes(alloc)?,
-        structures: Items::new(alloc),
-        components: Items::new(alloc),
-        objects: Items::from_vec(objects),
-        routines: Items::from_vec(routines),
-        declarations: Items::from_vec(declarations),
-        contents: Items::new(alloc),
-        functions: Items::from_vec(functions),
-        uses: Items::from_vec(uses),
-        names: Items::from_vec(names),
-        literals: Items::new(alloc),
     })
 }
 
+fn fill(alloc: Global, parts: &mut FileParts, offset: u32, other: &[u8]) -> Result<(), AllocError> {
+    add_shapes(&mut parts.shapes)?;
+    add_object(parts)?;
+    add_main(alloc, parts, offset)?;
+    add_name(alloc, &mut parts.names, other)?;
+    add_name(alloc, &mut parts.names, b"main")
+}
+
+/// Whether the file is sound whose object is read so many bytes behind its start, and has this name.
+fn is_file_sound(alloc: Global, offset: u32, other: &[u8]) -> Result<bool, AllocError> {
+    let mut parts = Box::new(alloc, empty_file(alloc))?;
+    fill(alloc, &mut parts, offset, other)?;
+    Ok(matches!(is_sound(alloc, &parts), Ok(true)))
+}
+
 fn holds(alloc: Global, offset: u32, other: &[u8]) -> bool {
-    match file(alloc, offset, other) {
-        Ok(parts) => matches!(is_sound(alloc, &parts), Ok(true)),
-        Err(_) => false,
-    }
+    matches!(is_file_sound(alloc, offset, other), Ok(true))
 }
 
 #[test]

@@ -17,7 +17,7 @@ use crate::converting::{convert, fits};
 use dae_base::Place;
 use dae_program::Expression;
 use dae_tree::Name;
-use dae_types_folding::Value;
+use dae_types_folding::{Value, boxed};
 use dae_types_kinds::{
     CheckError, Entity, LibraryFunction, Rule, Shape, is_printf, library_of, parameters_of,
     result_of, routine_type, word_for,
@@ -99,7 +99,7 @@ fn passed(
     place: Place,
     x: Value,
     type_id: Option<usize>,
-) -> Result<Expression, CheckError>
+) -> Result<Box<Expression>, CheckError>
     ensures { MakesTree result (passed place (tables checker.now) (view_value x) type_id) }
 {
     match type_id {
@@ -132,7 +132,7 @@ pub fn add_argument(
         return Err(broken(Rule::StructureValue, place));
     }
     let argument = passed(checker, place, x, type_id)?;
-    done.push(argument)?;
+    done.push(Box::into_inner(argument))?;
     Ok(done)
 }
 
@@ -220,21 +220,21 @@ fn call_tree(
     function: u32,
     library: Option<LibraryFunction>,
     arguments: Vec<Expression>,
-) -> Result<Expression, CheckError>
+) -> Result<Box<Expression>, CheckError>
     ensures { MakesTree result (call_tree place function library (views arguments)) }
 {
     match library {
         Some(LibraryFunction::Putchar) => {
-            let argument = Box::new(alloc, first_of(arguments))?;
-            Ok(Expression::Putchar(place, argument))
+            let argument = boxed(alloc, first_of(arguments))?;
+            boxed(alloc, Expression::Putchar(place, argument))
         }
         Some(LibraryFunction::Exit) => {
-            let argument = Box::new(alloc, first_of(arguments))?;
-            Ok(Expression::Exit(place, argument))
+            let argument = boxed(alloc, first_of(arguments))?;
+            boxed(alloc, Expression::Exit(place, argument))
         }
-        Some(LibraryFunction::Abort) => Ok(Expression::Abort(place)),
-        Some(LibraryFunction::Printf) => Ok(routine_call(place, function, arguments)),
-        None => Ok(routine_call(place, function, arguments)),
+        Some(LibraryFunction::Abort) => boxed(alloc, Expression::Abort(place)),
+        Some(LibraryFunction::Printf) => { boxed(alloc, routine_call(place, function, arguments)) }
+        None => boxed(alloc, routine_call(place, function, arguments)),
     }
 }
 

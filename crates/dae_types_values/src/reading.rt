@@ -11,7 +11,7 @@ ghost use Rattle.dae_types_values.specs.Results.{GivesValue, one};
 
 use dae_base::Place;
 use dae_program::Expression;
-use dae_types_folding::{Value, load_kind};
+use dae_types_folding::{Value, boxed, load_kind};
 use dae_types_kinds::{
     Addressing, Category, CheckError, Known, Rule, Shape, UNSIGNED_ID, is_indirect,
 };
@@ -46,9 +46,9 @@ fn read(
             })
         }
         shape => {
-            let address = Box::new(checker.alloc, x.tree)?;
             let indirect = is_indirect(addressing);
-            let tree = Expression::Read(place, load_kind(shape), indirect, address);
+            let tree = Expression::Read(place, load_kind(shape), indirect, x.tree);
+            let tree = boxed(checker.alloc, tree)?;
             Ok(Value::plain(tree, x.type_id))
         }
     }
@@ -99,7 +99,8 @@ pub fn sizeof(checker: &Checker, place: Place, type_id: usize) -> Result<Value, 
     ensures { GivesValue checker.now result (sizeof_at place (pure type_id)) checker.now }
 {
     if checker.is_complete(type_id) {
-        Ok(Value::number(checker.layout_at(type_id).size, UNSIGNED_ID))
+        let size = checker.layout_at(type_id).size;
+        Value::number(checker.alloc, size, UNSIGNED_ID)
     } else {
         Err(broken(Rule::Incomplete, place))
     }

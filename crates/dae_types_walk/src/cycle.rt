@@ -34,7 +34,9 @@ pub fn expression(checker: &mut Checker, e: &Expression) -> Result<Value, CheckE
 {
     match e {
         Expression::Identifier(name) => dae_types_values::name(checker, *name),
-        Expression::Constant(_, constant) => Ok(dae_types_values::constant_number(*constant)),
+        Expression::Constant(_, constant) => {
+            dae_types_values::constant_number(checker.alloc, *constant)
+        }
         Expression::Literal(_, number) => dae_types_values::literal(checker, *number),
         Expression::Parenthesised(_, a) => expression(checker, a),
         Expression::Index(_, _, _) => subscript(checker, e),

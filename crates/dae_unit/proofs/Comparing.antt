@@ -9,7 +9,7 @@ use Rattle.std.specs.List.{AllByRecursion}
 use Rattle.std.specs.Map.{lookup}
 use Rattle.std.specs.Prelude.{nat_eq}
 use Rattle.std.specs.Str.{bytes_eq}
-use Rattle.dae_base.proofs.Laws.{and_false}
+use Rattle.dae_base.proofs.Laws.{beq_same, and_false}
 use Rattle.dae_types_kinds.specs.declared.tables.Component.{Component}
 use Rattle.dae_types_kinds.specs.declared.types.Shape.{Shape}
 use Rattle.dae_types_kinds.specs.declared.types.Shape.TheVariants as shape
@@ -91,19 +91,13 @@ agrees_further (suc k) (suc j) f g c h e =
 
 -- ---- what is known
 
-tests_same : (x y : Bool) → beq x y ≡ true → x ≡ y
-tests_same true true h = refl
-tests_same false false h = refl
-tests_same true false h = absurd (false≢true h)
-tests_same false true h = absurd (false≢true h)
-
 couples_same : (c d : Couple) → same_couple c d ≡ true → c ≡ d
 couples_same c d h =
     let a = and_parts (beq c.structures d.structures) (beq c.behind d.behind && (nat_eq c.left d.left && nat_eq c.right d.right)) h in
     let b = and_parts (beq c.behind d.behind) (nat_eq c.left d.left && nat_eq c.right d.right) a.1 in
     let e = and_parts (nat_eq c.left d.left) (nat_eq c.right d.right) b.1 in
-    let structures : c.structures ≡ d.structures = tests_same c.structures d.structures a.0 in
-    let behind : c.behind ≡ d.behind = tests_same c.behind d.behind b.0 in
+    let structures : c.structures ≡ d.structures = beq_same c.structures d.structures a.0 in
+    let behind : c.behind ≡ d.behind = beq_same c.behind d.behind b.0 in
     let left : c.left ≡ d.left = grind (arith, nat_tests, e.0) in
     let right : c.right ≡ d.right = grind (arith, nat_tests, e.1) in
     λ i. record { structures = structures i; behind = behind i; left = left i; right = right i }

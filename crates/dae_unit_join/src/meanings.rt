@@ -1,7 +1,6 @@
 // What the numbers of each file mean.
 
-ghost use Rattle.std.specs.Prelude.{◌≡◌, ◌<◌, ◌≤◌, ◌^◌, ◌++◌, ◌∷◌, [], IfOk, IfErr, OnOk, length, take, drop, slice_index};
-ghost use Rattle.dae_unit.specs.declared.errors.JoinError.TheVariants.{Memory};
+ghost use Rattle.std.specs.Prelude.{◌≡◌, ◌<◌, ◌≤◌, ◌^◌, ◌++◌, ◌∷◌, [], IfOk, OnOk, length, take, drop, slice_index};
 ghost use Rattle.dae_unit.specs.Identities.{IsIndexed};
 ghost use Rattle.dae_unit.specs.Meanings.{object_place, object_places, body_rows, bodies_of, function_number, function_numbers, main_from, links_in, links_of, functions_in, functions_from};
 
@@ -10,7 +9,7 @@ use dae_program::{Function, Links};
 use dae_types_file_plans::{FileDeclaration, Role};
 use dae_types_kinds::{Entity, Object, Routine};
 use dae_types_typed::{FileParts, TypedFile, TypedFunction};
-use dae_unit::{FileRow, JoinError, NumberedRows, external_name, is_main, number_of, same_name};
+use dae_unit::{FileRow, NumberedRows, external_name, is_main, number_of, same_name};
 use std::alloc::{AllocError, Global};
 
 /// Declarations that give room, and the places of objects and literals.
@@ -242,17 +241,17 @@ fn push_functions(
     Ok(())
 }
 
-/// The functions of the program, in the order of the files and of the text, where there are fewer than 2^32 files.
-#[tactic(auto, using(crate::proofs::Behind::files_behind))]
-pub fn functions_of(alloc: Global, files: Vec<TypedFile>) -> Result<Vec<Function>, JoinError>
-    ensures ok { IfOk result (λ functions. functions.items ≡ functions_from [] 0 files.items) }
-    ensures err { IfErr result (λ e. e ≡ Memory) }
+/// The functions of the program, in the order of the files and of the text.
+#[tactic(auto, using(crate::proofs::Behind::further_file))]
+pub fn functions_of(alloc: Global, files: Vec<TypedFile>) -> Result<Vec<Function>, AllocError>
+    requires { length files.items < 2 ^ 32 }
+    ensures { IfOk result (λ functions. functions.items ≡ functions_from [] 0 files.items) }
 {
     let mut functions = Vec::new(alloc);
     let mut number: u32 = 0;
     for file in files {
         push_functions(&mut functions, number, file.into_parts().functions)?;
-        number = number.checked_add(1).ok_or(JoinError::Memory)?;
+        number = number.saturating_add(1);
     }
     Ok(functions)
 }

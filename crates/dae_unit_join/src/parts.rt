@@ -1,8 +1,7 @@
 // What files join to: what the memory holds, what numbers mean, and the functions.
 
 ghost use Rattle.std.specs.Prelude.{◌≡◌, ◌<◌, ◌^◌, [], IfOk, IfErr, length};
-ghost use Rattle.dae_unit.specs.declared.errors.JoinError.TheVariants.{Memory};
-ghost use Rattle.dae_unit.specs.Meanings.{links_of};
+ghost use Rattle.dae_unit.specs.Meanings.{bodies_of, links_of};
 ghost use Rattle.dae_unit_join.specs.Joined.{IsMadeOf, Joins, IsRefused};
 ghost use Rattle.dae_unit.specs.Placing.{object_layouts, end_from, first_place};
 
@@ -72,18 +71,16 @@ fn make(
     placed: &[FileRow],
     places: &[u32],
     frames: u32,
-) -> Result<ProgramParts, JoinError>
-    ensures ok { IfOk result
+) -> Result<ProgramParts, AllocError>
+    requires files { length files.items < 2 ^ 32 }
+    requires functions { length (bodies_of files.items) < 2 ^ 32 }
+    ensures { IfOk result
         (λ p. IsMadeOf files.items placed.now places.now
         (end_from first_place (object_layouts files.items [] placed.now)) frames p) }
-    ensures err { IfErr result (λ e. e ≡ Memory) }
 {
     let end = objects_end(alloc, files.as_slice(), placed)?;
     let bodies = bodies_of(alloc, files.as_slice())?;
     let main = main_of(files.as_slice(), bodies.as_slice());
-    if bodies.len() > u32::MAX as usize {
-        return Err(JoinError::Memory);
-    }
     let links = make_links(alloc, files.as_slice(), placed, places, bodies.as_slice())?;
     let content = content_of(alloc, files.as_slice(), links.as_slice(), end)?;
     let functions = functions_of(alloc, files)?;
@@ -103,6 +100,8 @@ pub fn join_parts(
     files: Vec<TypedFile>,
     memory: u32,
 ) -> Result<ProgramParts, JoinError>
+    requires files { length files.items < 2 ^ 32 }
+    requires functions { length (bodies_of files.items) < 2 ^ 32 }
     ensures ok { IfOk result (λ p. Joins files.items memory p) }
     ensures err { IfErr result (IsRefused files.items memory) }
 {
@@ -117,5 +116,6 @@ pub fn join_parts(
     let places = places_of(alloc, rooms.as_slice())?;
     let places = words_of(alloc, places.as_slice())?;
     let frames = frames as u32;
-    make(alloc, files, placed.as_slice(), places.as_slice(), frames)
+    let parts = make(alloc, files, placed.as_slice(), places.as_slice(), frames)?;
+    Ok(parts)
 }

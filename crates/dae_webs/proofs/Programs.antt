@@ -15,10 +15,11 @@ use Rattle.dae_ir.specs.Scope.{IsScoped, FunctionIn, IsMain, TakesArguments}
 use Rattle.dae_ir.specs.SetFirst.{IsFunctionSetFirst, parameters_set}
 use Rattle.dae_ir.specs.declared.form.Function.{Function}
 use Rattle.dae_ir.specs.declared.form.Ir.{Ir}
+use Rattle.dae_ir.proofs.Laws.{KeepsArguments}
 use Rattle.dae_webs.specs.Forms.{IsRenamedOrSame, AreRenamedFunctions, IsRenamingOf, HaveSameResult, HasSameAccess, KeepsFormExactly, FormsAreRenamed}
 use Rattle.dae_webs.proofs.Simulation.{EndsSame, SameAt, SameOver, Renamer, calls_same}
 use Rattle.dae_webs.proofs.Accesses.{classes_by_webs, function_kept, function_loads, function_conditions}
-use Rattle.dae_webs.proofs.Scoping.{KeepsArguments, names_in, function_stays, function_closes, function_never}
+use Rattle.dae_webs.proofs.Scoping.{names_in, function_stays, function_closes, function_never}
 use Rattle.dae_webs.proofs.Ordering.{first_kept}
 use Rattle.dae_webs.proofs.Staying.{staying}
 

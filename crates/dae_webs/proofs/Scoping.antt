@@ -15,17 +15,13 @@ use Rattle.dae_ir.specs.declared.form.Check.TheVariants.{Place as Good, Zero, Ro
 use Rattle.dae_ir.specs.declared.form.Function.{Function}
 use Rattle.dae_ir.specs.declared.form.Item.{Item}
 use Rattle.dae_ir.specs.declared.form.Item.TheVariants.{Assign, Load, Store, Print, Expect, Break, Continue, Call, Return, Halt}
+use Rattle.dae_ir.proofs.Laws.{KeepsArguments}
 use Rattle.dae_webs.specs.Current.{Current, own_webs}
 use Rattle.dae_webs.specs.Renamed.{Starts, variable_set, number_after, number_behind, web_set, webs_after, renamed_operand, renamed_operands, renamed_test, renamed_value, renamed_item, renamed_code}
 use Rattle.dae_webs.specs.Known.{Owns, IsDefinedNext, IsKnown}
 use Rattle.dae_webs.proofs.Inside.{in_first, in_second, in_rest}
 use Rattle.dae_webs.proofs.Owning.{IsOf, AreOwned, owned_both, owned_second, owned_rest, owned_start, written_owned, set_owned, owned_next}
 use Rattle.dae_webs.proofs.Simulation.{Renamer, same_length, not_zero}
-
--- functions have as many parameters, and are as many
-pub record KeepsArguments (fs gs : List Function) : Type 0 where
-  pub count : length gs ≡ length fs
-  pub takes : (g count : ℕ) → TakesArguments (slice_get fs g) count → TakesArguments (slice_get gs g) count
 
 module _ (fs gs : List Function) (keeps : KeepsArguments fs gs) (own limit : ℕ) (owner : ℕ → ℕ) (some : 0 < own) (few : own ≤ limit) (kept : (v : ℕ) → v < own → owner v ≡ v)
     (owns : Owns) (owned : (u v : ℕ) → owns u v ≡ true → IsOf owner limit u v) (b : Starts) where

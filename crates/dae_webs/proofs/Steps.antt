@@ -1,16 +1,14 @@
 -- Statements are walked over one after the other.
-use Rattle.std.proofs.Common.{◌≡◌, ℕ, zero, suc, ◌+◌, ◌<◌, ◌≤◌, true, List, [], ◌∷◌, ◌++◌, length, drop, drop_of_length-le, get_or, set, Option, refl, ap, sym, ◌∙◌, subst, arith}
+use Rattle.std.proofs.Common.{◌≡◌, ℕ, zero, suc, ◌+◌, ◌<◌, ◌≤◌, true, List, [], ◌∷◌, ◌++◌, length, drop, get_or, set, Option, refl, ap, sym, ◌∙◌, subst, arith}
 use Rattle.std.specs.Prelude.{Vec, IfOk, Result, Ok, Err}
 use Rattle.std.specs.declared.alloc.Global.{Global}
 use Rattle.dae_base.specs.declared.Place.{Place}
-use Rattle.dae_base.proofs.Laws.{drop_at}
-use Rattle.dae_ir.specs.Code.{Done}
-use Rattle.dae_ir.specs.Form.{Form, before, form_of}
+use Rattle.dae_ir.specs.Form.{Form, form_of}
 use Rattle.dae_ir.specs.Classes.{has_test}
 use Rattle.dae_ir.specs.declared.form.Test.{Test}
 use Rattle.dae_ir.specs.declared.form.Statement.{Statement}
 use Rattle.dae_ir.specs.declared.form.Statement.TheVariants as statement
-use Rattle.dae_ir.proofs.Laws.{before_if, before_loop}
+use Rattle.dae_ir.proofs.Laws.{before_if, before_loop, rest, rest_one, rest_end, all_before, before_end, form_before}
 use Rattle.dae_webs.specs.declared.plan.NotRenamed.{NotRenamed}
 use Rattle.dae_webs.specs.declared.plan.WebPlan.{WebPlan}
 use Rattle.dae_webs.specs.declared.plan.Renaming.{Renaming}
@@ -19,17 +17,6 @@ use Rattle.dae_webs.specs.Renamed.{Starts, number_behind, without_started, witho
 use Rattle.dae_webs.specs.Known.{IsKnown}
 use Rattle.dae_webs.specs.Planned.{starts_in, owns_in, current_in, StatementForgets, ListForgets, renamed_from, IsKnownFrom, webs_from, StatementRenamed, ListRenamed}
 use Rattle.dae_webs.proofs.Inside.{in_first, in_second, in_rest}
-
--- ---- lists
-
-abbrev rest : ℕ → List Statement → Form
-rest i ss = form_of (drop i ss)
-
-rest_one : (ss : List Statement) (i : ℕ) (s : Statement) → i < length ss → s ≡ get_or ss i s → rest i ss ≡ before s (rest (i + 1) ss)
-rest_one ss i s lt is = ap form_of (drop_at ss i s lt is)
-
-rest_end : (ss : List Statement) (i : ℕ) → length ss ≤ i → rest i ss ≡ Done
-rest_end ss i le = ap form_of (drop_of_length-le ss {i = i} le)
 
 -- a write past the end
 pub set_past : (m : Current) (v : ℕ) (o : Option ℕ) → length m ≤ v → set m v o ≡ m
@@ -145,19 +132,6 @@ module _ (plan : WebPlan) (old : Renaming) (w1 w3 w5 : Vec (Option ℕ) Global) 
       webs = λ k. ap (λ (c : Form). webs_behind b n m c) (before_loop place p q k) ∙ sym (rest_webs k);
       number = λ k. ap (λ (c : Form). number_behind n c) (before_loop place p q k) ∙ ap (λ (i : ℕ). number_behind i k) (sym behind_is);
     }
-
--- the form of statements, and then k
-abbrev pub all_before : List Statement → Form → Form
-all_before [] k = k
-all_before (s ∷ ss) k = before s (all_before ss k)
-
-before_end : (xs : List Statement) (s : Statement) (k : Form) → all_before (xs ++ s ∷ []) k ≡ all_before xs (before s k)
-before_end [] s k = refl
-before_end (x ∷ xs) s k = ap (before x) (before_end xs s k)
-
-form_before : (xs : List Statement) → form_of xs ≡ all_before xs Done
-form_before [] = refl
-form_before (x ∷ xs) = ap (before x) (form_before xs)
 
 -- the first i statements are renamed
 pub record RenamedTo (plan : WebPlan) (ss : List Statement) (i : ℕ) (old now : Renaming) (out : List Statement) : Type 0 where

@@ -200,7 +200,7 @@ fn find_in_statement(
     }
 }
 
-// Which definitions start a web, among the variables in question.
+// Which definitions start a web. The function is gone through once for each 64 variables that are set again.
 fn mark_starts(
     alloc: Global,
     again: &[bool],
@@ -213,6 +213,9 @@ fn mark_starts(
     }
     let mut first = 0;
     for _ in 0..again.len() / 64 + 1 {
+        if again.len() <= first {
+            return Ok(starts);
+        }
         let batch = next_batch(alloc, again, first)?;
         first = batch.rest;
         let mut finding = Finding {

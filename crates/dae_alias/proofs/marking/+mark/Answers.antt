@@ -1,8 +1,10 @@
-use Rattle.std.proofs.Common.{◌≡◌, List, inl, inr, length, sym, subst, arith}
-use Rattle.dae_ir.specs.declared.form.Statement.{Statement}
+use Rattle.std.proofs.Common.{◌≡◌, List, inl, inr, length, sym, subst, arith, rules}
+use Rattle.dae_ir.specs.declared.form.Statement.{Statement, the_lemmas}
 use Rattle.dae_alias.specs.declared.walking.Walk.{Walk}
 use Rattle.dae_alias.specs.Marking.{Marks, MarksAll}
+use Rattle.dae_alias.specs.Meeting.{known_in}
 use Rattle.dae_alias.proofs.Marks.{marked_all, marked_next, if_marks, loop_marks}
+use Rattle.dae_alias.proofs.Sets.{further_seldom, still_seldom}
 use Rattle.dae_alias.proofs.marking.+mark.Goals as goal
 
 pub mark_statement-returns-in_ok-mark_item-in-Simple :
@@ -23,16 +25,31 @@ mark_statement-returns-in_ok-mark_statements-in-If-2 t c =
     let count : c.len-walk.result ≡ length c.mark_statements-in-If.new.marks.items = omega (arith, n, o) in
     elim c.in-If.is [
       | inl i ↦ subst (λ (s : Statement). Marks s old new c.args.marks.now.items c.mark_statements-in-If.new.marks.items) (sym i.2)
-          (if_marks old new c.args.marks.now.items c.mark_statements.new.marks.items c.mark_statements-in-If.new.marks.items w.first w.second first second c.requires c.begin_again.ensures.known c.begin_again.ensures.held count i.0 i.1)
+          (if_marks old new c.args.marks.now.items c.mark_statements.new.marks.items c.mark_statements-in-If.new.marks.items w.first w.second first second c.requires.at c.begin_again.ensures.known c.begin_again.ensures.held count i.0 i.1)
       | inr i ↦ subst (λ (s : Statement). Marks s old new c.args.marks.now.items c.mark_statements-in-If.new.marks.items) (sym i.1)
-          (loop_marks old new c.args.marks.now.items c.mark_statements.new.marks.items c.mark_statements-in-If.new.marks.items w.first w.second first second c.requires c.begin_again.ensures.known c.begin_again.ensures.held count i.0)
+          (loop_marks old new c.args.marks.now.items c.mark_statements.new.marks.items c.mark_statements-in-If.new.marks.items w.first w.second first second c.requires.at c.begin_again.ensures.known c.begin_again.ensures.held count i.0)
     ]
 
 pub mark_statements-loop-statement-preserved : goal.mark_statements-loop-statement-preserved
 mark_statements-loop-statement-preserved t c =
-    marked_next c.args.statements.now c.args.marks.now.items c.loop-statement.statement-index c.statement-item.result c.loop-statement.walk c.mark_statement.new.walk c.loop-statement.marks.items c.mark_statement.new.marks.items
-    c.loop-statement-test.true c.statement-item.is c.loop-statement.invariant c.in_ok-mark_statement.ensures
+    let so_far = c.loop-statement.invariant in let one = c.in_ok-mark_statement.ensures in
+    record {
+      marked = marked_next c.args.statements.now c.args.marks.now.items c.loop-statement.statement-index c.statement-item.result c.loop-statement.walk c.mark_statement.new.walk c.loop-statement.marks.items c.mark_statement.new.marks.items
+          c.loop-statement-test.true c.statement-item.is so_far.marked one;
+      seldom = further_seldom (known_in c.loop-statement.walk) (known_in c.mark_statement.new.walk) c.loop-statement.statement-index so_far.seldom one.once;
+    }
+
+pub mark_statements-mark_statement-requires : goal.mark_statements-mark_statement-requires
+mark_statements-mark_statement-requires t c =
+    let so_far = c.loop-statement.invariant in let marked = so_far.marked in (
+      search (rules, the_lemmas),
+      record {
+        at = marked.at;
+        seldom = still_seldom (known_in c.loop-statement.walk) c.loop-statement.statement-index (length c.args.statements.now) so_far.seldom c.loop-statement-test.true (omega arith);
+      },
+    )
 
 pub mark_statements-returns : goal.mark_statements-returns
 mark_statements-returns t c =
-    marked_all c.args.statements.now c.args.marks.now.items c.loop-statement.statement-index c.loop-statement.walk c.loop-statement.marks.items c.loop-statement-test.false c.loop-statement.invariant
+    let so_far = c.loop-statement.invariant in
+    marked_all c.args.statements.now c.args.marks.now.items c.loop-statement.statement-index c.loop-statement.walk c.loop-statement.marks.items c.loop-statement-test.false so_far.marked

@@ -1,4 +1,5 @@
-use Rattle.std.proofs.Common.{List, Option, ℕ, Bool, subst}
+use Rattle.std.proofs.Common.{List, Option, ℕ, Bool, subst, arith}
+use Rattle.std.proofs.lemmas.Bool.Decides.{nat_tests}
 use Rattle.dae_ir.specs.declared.form.Statement.{Statement}
 use Rattle.dae_alias.specs.Turning.{holders_of, IsTurned}
 use Rattle.dae_alias.specs.Marking.{AreRepeated}
@@ -6,8 +7,25 @@ use Rattle.dae_alias.specs.Tables.{IsTable}
 use Rattle.dae_alias.proofs.Whole.{reused_function}
 use Rattle.dae_alias.proofs.reusing.reuse_in_function.Goals as goal
 
-pub returns : goal.returns
-returns c =
+pub returns-then-len-clause-many : goal.returns-then-len-clause-many
+returns-then-len-clause-many c = λ same.
+    let marked = subst (λ (xs : List Statement). AreRepeated xs c.in_ok-marks.marks.items) c.as_slice.ensures c.in_ok-marks.ensures in
+    let loads = marked.loads in let l = c.len.ensures in let o = c.in_ok-marks.marks.ok in let many = c.if-len.true in
+    grind (arith, nat_tests)
+
+pub number_marked-requires : goal.number_marked-requires
+number_marked-requires c =
+    let l = c.len.ensures in let o = c.in_ok-marks.marks.ok in let few = c.if-len.false in
+    rw c.deref.ensures.value (omega arith)
+
+pub turn_statements-requires : goal.turn_statements-requires
+turn_statements-requires c =
+    let marked = subst (λ (xs : List Statement). AreRepeated xs c.in_ok-marks.marks.items) c.as_slice.ensures c.in_ok-marks.ensures in
+    let loads = marked.loads in let o = c.in_ok-marks.marks.ok in
+    rw c.as_slice-2.ensures (omega arith)
+
+pub returns-clause-reused : goal.returns-clause-reused
+returns-clause-reused c =
     let f = c.args.function in
     let marks : List Bool = c.in_ok-marks.marks.items in
     let table = c.in_ok-table.table in

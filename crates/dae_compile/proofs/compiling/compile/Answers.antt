@@ -1,7 +1,7 @@
 use Rattle.std.proofs.Common.{refl}
 use Rattle.dae_accept.specs.Read.{texts_in}
 use Rattle.dae_compile.proofs.Accesses.{keeps_accesses}
-use Rattle.dae_compile.proofs.Small.{never_deep, never_long, small}
+use Rattle.dae_compile.proofs.Small.{few_functions, few_variables, never_deep, never_long, small}
 use Rattle.dae_compile.proofs.compiling.compile.Goals as goal
 
 pub returns-in-Ok-clause-compiled : goal.returns-in-Ok-clause-compiled
@@ -25,6 +25,14 @@ returns-in-Ok-clause-compiled c =
       };
       report = made.report;
     }
+
+pub compile_program-requires-clause-functions : goal.compile_program-requires-clause-functions
+compile_program-requires-clause-functions c =
+    few_functions c.functions_are_counted.ensures c.read_are_within.ensures (texts_in c.args.texts.now) c.in_ok-program.program c.in_ok-program.ensures.files
+
+pub compile_program-requires-clause-variables : goal.compile_program-requires-clause-variables
+compile_program-requires-clause-variables c =
+    few_variables c.definitions_are_short.ensures c.frames_are_within.ensures (texts_in c.args.texts.now) c.in_ok-program.program c.in_ok-program.ensures.files
 
 pub unreachable-requires : goal.unreachable-requires
 unreachable-requires c =

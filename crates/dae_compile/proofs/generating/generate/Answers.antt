@@ -4,7 +4,14 @@ use Rattle.dae_ir.specs.declared.stream.Class.{Class}
 use Rattle.dae_report.specs.Reports.{report_of}
 use Rattle.dae_compile.proofs.Private.{needs_too_much, private_within}
 use Rattle.dae_compile.proofs.Calls.{short_code, too_long}
+use Rattle.dae_compile.proofs.Counting.{uncounted}
 use Rattle.dae_compile.proofs.generating.generate.Goals as goal
+
+pub returns-then-can_count-clause-err : goal.returns-then-can_count-clause-err
+returns-then-can_count-clause-err c = λ code. uncounted c.args.ir.now (sym c.can_count.ensures ∙ c.if-can_count.true)
+
+pub count-requires : goal.count-requires
+count-requires c = sym c.can_count.ensures ∙ c.if-can_count.false
 
 pub returns-clause-compiled : goal.returns-clause-compiled
 returns-clause-compiled c =

@@ -1,4 +1,4 @@
-use Rattle.std.proofs.Common.{◌≡◌, ℕ, List, length, refl, ap, sym, ◌∙◌, subst, arith}
+use Rattle.std.proofs.Common.{◌≡◌, ℕ, true, List, length, refl, ap, sym, ◌∙◌, subst, arith}
 use Rattle.std.specs.List.{AllByRecursion}
 use Rattle.std.proofs.lemmas.Result.{err_from_is_err_and}
 use Rattle.dae_ir.specs.Streams.{actions_of}
@@ -7,8 +7,11 @@ use Rattle.dae_select_walks.specs.Homes.{AreHomes, home_in}
 use Rattle.dae_select_walks.specs.Live.{function_lives}
 use Rattle.dae_select_walks.specs.declared.Home.{Home}
 use Rattle.dae_regalloc.specs.Given.{AreFew, IsRegister}
-use Rattle.dae_regalloc.specs.Seen.{AreBelow}
+use Rattle.dae_regalloc.specs.Seen.{AreBelow, can_number}
 use Rattle.dae_link.proofs.homes.layout_of.Goals as goal
+
+pub allocate-requires : goal.allocate-requires
+allocate-requires c = subst (λ (b : List Step). can_number (actions_of b) ≡ true) (sym c.as_slice.ensures) c.requires
 
 pub returns-clause-layout : goal.returns-clause-layout
 returns-clause-layout c =

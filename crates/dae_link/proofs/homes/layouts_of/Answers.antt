@@ -1,11 +1,19 @@
-use Rattle.std.proofs.Common.{◌≡◌, ◌+◌, ◌++◌, List, [], ◌∷◌, take, subst, sym, ap, ◌∙◌, arith}
+use Rattle.std.proofs.Common.{◌≡◌, ◌+◌, ◌++◌, List, [], ◌∷◌, length, take, refl, subst, sym, ap, ◌∙◌, arith}
+use Rattle.std.proofs.lemmas.Option.{slice_get_read}
 use Rattle.std.proofs.lemmas.List.{take_more, take_all}
 use Rattle.std.specs.List.{AllZip}
+use Rattle.dae_base.proofs.Laws.{passes_at}
 use Rattle.dae_ir.specs.declared.stream.StreamFunction.{StreamFunction}
 use Rattle.dae_select_calls.specs.declared.layouts.FunctionLayout.{FunctionLayout}
-use Rattle.dae_link.specs.Settled.{IsLayoutOf}
+use Rattle.dae_link.specs.Settled.{IsLayoutOf, is_numberable}
 use Rattle.dae_link.proofs.Settling.{zip_more}
 use Rattle.dae_link.proofs.homes.layouts_of.Goals as goal
+
+pub layout_of-requires : goal.layout_of-requires
+layout_of-requires c =
+    let fs = c.args.functions.now in
+    passes_at is_numberable fs c.loop-index.index c.index-functions-index.result c.requires
+    (slice_get_read fs (length fs) c.loop-index.index c.index-functions-index.result refl c.loop-index-test.true c.index-functions-index.is)
 
 pub loop-index-preserved : goal.loop-index-preserved
 loop-index-preserved c =

@@ -1,11 +1,15 @@
-use Rattle.std.proofs.Common.{◌-◌, ◌<◌, ◌^◌, List, inl, refl, subst, sym, ◌∙◌}
-use Rattle.std.specs.List.{AllByRecursion, AllZip}
+use Rattle.std.proofs.Common.{◌≡◌, ℕ, ◌-◌, ◌<◌, ◌^◌, true, List, inl, refl, subst, sym, ◌∙◌}
+use Rattle.std.specs.List.{AllByRecursion, AllZip, list_all}
 use Rattle.std.proofs.lemmas.Result.{err_from_is_err_and}
 use Rattle.dae_ir.specs.declared.stream.StreamFunction.{StreamFunction}
 use Rattle.dae_select_calls.specs.declared.layouts.FunctionLayout.{FunctionLayout}
-use Rattle.dae_link.specs.Settled.{IsLayoutOf, IsFrameWithin, HasAtMost}
+use Rattle.dae_link.specs.Residents.{AreResidents}
+use Rattle.dae_link.specs.Settled.{IsLayoutOf, IsFrameWithin, HasAtMost, is_numberable}
 use Rattle.dae_link.proofs.Settling.{zip_few, too_deep}
 use Rattle.dae_link.proofs.homes.unplaced_layouts.Goals as goal
+
+pub layouts_of-requires : goal.layouts_of-requires
+layouts_of-requires c = subst (λ (fs : List StreamFunction). list_all is_numberable fs ≡ true) (sym c.as_slice.ensures) c.requires
 
 pub largest_frame-largest-requires : goal.largest_frame-largest-requires
 largest_frame-largest-requires c =
@@ -46,4 +50,5 @@ returns-clause-layouts c =
       few = λ n some all. largest.ensures.few n some (subst (λ (xs : List FunctionLayout). AllByRecursion (IsFrameWithin n) xs) (sym same) all);
       private = words.0;
       low = words.1;
+      residents = subst (λ (xs : List FunctionLayout). AreResidents xs c.from_vec-2.result) (c.as_slice-4.ensures.value ∙ sym c.from_vec.ensures) (subst (λ (ns : List ℕ). AreResidents c.as_slice-4.result.now ns) (sym c.from_vec-2.ensures) c.in_ok-residents.ensures);
     }

@@ -6,8 +6,11 @@ use Rattle.dae_link.proofs.side.placed_layouts.Goals as goal
 pub finish_of-requires : goal.finish_of-requires
 finish_of-requires c = small_unplaced c.args.stream.now c.args.layouts.now c.requires.unplaced
 
-pub first_of-requires : goal.first_of-requires
-first_of-requires c = small_unplaced c.args.stream.now c.args.layouts.now c.requires.unplaced
+pub first_of-requires-clause-small : goal.first_of-requires-clause-small
+first_of-requires-clause-small c = small_unplaced c.args.stream.now c.args.layouts.now c.requires.unplaced
+
+pub first_of-requires-clause-brief : goal.first_of-requires-clause-brief
+first_of-requires-clause-brief c = c.requires.unplaced.residents.brief
 
 pub place-requires-clause-small : goal.place-requires-clause-small
 place-requires-clause-small c = small_unplaced c.args.stream.now c.args.layouts.now c.requires.unplaced

@@ -7,7 +7,7 @@ use Rattle.dae_select_calls.specs.Layouts.{plan_of, variables_of}
 use Rattle.dae_select.specs.declared.growing.PlacedWord.{PlacedWord}
 use Rattle.dae_link.specs.Sides.{HasUsesOf, IsCodeOf, at_places, code_at, opening_by, places_by}
 use Rattle.dae_link.proofs.Settling.{private_within}
-use Rattle.dae_link.proofs.Sizes.{functions_some}
+use Rattle.dae_link.proofs.Sizes.{functions_some, too_many_places}
 use Rattle.dae_link.proofs.Sided.{code_fits, code_long, code_short, code_made}
 use Rattle.dae_link.proofs.Registers.{registers_placed}
 use Rattle.dae_link.proofs.Used.{code_used}
@@ -19,6 +19,12 @@ encode_all-requires c =
 
 pub returns-then-len-clause-err : goal.returns-then-len-clause-err
 returns-then-len-clause-err c = λ same. (let t = c.if-len.true in let l = c.len.ensures in let s = functions_some c.args.stream.now.functions in omega arith)
+
+pub returns-then-are_numberable-clause-err : goal.returns-then-are_numberable-clause-err
+returns-then-are_numberable-clause-err c = λ same. too_many_places c.args.stream.now (sym c.are_numberable.ensures ∙ c.if-are_numberable.true)
+
+pub unplaced_layouts-requires : goal.unplaced_layouts-requires
+unplaced_layouts-requires c = sym c.are_numberable.ensures ∙ c.if-are_numberable.false
 
 pub returns-clause-code : goal.returns-clause-code
 returns-clause-code c =

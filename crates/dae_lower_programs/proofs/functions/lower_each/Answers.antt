@@ -1,16 +1,22 @@
-use Rattle.std.proofs.Common.{◌+◌, ℕ, refl, ap, subst, ◌∙◌}
+use Rattle.std.proofs.Common.{◌+◌, ℕ, refl, ap, subst, arith}
 use Rattle.dae_lower_formed.specs.Formed.{IsFunctionFormOf}
-use Rattle.dae_lower_programs.proofs.Lists.{first_forms, last_forms, next_forms}
+use Rattle.dae_lower_programs.proofs.Lists.{first_forms, last_forms, next_forms, parameters_at}
 use Rattle.dae_lower_programs.proofs.functions.lower_each.Goals as goal
 
 pub loop-f-init : goal.loop-f-init
 loop-f-init c = (refl, first_forms c.args.program.now c.args.functions.now c.new-forms.result.items c.new-forms.ensures.items)
 
+pub lower_function-requires-clause-parameters : goal.lower_function-requires-clause-parameters
+lower_function-requires-clause-parameters c = parameters_at c.args.functions.now c.loop-f.f-index c.f-item.result c.loop-f-test.true c.f-item.is c.requires.parameters
+
+pub overflow_add-number : goal.overflow_add-number
+overflow_add-number c = let same = c.loop-f.invariant.0 in omega (arith, same, c.loop-f-test.true, c.requires.few)
+
 pub loop-f-preserved : goal.loop-f-preserved
 loop-f-preserved c =
     let p = c.args.program.now in
     let i = c.loop-f.f-index in (
-      c.in_ok-number.ensures ∙ ap (λ n. n + 1) c.loop-f.invariant.0,
+      ap (λ n. n + 1) c.loop-f.invariant.0,
       next_forms p c.args.functions.now i c.f-item.result c.in_ok-form.form c.loop-f.forms.items c.push.new.self.items c.loop-f-test.true c.f-item.is c.loop-f.invariant.1
           (subst (λ (n : ℕ). IsFunctionFormOf p n c.f-item.result c.in_ok-form.form) c.loop-f.invariant.0 c.in_ok-form.ensures) c.in_ok-push.ensures.items,
     )

@@ -1,4 +1,4 @@
-use Rattle.std.proofs.Common.{◌≡◌, ℕ, Bool, ◌&&◌, not, nat_eq, if◌then◌else◌, List, Option, refl, ap, subst, ◌∙◌}
+use Rattle.std.proofs.Common.{◌≡◌, ◌<◌, ◌+◌, ◌^◌, ℕ, Bool, ◌&&◌, not, nat_eq, if◌then◌else◌, List, length, Option, refl, ap, sym, subst, ◌∙◌}
 use Rattle.dae_ir.specs.Code.{Done}
 use Rattle.dae_ir.specs.Form.{form_of}
 use Rattle.dae_ir.specs.declared.form.Check.TheVariants.{Frame}
@@ -7,12 +7,17 @@ use Rattle.dae_ir.specs.declared.form.Item.TheVariants.{Expect, Halt, Return}
 use Rattle.dae_ir.specs.declared.form.Operand.TheVariants.{Number}
 use Rattle.dae_lower.specs.Lowering.{checks, closed, emit, parameters_stored, statements, ◌≫◌}
 use Rattle.dae_lower_expressions.specs.Lowered.{Whole, links_in, state_of}
+use Rattle.dae_lower_programs.proofs.Lists.{below_word}
 use Rattle.dae_lower_programs.proofs.Wholes.{code_closed, parts_written}
 use Rattle.dae_lower_programs.specs.Invocations.{at_startup}
 use Rattle.dae_program.specs.Views.{view_statements}
 use Rattle.dae_program.specs.declared.program.Slot.{Slot}
 use Rattle.dae_program.specs.declared.statements.Statement.{Statement}
 use Rattle.dae_lower_programs.proofs.functions.lower_with.Goals as goal
+
+pub store_parameters-requires : goal.store_parameters-requires
+store_parameters-requires c =
+    subst (λ (xs : List (Option Slot)). 1 + length xs < 2 ^ 32) (sym c.as_slice.ensures) (below_word c.args.f.now c.requires c.see_word.ensures)
 
 pub returns : goal.returns
 returns c =
@@ -31,7 +36,7 @@ returns c =
     (subst (λ (ss : List Statement). Whole (statements l (view_statements ss)) d e tt) c.as_slice-2.ensures c.in_ok-make_statements.ensures) in
     record {
       name = c.in_ok-name.ensures ∙ c.as_str.ensures;
-      parameters = c.in_ok-parameters.ensures ∙ c.len.ensures;
+      parameters = c.count_of-parameters.ensures ∙ c.len.ensures;
       variables = c.next-variables.ensures ∙ w.next;
       frame = refl;
       body = ap form_of c.from_vec.ensures

@@ -36,11 +36,11 @@ make_statements-returns t c =
 
 pub make_statement-returns-in_ok-whole_effect-in-Evaluate : goal.make_statement-returns-in_ok-whole_effect-in-Evaluate
 make_statement-returns-in_ok-whole_effect-in-Evaluate t c =
-    rw (c.in-Evaluate.is) (last_whole ((ways (links_in c.args.none c.args.links.now) (view c.in-Evaluate.e)).effect nowhere) (state_of c.args.lowerer.now) (state_of c.whole_effect.new.self) tt c.in_ok-whole_effect-in-Evaluate.ensures)
+    rw (c.in-Evaluate.is) (last_whole ((ways (links_in c.args.none c.args.links.now) (view c.in-Evaluate.e.value)).effect nowhere) (state_of c.args.lowerer.now) (state_of c.whole_effect.new.self) tt (rw (c.deref.ensures) at (c.in_ok-whole_effect-in-Evaluate.ensures)))
 
 pub make_statement-returns-in_ok-initialise-in-Initialise : goal.make_statement-returns-in_ok-initialise-in-Initialise
 make_statement-returns-in_ok-initialise-in-Initialise t c =
-    rw (c.in-Initialise.is) (rw (c.deref.ensures.value) at (c.in_ok-initialise-in-Initialise.ensures))
+    rw (c.in-Initialise.is) (rw (c.deref-in-Initialise.ensures.value) at (c.in_ok-initialise-in-Initialise.ensures))
 
 pub make_statement-returns-in_ok-give_back-in-Return : goal.make_statement-returns-in_ok-give_back-in-Return
 make_statement-returns-in_ok-give_back-in-Return t c = rw (c.in-Return.is) (c.in_ok-give_back-in-Return.ensures)
@@ -79,13 +79,13 @@ make_statement-returns-in_ok-branch-in-If t c =
     let e = c.block-in-If.new.lowerer in
     let z = state_of (record { alloc = e.alloc; maker = c.branch-lowerer.new.self; later = e.later }) in
     let p = c.in-If.place in
-    let cond = (ways l (view c.in-If.e)).condition nowhere in
+    let cond = (ways l (view c.in-If.e.value)).condition nowhere in
     let yes = statements l (view_statements c.in-If.yes.items) in
     let no = statements l (view_statements c.in-If.no.items) in
     subst (λ (ss : tree.Statements). Whole (statements l ss) a z tt) (sym (ap (λ (s : Statement). statement_then s Done) c.in-If.is ∙ view_if p c.in-If.e c.in-If.yes c.in-If.no Done))
     (last_whole (λ n. branches p (cond n) yes no) a z tt
     (branches_whole p cond yes no a (state_of c.whole_condition.new.self) (state_of c.block.new.lowerer) (state_of e) z (condition_of c.in_ok-condition-in-If.condition) c.in_ok-holds-in-If.holds.items c.in_ok-fails-in-If.fails.items
-    c.in_ok-condition-in-If.ensures (rw (c.deref-in-If.ensures.value) at (c.in_ok-holds-in-If.ensures)) (rw (c.deref-in-If-2.ensures.value) at (c.in_ok-fails-in-If.ensures)) refl c.in_ok-branch-in-If.ensures))
+    (rw (c.deref-in-If.ensures) at (c.in_ok-condition-in-If.ensures)) (rw (c.deref-in-If-2.ensures.value) at (c.in_ok-holds-in-If.ensures)) (rw (c.deref-in-If-3.ensures.value) at (c.in_ok-fails-in-If.ensures)) refl c.in_ok-branch-in-If.ensures))
 
 pub make_statement-returns-in_ok-repeat-in-Loop : goal.make_statement-returns-in_ok-repeat-in-Loop
 make_statement-returns-in_ok-repeat-in-Loop t c =
@@ -117,11 +117,11 @@ make_statement-returns-in_ok-repeat-in-Do t c =
     let z = state_of (record { alloc = e.alloc; maker = c.repeat-in-Do.new.self; later = e.later }) in
     let p = c.in-Do.place in
     let body = statements l (view_statements c.in-Do.body.items) in
-    let step = leave_unless l p (view c.in-Do.test) in
+    let step = leave_unless l p (view c.in-Do.test.value) in
     subst (λ (ss : tree.Statements). Whole (statements l ss) a z tt) (sym (ap (λ (s : Statement). statement_then s Done) c.in-Do.is ∙ view_do p c.in-Do.body c.in-Do.test Done))
     (last_whole (λ n. loop p (body n) step) a z tt
     (loop_whole p body step a (state_of c.block-in-Do.new.lowerer) (state_of e) z c.in_ok-turn-in-Do.turn.items c.in_ok-after-in-Do.after.items
-    (rw (c.deref-in-Do.ensures.value) at (c.in_ok-turn-in-Do.ensures)) c.in_ok-after-in-Do.ensures refl c.in_ok-repeat-in-Do.ensures))
+    (rw (c.deref-in-Do.ensures.value) at (c.in_ok-turn-in-Do.ensures)) (rw (c.deref-in-Do-2.ensures) at (c.in_ok-after-in-Do.ensures)) refl c.in_ok-repeat-in-Do.ensures))
 
 pub make_statement-returns-in_ok-make_switch-in-Switch : goal.make_statement-returns-in_ok-make_switch-in-Switch
 make_statement-returns-in_ok-make_switch-in-Switch t c =
@@ -131,10 +131,10 @@ make_statement-returns-in_ok-make_switch-in-Switch t c =
     let p = c.in-Switch.place in
     let arms = arms_of c.in-Switch.arms.items in
     let x = c.in_ok-x-in-Switch.x in
-    let value = (ways l (view c.in-Switch.e)).value nowhere in
+    let value = (ways l (view c.in-Switch.e.value)).value nowhere in
     subst (λ (ss : tree.Statements). Whole (statements l ss) a z tt) (sym (ap (λ (s : Statement). statement_then s Done) c.in-Switch.is ∙ view_switch p c.in-Switch.e c.in-Switch.arms Done))
-    (last_whole (λ n. value n ≫ switch_on l p arms) a z tt (then_whole value (switch_on l p arms) a (state_of c.whole_value.new.self) z x tt c.in_ok-x-in-Switch.ensures
-    (rw (c.deref-in-Switch.ensures.value) at (c.in_ok-make_switch-in-Switch.ensures))))
+    (last_whole (λ n. value n ≫ switch_on l p arms) a z tt (then_whole value (switch_on l p arms) a (state_of c.whole_value.new.self) z x tt (rw (c.deref-in-Switch.ensures) at (c.in_ok-x-in-Switch.ensures))
+    (rw (c.deref-in-Switch-2.ensures.value) at (c.in_ok-make_switch-in-Switch.ensures))))
 
 pub make_switch-returns : goal.make_switch-returns
 make_switch-returns t c =

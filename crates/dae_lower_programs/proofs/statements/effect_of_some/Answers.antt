@@ -3,7 +3,7 @@ use Rattle.dae_lower_programs.proofs.Rows.{nothing_whole}
 use Rattle.dae_lower_programs.proofs.statements.effect_of_some.Goals as goal
 
 pub returns-in_ok-whole_effect-in-Some : goal.returns-in_ok-whole_effect-in-Some
-returns-in_ok-whole_effect-in-Some c = rw (c.in-Some.is) (c.in_ok-whole_effect-in-Some.ensures)
+returns-in_ok-whole_effect-in-Some c = rw (c.in-Some.is) (rw (c.deref.ensures) at (c.in_ok-whole_effect-in-Some.ensures))
 
 pub returns-in-None : goal.returns-in-None
 returns-in-None c = rw (c.in-None.is) (nothing_whole (state_of c.args.lowerer.now) tt)

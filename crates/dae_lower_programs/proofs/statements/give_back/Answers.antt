@@ -13,7 +13,7 @@ returns-in_ok-item-in-Some c =
     let b = state_of c.whole_value.new.self in
     let last = state_of (record { alloc = c.whole_value.new.self.alloc; maker = c.item.new.self; later = c.whole_value.new.self.later }) in
     let given = λ (x : Operand). emit (one c.args.place (Return x)) in
-    rw (c.in-Some.is) (then_whole ((ways (links_in c.args.none c.args.links.now) (view c.in-Some.e)).value nowhere) (λ x n. given x n ≫ λ u. skip) (state_of c.args.lowerer.now) b last c.in_ok-x-in-Some.x tt c.in_ok-x-in-Some.ensures
+    rw (c.in-Some.is) (then_whole ((ways (links_in c.args.none c.args.links.now) (view c.in-Some.e.value)).value nowhere) (λ x n. given x n ≫ λ u. skip) (state_of c.args.lowerer.now) b last c.in_ok-x-in-Some.x tt (rw (c.deref.ensures) at (c.in_ok-x-in-Some.ensures))
     (last_whole (given c.in_ok-x-in-Some.x) b last tt (leaf_whole (given c.in_ok-x-in-Some.x) b last tt refl c.in_ok-item-in-Some.ensures)))
 
 pub returns-in_ok-item-in-None : goal.returns-in_ok-item-in-None

@@ -1,6 +1,6 @@
 use Rattle.std.proofs.Common.{rules, ◌≡◌, List, ◌∷◌, Option, refl, ap, subst, ◌∙◌, Bool}
-use Rattle.dae_parse_states.specs.declared.frames.Frame.{Frame}
-use Rattle.dae_parse_states.specs.declared.frames.Frame.TheVariants as frame
+use Rattle.dae_parse_states.specs.Kept.{Frame}
+use Rattle.dae_parse_states.specs.Kept as frame
 use Rattle.dae_parse_states.specs.declared.frames.ExpressionFrame.{ExpressionFrame}
 use Rattle.dae_tree.specs.Trees.{Expression}
 use Rattle.dae_parse_grammar.specs.Frames as plain

@@ -1,6 +1,6 @@
 use Rattle.std.proofs.Common.{rules, ◌≡◌, List, ◌∷◌, Option, length, refl, sym, ap, subst, ◌∙◌, Bool}
-use Rattle.dae_parse_states.specs.declared.frames.Frame.{Frame}
-use Rattle.dae_parse_states.specs.declared.frames.Frame.TheVariants as frame
+use Rattle.dae_parse_states.specs.Kept.{Frame}
+use Rattle.dae_parse_states.specs.Kept as frame
 use Rattle.dae_parse_states.specs.declared.frames.StatementFrame.{StatementFrame}
 use Rattle.dae_tree.specs.Trees.{Expression, Specifiers, Declarator}
 use Rattle.dae_tree.specs.Names.{Names}
@@ -22,7 +22,7 @@ pub returns-in-ForBody : goal.returns-in-ForBody
 returns-in-ForBody c = λ b s h j k l m.
     let below = frames_of c.pop_statement.new.self in
     let q = subst (λ (fs : List Frame). ShowsStack fs s) (c.in-Some.ensures.stack ∙ ap (λ (f : StatementFrame). frame.Statement f ∷ below) c.in-ForBody.is) k.0 in
-    let i = popped_for_body c.in-ForBody.parts c.in-ForBody.step below (λ (u : List plain.Frame). (a : plain.Loop) × (e : Option Expression) × (t : List plain.Frame) × (u ≡ plain.awaits_statement (plain.for_body a e) ∷ t) × ShowsLoop c.in-ForBody.parts a × ShowsOptional c.in-ForBody.step e × ShowsStack below t) s q (λ a e t x0 x1 y. (a, e, t, refl, x0, x1, y)) in
+    let i = popped_for_body c.in-ForBody.parts c.in-ForBody.step below (λ (u : List plain.Frame). (a : plain.Loop) × (e : Option Expression) × (t : List plain.Frame) × (u ≡ plain.awaits_statement (plain.for_body a e) ∷ t) × ShowsLoop c.in-ForBody.parts.value a × ShowsOptional c.in-ForBody.step e × ShowsStack below t) s q (λ a e t x0 x1 y. (a, e, t, refl, x0, x1, y)) in
     let o = ap (λ (z : Scopes Bool). z.outside) c.in-Some.ensures.scope ∙ k.1 ∙ ap outside_stack i.3 in
     rw i.3 (let f = c.for_body.ensures b i.0 i.1 h i.4 i.5 i.2 (i.6, o) in search rules)
 

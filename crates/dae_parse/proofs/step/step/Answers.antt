@@ -66,5 +66,5 @@ returns-in-Testing c = λ d s shows.
 
 pub returns-in-Stepping : goal.returns-in-Stepping
 returns-in-Stepping c = λ d s shows.
-    let i = does_stepping c.in-Stepping.parts (λ (u : plain.Doing). (a : plain.Loop) × (u ≡ plain.stepping a) × ShowsLoop c.in-Stepping.parts a) d (subst (λ (g : Doing). ShowsDoing g d) c.in-Stepping.is shows) (λ a x0. (a, refl, x0)) in
+    let i = does_stepping c.in-Stepping.parts (λ (u : plain.Doing). (a : plain.Loop) × (u ≡ plain.stepping a) × ShowsLoop c.in-Stepping.parts.value a) d (subst (λ (g : Doing). ShowsDoing g d) c.in-Stepping.is shows) (λ a x0. (a, refl, x0)) in
     rw i.1 (λ stands holds bottom count. c.read_loop_step.ensures i.0 i.2 s stands)

@@ -2,7 +2,7 @@ use Rattle.std.proofs.Common.{◌≡◌, List, sym, ap, subst, ◌∙◌}
 use Rattle.dae_tree.specs.Marks.{Mark}
 use Rattle.dae_tree.specs.Names.{Names, has_typedef, with_declarator}
 use Rattle.dae_parse_grammar.specs.Machine.{item_given}
-use Rattle.dae_parse_states.specs.declared.frames.Frame.{Frame}
+use Rattle.dae_parse_states.specs.Kept.{Frame}
 use Rattle.dae_parse_states.specs.Frames.{is_allowed, ShowsStack}
 use Rattle.dae_parse_declarations.proofs.declarations.of_item.Goals as goal
 

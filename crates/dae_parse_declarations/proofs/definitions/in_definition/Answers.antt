@@ -5,8 +5,8 @@ use Rattle.dae_tree.specs.Statements.{spell_statement}
 use Rattle.dae_parse_grammar.specs.Machine.{defined}
 use Rattle.dae_parse_grammar.specs.Taken.{stack_taken}
 use Rattle.dae_parse_parts.specs.Scopes.{Scopes}
-use Rattle.dae_parse_states.specs.declared.frames.Frame.{Frame}
-use Rattle.dae_parse_states.specs.declared.frames.Frame.TheVariants as frame
+use Rattle.dae_parse_states.specs.Kept.{Frame}
+use Rattle.dae_parse_states.specs.Kept as frame
 use Rattle.dae_parse_states.specs.declared.frames.DeclarationFrame.{DeclarationFrame}
 use Rattle.dae_parse_states.specs.declared.frames.DeclarationFrame.TheVariants as declaration
 use Rattle.dae_parse_states.specs.Frames.{ShowsStack}

@@ -4,7 +4,7 @@ use Rattle.std.specs.Prelude.{IfOk}
 use Rattle.dae_tree.specs.Marks.{Mark, part, close_paren}
 use Rattle.dae_parse_grammar.specs.Frames.{of_parameter}
 use Rattle.dae_parse_grammar.specs.Machine.{declarator_given}
-use Rattle.dae_parse_states.specs.declared.frames.Frame.{Frame as Kept}
+use Rattle.dae_parse_states.specs.Kept.{Frame as Kept}
 use Rattle.dae_parse_states.specs.Frames.{ShowsStack}
 use Rattle.dae_parse_states.specs.States.{Follows}
 use Rattle.dae_parse_declarations.proofs.Inner.{names_bound}

@@ -1,19 +1,15 @@
-use Rattle.std.proofs.Common.{refl, ap, ◌∙◌}
+use Rattle.std.proofs.Common.{rules, refl}
 use Rattle.dae_tree.specs.Trees as tree
 use Rattle.dae_tree.specs.Views.{view_declarator}
 use Rattle.dae_parse_grammar.specs.FirstPlaces.{firsts_declarator}
-use Rattle.dae_parse_parts.proofs.Laws.{shows_over, shows_made, shows_absent}
+use Rattle.dae_parse_parts.proofs.Laws.{shows_node}
 use Rattle.dae_parse_nodes.proofs.declarators.grouped.Goals as goal
-use Rattle.dae_parse_nodes.proofs.declarators.grouped.Goals.{in-Some+in_ok-new-in-Some, in-None}
 
 pub returns : goal.returns
 returns c = λ d h.
-    let whole = shows_over _ _ c.args.place c.args.declared.read c.in_ok-tree.field-0 d h.read c.in_ok-tree.ensures in
     record {
-      read = elim c.match-tree.branch [
-        | in-Some+in_ok-new-in-Some w ↦ shows_made _ _ view_declarator firsts_declarator _ c.match-tree.tree d (tree.Grouped c.args.place d) _ _ whole (refl) w.in-Some.is w.tree-is (λ e. ap (tree.Grouped c.args.place) (ap view_declarator w.in_ok-new-in-Some.ensures.ok ∙ e))
-        | in-None w ↦ shows_absent _ _ view_declarator firsts_declarator _ c.match-tree.tree d (tree.Grouped c.args.place d) whole (refl) w.in-None.is w.tree-is
-      ];
+      read = shows_node _ _ view_declarator firsts_declarator _ c.args.place c.args.declared.read c.in_ok-read.read d (tree.Grouped c.args.place d) h.read c.in_ok-read.ensures refl
+          (λ t n made e. search rules);
       name = h.name;
       present = refl;
       bare = h.bare;

@@ -1,6 +1,7 @@
-use Rattle.std.proofs.Common.{◌≡◌, refl, sym, ap, ◌∙◌}
+use Rattle.std.proofs.Common.{◌≡◌, rules, refl, sym, ap, ◌∙◌}
 use Rattle.dae_base.specs.declared.Place.{Place}
 use Rattle.dae_base.proofs.Laws.{ap_two}
+use Rattle.dae_tree.specs.declared.expressions.Declarator.TheVariants as declarator
 use Rattle.dae_tree.specs.Trees as tree
 use Rattle.dae_parse_nodes.proofs.Declaring.{place_at_first, chosen_then, chosen_else}
 use Rattle.dae_parse_nodes.proofs.declarators.parameter_function.Goals.{then-bare, else-bare}
@@ -12,19 +13,18 @@ use Rattle.dae_tree.specs.Views.{view_declarator}
 use Rattle.dae_parse_grammar.specs.FirstPlaces.{firsts_declarator, both, over, firsts_parameters}
 use Rattle.dae_parse_nodes.proofs.Listing.{shows_parameters}
 use Rattle.dae_tree.proofs.Laws.{view_function}
-use Rattle.dae_parse_parts.proofs.Laws.{shows_over, shows_made, shows_absent, shows_pair}
+use Rattle.dae_parse_parts.proofs.Laws.{shows_node, shows_pair}
 use Rattle.dae_parse_nodes.proofs.declarators.parameter_function.Goals as goal
-use Rattle.dae_parse_nodes.proofs.declarators.parameter_function.Goals.{in-Some+in_ok-new-in-Some, in-None}
 
 pub returns : goal.returns
 returns c = λ d ps h k i.
-    let parts = shows_pair _ _ _ _ c.args.declared.read c.args.list c.in_ok-parts.parts d (parameters_onto ps tree.no_parameters) h.read (shows_parameters c.args.list ps k) c.in_ok-parts.ensures in
-    let whole = shows_over _ _ c.first_or-first.result c.in_ok-parts.parts c.in_ok-tree.field-0 (d, (parameters_onto ps tree.no_parameters)) parts c.in_ok-tree.ensures in
+    let list = parameters_onto ps tree.no_parameters in
+    let parts = shows_pair _ _ _ _ c.args.declared.read c.args.list c.in_ok-parts.parts d list h.read (shows_parameters c.args.list ps k) c.in_ok-parts.ensures in
     record {
-      read = elim c.match-tree.branch [
-        | in-Some+in_ok-new-in-Some w ↦ shows_made _ _ view_declarator firsts_declarator _ c.match-tree.tree (d, (parameters_onto ps tree.no_parameters)) (tree.Function d c.args.place (parameters_onto ps tree.no_parameters)) _ _ whole (ap (λ (p : Place). over p (both (firsts_declarator d) (firsts_parameters (parameters_onto ps tree.no_parameters)))) (c.first_or-first.ensures ∙ place_at_first c.args.declared.read d c.args.place h.read)) w.in-Some.is w.tree-is (λ e. view_function w.in_ok-new-in-Some.field-0 c.args.place w.in-Some.list ∙ ap_two (λ x y. tree.Function x c.args.place y) (ap view_declarator w.in_ok-new-in-Some.ensures.ok ∙ ap (λ (p : _). p.0) e) (ap (λ (p : _). p.1) e))
-        | in-None w ↦ shows_absent _ _ view_declarator firsts_declarator _ c.match-tree.tree (d, (parameters_onto ps tree.no_parameters)) (tree.Function d c.args.place (parameters_onto ps tree.no_parameters)) whole (ap (λ (p : Place). over p (both (firsts_declarator d) (firsts_parameters (parameters_onto ps tree.no_parameters)))) (c.first_or-first.ensures ∙ place_at_first c.args.declared.read d c.args.place h.read)) w.in-None.is w.tree-is
-      ];
+      read = shows_node _ _ view_declarator firsts_declarator _ c.first_or-first.result c.in_ok-parts.parts c.in_ok-read.read (d, list) (tree.Function d c.args.place list) parts c.in_ok-read.ensures (ap (λ (p : Place). over p (both (firsts_declarator d) (firsts_parameters list))) (c.first_or-first.ensures ∙ place_at_first c.args.declared.read d c.args.place h.read))
+          (λ t n made e.
+          let m : n ≡ declarator.Function t.0 c.args.place t.1 = search rules in
+          ap view_declarator m ∙ view_function t.0 c.args.place t.1 ∙ ap_two (λ x y. tree.Function x c.args.place y) (ap (λ (p : _). p.0) e) (ap (λ (p : _). p.1) e));
       name = h.name;
       present = refl;
       bare = refl;

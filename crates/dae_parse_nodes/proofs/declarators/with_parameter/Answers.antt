@@ -2,6 +2,7 @@ use Rattle.std.proofs.Common.{Option, None, refl, sym, ap, ◌∙◌}
 use Rattle.dae_base.specs.declared.Place.{Place}
 use Rattle.dae_base.proofs.Laws.{ap_three, ap_two}
 use Rattle.dae_tree.specs.Lists as lists
+use Rattle.dae_tree.specs.Views.{view_declarator}
 use Rattle.dae_parse_grammar.specs.Frames as frames
 use Rattle.std.specs.Prelude.{Bool, Ok, ◌||◌, if◌then◌else◌}
 use Rattle.dae_parse_nodes.proofs.Declaring.{void_of_parameters}
@@ -19,7 +20,7 @@ returns c = λ ps ws d h k l.
     record {
       read = shows_longer {E = Unit {0}} view_parameter firsts_parameter c.args.before.read (record { tree = c.match-tree.tree; depths = c.in_ok-tree.field-0.depths }) ps target (Ok c.in_ok-read.read) h.read
           (elim c.match-tree.branch [
-            | in-Some w ↦ shows_made _ _ view_parameter firsts_parameter c.in_ok-tree.field-0 c.match-tree.tree (ws, d) target _ _ pair refl w.in-Some.is w.tree-is (λ e. ap_two parameter_of (ap (λ (p : _). p.0) e) (ap (λ (p : _). p.1) e))
+            | in-Some w ↦ shows_made _ _ view_parameter firsts_parameter c.in_ok-tree.field-0 c.match-tree.tree (ws, d) target _ _ pair refl w.in-Some.is w.tree-is (λ e. ap_two parameter_of (ap (λ (p : _). p.0) e) (ap view_declarator w.into_inner.ensures ∙ ap (λ (p : _). p.1) e))
             | in-None w ↦ shows_absent _ _ view_parameter firsts_parameter c.in_ok-tree.field-0 c.match-tree.tree (ws, d) target pair refl w.in-None.is w.tree-is
           ])
           c.in_ok-read.ensures;

@@ -17,7 +17,7 @@ returns c = λ ws d a h k l.
     let whole = shows_over _ _ c.args.place c.in_ok-parts.parts c.in_ok-tree.field-0 (ws, (d, a)) parts c.in_ok-tree.ensures in
     record {
       read = elim c.match-tree.branch [
-        | in-Some+in_ok-name-in-Some+in_ok-new-in-Some w ↦ shows_made _ _ (in_box view) firsts _ c.match-tree.tree (ws, (d, a)) (tree.Cast c.args.place ws d a) _ _ whole (refl) w.in-Some.is w.tree-is (λ e. ap view w.in_ok-new-in-Some.ensures.ok ∙ view_cast c.args.place w.in_ok-name-in-Some.name w.in-Some.rest.1 ∙ ap_three (tree.Cast c.args.place) (ap (λ (t : TypeName). views_specifiers t.specifiers.items) w.in_ok-name-in-Some.ensures.ok ∙ ap (λ (p : _). p.0) e) (ap (λ (t : TypeName). view_declarator t.declarator) w.in_ok-name-in-Some.ensures.ok ∙ ap (λ (p : _). p.1.0) e) (ap (λ (p : _). p.1.1) e))
+        | in-Some+in_ok-name-in-Some+in_ok-new-in-Some w ↦ shows_made _ _ (in_box view) firsts _ c.match-tree.tree (ws, (d, a)) (tree.Cast c.args.place ws d a) _ _ whole (refl) w.in-Some.is w.tree-is (λ e. ap view w.in_ok-new-in-Some.ensures.ok ∙ view_cast c.args.place w.in_ok-name-in-Some.name w.in-Some.rest.1 ∙ ap_three (tree.Cast c.args.place) (ap (λ (t : TypeName). views_specifiers t.specifiers.items) w.in_ok-name-in-Some.ensures.ok ∙ ap (λ (p : _). p.0) e) (ap (λ (t : TypeName). view_declarator t.declarator) w.in_ok-name-in-Some.ensures.ok ∙ ap view_declarator w.into_inner.ensures ∙ ap (λ (p : _). p.1.0) e) (ap (λ (p : _). p.1.1) e))
         | in-None w ↦ shows_absent _ _ (in_box view) firsts _ c.match-tree.tree (ws, (d, a)) (tree.Cast c.args.place ws d a) whole (refl) w.in-None.is w.tree-is
       ];
       level = refl;

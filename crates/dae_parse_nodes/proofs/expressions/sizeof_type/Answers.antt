@@ -16,7 +16,7 @@ returns c = λ ws d h k.
     let whole = shows_over _ _ c.args.place c.in_ok-parts.parts c.in_ok-tree.field-0 (ws, d) parts c.in_ok-tree.ensures in
     record {
       read = elim c.match-tree.branch [
-        | in-Some+in_ok-name-in-Some+in_ok-new-in-Some w ↦ shows_made _ _ (in_box view) firsts _ c.match-tree.tree (ws, d) (tree.SizeofType c.args.place c.args.paren ws d) _ _ whole (refl) w.in-Some.is w.tree-is (λ e. ap view w.in_ok-new-in-Some.ensures.ok ∙ view_sizeof_type c.args.place c.args.paren w.in_ok-name-in-Some.name ∙ ap_two (tree.SizeofType c.args.place c.args.paren) (ap (λ (t : TypeName). views_specifiers t.specifiers.items) w.in_ok-name-in-Some.ensures.ok ∙ ap (λ (p : _). p.0) e) (ap (λ (t : TypeName). view_declarator t.declarator) w.in_ok-name-in-Some.ensures.ok ∙ ap (λ (p : _). p.1) e))
+        | in-Some+in_ok-name-in-Some+in_ok-new-in-Some w ↦ shows_made _ _ (in_box view) firsts _ c.match-tree.tree (ws, d) (tree.SizeofType c.args.place c.args.paren ws d) _ _ whole (refl) w.in-Some.is w.tree-is (λ e. ap view w.in_ok-new-in-Some.ensures.ok ∙ view_sizeof_type c.args.place c.args.paren w.in_ok-name-in-Some.name ∙ ap_two (tree.SizeofType c.args.place c.args.paren) (ap (λ (t : TypeName). views_specifiers t.specifiers.items) w.in_ok-name-in-Some.ensures.ok ∙ ap (λ (p : _). p.0) e) (ap (λ (t : TypeName). view_declarator t.declarator) w.in_ok-name-in-Some.ensures.ok ∙ ap view_declarator w.into_inner.ensures ∙ ap (λ (p : _). p.1) e))
         | in-None w ↦ shows_absent _ _ (in_box view) firsts _ c.match-tree.tree (ws, d) (tree.SizeofType c.args.place c.args.paren ws d) whole (refl) w.in-None.is w.tree-is
       ];
       level = refl;

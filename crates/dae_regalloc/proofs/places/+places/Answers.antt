@@ -1,16 +1,79 @@
-use Rattle.std.proofs.Common.{◌≡◌, ℕ, List, refl, ap, ◌∙◌, subst, drop, arith}
+use Rattle.std.proofs.Common.{◌≡◌, ℕ, List, refl, ap, ◌∙◌, subst, drop, arith, rules}
 use Rattle.dae_ir.specs.Streams.{actions_of}
-use Rattle.dae_ir.specs.declared.stream.Step.{Step}
+use Rattle.dae_ir.specs.declared.stream.Step.{Step, the_lemmas}
 use Rattle.dae_select_walks.specs.Live.{ways, turn}
 use Rattle.dae_regalloc.specs.Seen.{ArePlacesOf}
 use Rattle.dae_select_live.specs.Members.{member}
+use Rattle.dae_regalloc.proofs.PlaceCounts.{if_places, loop_places, room_for_step}
 use Rattle.dae_regalloc.proofs.Placing.{acted, branched, looped, none_placed, one_more, moved}
 use Rattle.dae_regalloc.proofs.places.+places.Goals as goal
+
+-- ---- room for the places
+
+pub see_step-see-requires : goal.see_step-see-requires
+see_step-see-requires t c = let room = rw c.in-Act.is at c.requires in omega (arith, room)
+
+pub see_step-see_steps-requires : goal.see_step-see_steps-requires
+see_step-see_steps-requires t c =
+    let i = c.in-If in
+    let room = rw i.is at c.requires in let e = if_places i.field-0 i.branch i.p i.q in
+    (search (rules, the_lemmas), rw c.deref.ensures.value (omega (arith, room, e)))
+
+pub see_step-see_steps-requires-in-If : goal.see_step-see_steps-requires-in-If
+see_step-see_steps-requires-in-If t c =
+    let i = c.in-If in
+    let room = rw i.is at c.requires in let e = if_places i.field-0 i.branch i.p i.q in
+    let one = rw c.deref.ensures.value at c.in_ok-second-in-If.ensures in
+    let more = one.count in
+    (search (rules, the_lemmas), rw c.deref-in-If.ensures.value (omega (arith, room, e, more)))
+
+pub see_step-see-requires-in-If : goal.see_step-see-requires-in-If
+see_step-see-requires-in-If t c =
+    let i = c.in-If in
+    let room = rw i.is at c.requires in let e = if_places i.field-0 i.branch i.p i.q in
+    let one = rw c.deref.ensures.value at c.in_ok-second-in-If.ensures in
+    let other = rw c.deref-in-If.ensures.value at c.in_ok-first-in-If.ensures in
+    let more = one.count in let further = other.count in
+    omega (arith, room, e, more, further)
+
+pub see_step-see_steps-requires-in-Loop : goal.see_step-see_steps-requires-in-Loop
+see_step-see_steps-requires-in-Loop t c =
+    let i = c.in-Loop in
+    let room = rw i.is at c.requires in let e = loop_places i.field-0 i.body i.step in
+    (search (rules, the_lemmas), rw c.deref-in-Loop-3.ensures.value (omega (arith, room, e)))
+
+pub see_step-see_steps-requires-in-Loop-2 : goal.see_step-see_steps-requires-in-Loop-2
+see_step-see_steps-requires-in-Loop-2 t c =
+    let i = c.in-Loop in
+    let room = rw i.is at c.requires in let e = loop_places i.field-0 i.body i.step in
+    let one = rw c.deref-in-Loop-3.ensures.value at c.in_ok-again-in-Loop.ensures in
+    let more = one.count in
+    (search (rules, the_lemmas), rw c.deref-in-Loop-4.ensures.value (omega (arith, room, e, more)))
+
+pub see_step-see-requires-in-Loop : goal.see_step-see-requires-in-Loop
+see_step-see-requires-in-Loop t c =
+    let i = c.in-Loop in
+    let room = rw i.is at c.requires in let e = loop_places i.field-0 i.body i.step in
+    let one = rw c.deref-in-Loop-3.ensures.value at c.in_ok-again-in-Loop.ensures in
+    let other = rw c.deref-in-Loop-4.ensures.value at c.in_ok-set-in-Loop.ensures in
+    let more = one.count in let further = other.count in
+    omega (arith, room, e, more, further)
+
+pub see_steps-see_step-requires : goal.see_steps-see_step-requires
+see_steps-see_step-requires t c =
+    let some = c.loop-index-test.true in
+    let le = c.loop-index.auto.index in
+    let so_far = c.loop-index.invariant in (
+      search (rules, the_lemmas),
+      room_for_step c.args.steps.now c.loop-index.index c.index-steps-index.result c.args.spans.now.places c.loop-index.spans.places (omega arith) (omega arith) c.index-steps-index.is so_far.count c.requires,
+    )
+
+-- ---- what is seen
 
 pub see_step-returns-in_ok-see-in-Act : goal.see_step-returns-in_ok-see-in-Act
 see_step-returns-in_ok-see-in-Act t c =
     let a = c.args in let i = c.in-Act in
-    acted a.step.now i.field-0 i.action a.leaves.now a.skips.now a.next a.spans.now c.see.new.self c.in_ok-set-in-Act.set c.in_ok-here-in-Act.here i.is c.in_ok-set-in-Act.ensures c.in_ok-here-in-Act.ensures c.in_ok-see-in-Act.ensures
+    acted a.step.now i.field-0 i.action a.leaves.now a.skips.now a.next a.spans.now c.see.new.self c.in_ok-set-in-Act.set c.in_ok-here-in-Act.here i.is c.in_ok-set-in-Act.ensures c.in_ok-here-in-Act.ensures c.in_ok-see-in-Act.ensures.seen c.in_ok-see-in-Act.ensures.count
 
 pub see_step-returns-in_ok-see-in-If : goal.see_step-returns-in_ok-see-in-If
 see_step-returns-in_ok-see-in-If t c =
@@ -20,7 +83,7 @@ see_step-returns-in_ok-see-in-If t c =
     let mid = c.see_steps.new.spans in let last = c.see_steps-in-If.new.spans in
     let second = moved c.in_ok-copy-in-If.field-0 a.next lv lv sk sk c.deref.result.now i.q.items a.spans.now mid other c.in_ok-copy-in-If.ensures refl refl c.deref.ensures.value c.in_ok-second-in-If.ensures in
     let first = moved a.next a.next lv lv sk sk c.deref-in-If.result.now i.p.items mid last one refl refl refl c.deref-in-If.ensures.value c.in_ok-first-in-If.ensures in
-    branched a.step.now i.field-0 i.branch i.p i.q lv sk a.next a.spans.now mid last c.see-in-If.new.self one other c.in_ok-set-in-If.set i.is second first c.in_ok-set-in-If.ensures c.in_ok-see-in-If.ensures
+    branched a.step.now i.field-0 i.branch i.p i.q lv sk a.next a.spans.now mid last c.see-in-If.new.self one other c.in_ok-set-in-If.set i.is second first c.in_ok-set-in-If.ensures c.in_ok-see-in-If.ensures.seen c.in_ok-see-in-If.ensures.count
 
 pub see_step-returns-in_ok-see-in-Loop : goal.see_step-returns-in_ok-see-in-Loop
 see_step-returns-in_ok-see-in-Loop t c =
@@ -31,7 +94,7 @@ see_step-returns-in_ok-see-in-Loop t c =
     ∙ ap (λ (l : List Step). turn (actions_of i.body.items) (actions_of l) (member a.next)) c.deref-in-Loop-2.ensures.value in
     let step = moved c.in_ok-copy-in-Loop.field-0 turned a.next a.next turned turned c.deref-in-Loop-3.result.now i.step.items a.spans.now mid again c.in_ok-copy-in-Loop.ensures refl refl c.deref-in-Loop-3.ensures.value c.in_ok-again-in-Loop.ensures in
     let body = moved c.in_ok-copy-in-Loop-2.field-0 again a.next a.next again again c.deref-in-Loop-4.result.now i.body.items mid last set c.in_ok-copy-in-Loop-2.ensures refl refl c.deref-in-Loop-4.ensures.value c.in_ok-set-in-Loop.ensures in
-    looped a.step.now i.field-0 i.body i.step a.leaves.now a.skips.now a.next a.spans.now mid last c.see-in-Loop.new.self turned again set i.is first step body c.in_ok-see-in-Loop.ensures
+    looped a.step.now i.field-0 i.body i.step a.leaves.now a.skips.now a.next a.spans.now mid last c.see-in-Loop.new.self turned again set i.is first step body c.in_ok-see-in-Loop.ensures.seen c.in_ok-see-in-Loop.ensures.count
 
 pub see_steps-loop-index-init : goal.see_steps-loop-index-init
 see_steps-loop-index-init t c =

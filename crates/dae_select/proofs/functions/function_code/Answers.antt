@@ -1,4 +1,4 @@
-use Rattle.std.proofs.Common.{◌≡◌, ℕ, Bool, ◌+◌, ◌++◌, List, length, ap, ◌∙◌, append_assoc, arith}
+use Rattle.std.proofs.Common.{◌≡◌, ℕ, Bool, ◌+◌, ◌++◌, List, length, ap, sym, subst, ◌∙◌, append_assoc, length-append, arith}
 use Rattle.dae_encode.specs.declared.Inst.{Inst}
 use Rattle.dae_ir.specs.Classes.{VariableSet}
 use Rattle.dae_ir.specs.Streams.{actions_of}
@@ -10,12 +10,14 @@ use Rattle.dae_select_walks.specs.Facts.{unknown}
 use Rattle.dae_select_live.specs.Members.{member}
 use Rattle.dae_select_blocks.specs.Blocks.{leave_code}
 use Rattle.dae_select_blocks.specs.Code.{code_of, entry_code}
-use Rattle.dae_select.specs.Grown.{Grown, from_front}
+use Rattle.dae_select.specs.Grown.{Grown, from_front, StandWithin}
+use Rattle.dae_select.specs.declared.growing.PlacedWord.{PlacedWord}
 use Rattle.dae_select_walks.specs.declared.Standing.TheVariants.{Settled}
 use Rattle.dae_select.specs.Growing.{marked_code}
 use Rattle.dae_select_blocks.specs.Sizes.{is_short}
 use Rattle.dae_select_calls.specs.Layouts.{plan_of, variables_of}
 use Rattle.dae_select.proofs.InFront.{same_code}
+use Rattle.dae_select.proofs.Words.{front_within, wider}
 use Rattle.dae_select.proofs.functions.function_code.Goals as goal
 
 pub returns-clause-code : goal.returns-clause-code
@@ -52,3 +54,16 @@ returns-clause-places c =
     c.in_ok-places.ensures ∙ ap (λ (g : Grown). from_front (c.len-entry.result + length g.code) g.places) c.in_ok-live.ensures.code
     ∙ ap (λ (b : Bool). (let g = marked_code b P V f Settled unknown (actions_of a.body.now) nowhere 0 0 in from_front (c.len-entry.result + length g.code) g.places)) c.jumps_in.ensures
     ∙ ap (λ (n : ℕ). from_front (n + length actions.code) actions.places) (long ∙ ap length first)
+
+pub returns-clause-within : goal.returns-clause-within
+returns-clause-within c =
+    let body = c.body_code.new.code in
+    let words = c.entry_code.new.code.items in let longer = c.extend_from_slice.new.self.items in let all = c.leave_code.new.code.items in
+    let end = c.len-entry.result + length body.code in
+    let l = c.len-entry.ensures in
+    let entry : c.len-entry.result ≡ length words = omega arith in
+    let actions = ap length (c.as_slice.ensures.value ∙ c.into_vec.ensures) in
+    let behind = ap length c.in_ok-extend_from_slice.ensures.items ∙ length-append words c.as_slice.result.now in
+    let last = ap length c.in_ok-leave_code.ensures ∙ length-append longer _ in
+    subst (λ (ps : List PlacedWord). StandWithin (length all) ps) (sym c.in_ok-places.ensures)
+    (wider end (length all) (from_front end body.places) (omega (arith, entry, actions, behind, last)) (front_within end body.places))

@@ -9,3 +9,6 @@ invariant-loop-index l = record {
   all : BeforeFirst l.memory (facts_by l.fn.known) l.steps l.all.items l.index;
   known : facts_by l.known ≡ facts_at l.memory (facts_by l.fn.known) l.steps l.index;
 }
+
+abbrev pub invariant-loop-place : goal.invariant-loop-place
+invariant-loop-place l = BeforeFirst l.memory (facts_by l.fn.known) l.steps l.all.items l.place

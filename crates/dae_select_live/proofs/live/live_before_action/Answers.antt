@@ -9,5 +9,4 @@ returns c = λ n.
     let a = c.args.action.now in
     let kept : VariableSet = after a (member c.args.next) (ways n (member c.args.leaves.now) (member c.args.skips.now)) in
     c.in_ok-add_action.ensures ∙ ap (with_all (reads a)) (c.remove_known.ensures
-    ∙ ap {B = VariableSet} (λ (s : VariableSet) (u : ℕ). s u && not (is c.set_by.result u)) (c.in_ok-set.ensures n)
-    ∙ ap {B = VariableSet} (λ (s : VariableSet) (u : ℕ). kept u && not (s u)) c.set_by.ensures)
+    ∙ ap {B = VariableSet} (λ (s : VariableSet) (u : ℕ). s u && not (is c.set_anew.result u)) (c.in_ok-set.ensures n)) ∙ c.set_anew.ensures kept

@@ -2,7 +2,7 @@ use Rattle.std.proofs.Common.{◌≡◌, ℕ, ◌+◌, true, List, [], ◌∷◌
 use Rattle.std.specs.Prelude.{ℤ}
 use Rattle.std.proofs.lemmas.Int.{to_z-of_z, ints}
 use Rattle.dae_encode.specs.declared.Inst.{Inst}
-use Rattle.dae_select_walks.specs.Homes.{home_in}
+use Rattle.dae_select_values.specs.Tables.{home_by}
 use Rattle.dae_select_blocks.specs.Blocks.{branch_inst, back_offset, goes_back}
 use Rattle.dae_select_blocks.specs.Code.{branch_by, before_branch}
 use Rattle.dae_select_blocks.proofs.LawsOfBlocks.{before_short}
@@ -10,7 +10,7 @@ use Rattle.dae_select_values.proofs.jumping.back_branch.Goals as goal
 
 pub overflow_add-distance : goal.overflow_add-distance
 overflow_add-distance c =
-    let a = c.args in let H = home_in a.homes.now in
+    let a = c.args in let H = home_by a.homes in
     let front = branch_by H (λ relation x y. []) a.branch true in
     let f = c.in_ok-compared.ensures in
     let items : c.branch_front.new.code.items ≡ front = f.front ∙ ap (λ (l : List Inst). l ++ front) c.new-block.ensures.items in
@@ -20,7 +20,7 @@ overflow_add-distance c =
 
 pub back_offset-requires : goal.back_offset-requires
 back_offset-requires c =
-    let a = c.args in let H = home_in a.homes.now in
+    let a = c.args in let H = home_by a.homes in
     let front = branch_by H (λ relation x y. []) a.branch true in
     let f = c.in_ok-compared.ensures in
     let items : c.branch_front.new.code.items ≡ front = f.front ∙ ap (λ (l : List Inst). l ++ front) c.new-block.ensures.items in
@@ -30,7 +30,7 @@ back_offset-requires c =
 
 pub returns : goal.returns
 returns c =
-    let a = c.args in let H = home_in a.homes.now in
+    let a = c.args in let H = home_by a.homes in
     let front = branch_by H (λ relation x y. []) a.branch true in
     let f = c.in_ok-compared.ensures in
     let o = c.in_ok-compared.compared in

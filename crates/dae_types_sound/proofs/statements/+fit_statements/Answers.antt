@@ -15,7 +15,7 @@ are_fit_statements-loop-s-preserved t c =
 pub is_fit_statement-returns-in-If : goal.is_fit_statement-returns-in-If
 is_fit_statement-returns-in-If t c =
     rw (c.in-If.is) (c.all_three.ensures ∙ if_fit c.args.names.now c.args.extent c.args.jumps c.in-If.field-0 c.in-If.a c.in-If.yes c.in-If.no c.is_fit-test.result c.are_fit_statements-holds.result c.are_fit_statements-fails.result
-    c.is_fit-test.ensures (rw (c.deref-in-If.ensures.value) at (c.are_fit_statements-holds.ensures)) (rw (c.deref-in-If-2.ensures.value) at (c.are_fit_statements-fails.ensures)))
+    (rw (c.deref-in-If.ensures) at (c.is_fit-test.ensures)) (rw (c.deref-in-If-2.ensures.value) at (c.are_fit_statements-holds.ensures)) (rw (c.deref-in-If-3.ensures.value) at (c.are_fit_statements-fails.ensures)))
 
 pub is_fit_statement-returns-in-Loop : goal.is_fit_statement-returns-in-Loop
 is_fit_statement-returns-in-Loop t c =
@@ -25,9 +25,9 @@ is_fit_statement-returns-in-Loop t c =
 pub is_fit_statement-returns-in-Do : goal.is_fit_statement-returns-in-Do
 is_fit_statement-returns-in-Do t c =
     rw (c.in-Do.is) (c.all_three-in-Do.ensures ∙ do_fit c.args.names.now c.args.extent c.args.jumps c.in-Do.field-0 c.in-Do.body c.in-Do.test c.are_fit_statements-turn-in-Do.result c.is_fit-after.result
-    (rw (c.deref-in-Do.ensures.value, c.loop_jumps-in-Do.ensures) at (c.are_fit_statements-turn-in-Do.ensures)) c.is_fit-after.ensures)
+    (rw (c.deref-in-Do.ensures.value, c.loop_jumps-in-Do.ensures) at (c.are_fit_statements-turn-in-Do.ensures)) (rw (c.deref-in-Do-2.ensures) at (c.is_fit-after.ensures)))
 
 pub is_fit_statement-returns-in-Switch : goal.is_fit_statement-returns-in-Switch
 is_fit_statement-returns-in-Switch t c =
     rw (c.in-Switch.is) (c.all_three-in-Switch.ensures ∙ switch_fit c.args.names.now c.args.extent c.args.jumps c.in-Switch.field-0 c.in-Switch.a c.in-Switch.arms c.is_fit-value.result c.is_count_word-count.result c.are_fit_arms-inside.result
-    c.is_fit-value.ensures (rw (c.deref-in-Switch.ensures.value) at (c.is_count_word-count.ensures)) (rw (c.deref-in-Switch-2.ensures.value, c.switch_jumps.ensures) at (c.are_fit_arms-inside.ensures)))
+    (rw (c.deref-in-Switch.ensures) at (c.is_fit-value.ensures)) (rw (c.deref-in-Switch-2.ensures.value) at (c.is_count_word-count.ensures)) (rw (c.deref-in-Switch-3.ensures.value, c.switch_jumps.ensures) at (c.are_fit_arms-inside.ensures)))

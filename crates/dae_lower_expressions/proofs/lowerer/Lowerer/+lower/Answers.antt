@@ -11,7 +11,8 @@ use Rattle.dae_meaning.specs.declared.Comparison.TheVariants.{Equal}
 use Rattle.dae_lower.specs.Lowering.{emit, ◌≫◌, nothing, only, one, or, assigned, fetched, narrowed, operands, operated, put_in, related, set, spot, test_of, turn, variable, ways, Placed}
 use Rattle.dae_lower_expressions.proofs.Chains.{leaf_lowered, nothing_lowered, then_lowered, dropped_lowered, given_lowered, both_lowered}
 use Rattle.dae_lower_expressions.proofs.Counting.{assigned_told, both_told}
-use Rattle.dae_lower_expressions.proofs.Nodes.{removed_lowered, truth_lowered, and_lowered, or_lowered, chosen_lowered, picked_lowered, block_made, step_lowered, update_lowered, IsPlain, IsTested, plain_lowered, tested_lowered, first_listed, next_listed, last_listed}
+use Rattle.dae_lower_expressions.proofs.Nodes.{removed_lowered, truth_lowered, and_lowered, or_lowered, chosen_lowered, picked_lowered, block_made, step_lowered, update_lowered, plain_lowered, tested_lowered, first_listed, next_listed, last_listed}
+use Rattle.dae_lower_expressions.proofs.Otherwise.{otherwise_plain, otherwise_tested}
 use Rattle.dae_program.proofs.LawsOfTrees.{by_call, view_at, view_end}
 use Rattle.dae_lower_expressions.specs.Assignments.{assignments}
 use Rattle.dae_lower_expressions.specs.Lowered.{Lowers, state_of, links_in, used}
@@ -146,53 +147,11 @@ pub effect-returns-in_ok-item-in-Putchar : goal.effect-returns-in_ok-item-in-Put
 effect-returns-in_ok-item-in-Putchar t c =
     rw (c.in-Putchar.is, ← c.deref-in-Putchar.ensures) (then_lowered (ways (links_in c.args.none c.args.links.now) (view c.deref-in-Putchar.result.now)).value (λ x n. emit (one c.in-Putchar.place (Print Byte x)) n) _ _ _ _ _ _ c.in_ok-x-in-Putchar.ensures refl c.in_ok-item-in-Putchar.ensures)
 
-pub effect-returns-in_ok-value-in-Number : goal.effect-returns-in_ok-value-in-Number
-effect-returns-in_ok-value-in-Number t c =
-    plain_lowered (links_in c.args.none c.args.links.now) (view c.args.e.now) _ _ _ _ (rw (c.in-Number.is) tt) c.in_ok-value-in-Number.ensures
-
-pub effect-returns-in_ok-value-in-Address : goal.effect-returns-in_ok-value-in-Address
-effect-returns-in_ok-value-in-Address t c =
-    plain_lowered (links_in c.args.none c.args.links.now) (view c.args.e.now) _ _ _ _ (rw (c.in-Address.is) tt) c.in_ok-value-in-Address.ensures
-
-pub effect-returns-in_ok-value-in-Frame : goal.effect-returns-in_ok-value-in-Frame
-effect-returns-in_ok-value-in-Frame t c =
-    plain_lowered (links_in c.args.none c.args.links.now) (view c.args.e.now) _ _ _ _ (rw (c.in-Frame.is) tt) c.in_ok-value-in-Frame.ensures
-
-pub effect-returns-in_ok-value-in-Read : goal.effect-returns-in_ok-value-in-Read
-effect-returns-in_ok-value-in-Read t c =
-    plain_lowered (links_in c.args.none c.args.links.now) (view c.args.e.now) _ _ _ _ (rw (c.in-Read.is) tt) c.in_ok-value-in-Read.ensures
-
-pub effect-returns-in_ok-value-in-Binary : goal.effect-returns-in_ok-value-in-Binary
-effect-returns-in_ok-value-in-Binary t c =
-    plain_lowered (links_in c.args.none c.args.links.now) (view c.args.e.now) _ _ _ _ (rw (c.in-Binary.is) tt) c.in_ok-value-in-Binary.ensures
-
-pub effect-returns-in_ok-value-in-And : goal.effect-returns-in_ok-value-in-And
-effect-returns-in_ok-value-in-And t c =
-    plain_lowered (links_in c.args.none c.args.links.now) (view c.args.e.now) _ _ _ _ (rw (c.in-And.is) tt) c.in_ok-value-in-And.ensures
-
-pub effect-returns-in_ok-value-in-Or : goal.effect-returns-in_ok-value-in-Or
-effect-returns-in_ok-value-in-Or t c =
-    plain_lowered (links_in c.args.none c.args.links.now) (view c.args.e.now) _ _ _ _ (rw (c.in-Or.is) tt) c.in_ok-value-in-Or.ensures
-
-pub effect-returns-in_ok-value-in-Assign : goal.effect-returns-in_ok-value-in-Assign
-effect-returns-in_ok-value-in-Assign t c =
-    plain_lowered (links_in c.args.none c.args.links.now) (view c.args.e.now) _ _ _ _ (rw (c.in-Assign.is) tt) c.in_ok-value-in-Assign.ensures
-
-pub effect-returns-in_ok-value-in-Update : goal.effect-returns-in_ok-value-in-Update
-effect-returns-in_ok-value-in-Update t c =
-    plain_lowered (links_in c.args.none c.args.links.now) (view c.args.e.now) _ _ _ _ (rw (c.in-Update.is) tt) c.in_ok-value-in-Update.ensures
-
-pub effect-returns-in_ok-value-in-Call : goal.effect-returns-in_ok-value-in-Call
-effect-returns-in_ok-value-in-Call t c =
-    plain_lowered (links_in c.args.none c.args.links.now) (view c.args.e.now) _ _ _ _ (by_call IsPlain c.args.e.now c.in-Call.field-0 c.in-Call.field-1 c.in-Call.field-2 c.in-Call.is tt) c.in_ok-value-in-Call.ensures
-
-pub effect-returns-in_ok-value-in-Exit : goal.effect-returns-in_ok-value-in-Exit
-effect-returns-in_ok-value-in-Exit t c =
-    plain_lowered (links_in c.args.none c.args.links.now) (view c.args.e.now) _ _ _ _ (rw (c.in-Exit.is) tt) c.in_ok-value-in-Exit.ensures
-
-pub effect-returns-in_ok-value-in-Abort : goal.effect-returns-in_ok-value-in-Abort
-effect-returns-in_ok-value-in-Abort t c =
-    plain_lowered (links_in c.args.none c.args.links.now) (view c.args.e.now) _ _ _ _ (rw (c.in-Abort.is) tt) c.in_ok-value-in-Abort.ensures
+pub effect-returns-in_ok-value-in_default : goal.effect-returns-in_ok-value-in_default
+effect-returns-in_ok-value-in_default t c =
+    let other = c.in_default in
+    let plain = otherwise_plain c.args.self.now.alloc c.args.e.now other.not-Variable other.not-Convert other.not-Not other.not-Compare other.not-Conditional other.not-Comma other.not-Step other.not-Putchar in
+    plain_lowered (links_in c.args.none c.args.links.now) (view c.args.e.now) _ _ _ _ plain c.in_ok-value-in_default.ensures
 
 pub condition-returns-in_ok-condition-in-Not : goal.condition-returns-in_ok-condition-in-Not
 condition-returns-in_ok-condition-in-Not t c =
@@ -207,73 +166,11 @@ pub condition-returns-in_ok-condition-in-Comma : goal.condition-returns-in_ok-co
 condition-returns-in_ok-condition-in-Comma t c =
     rw (c.in-Comma.is, ← c.deref-in-Comma.ensures, ← c.deref-in-Comma-2.ensures) (both_lowered (ways (links_in c.args.none c.args.links.now) (view c.deref-in-Comma.result.now)).effect (λ x. (ways (links_in c.args.none c.args.links.now) (view c.deref-in-Comma-2.result.now)).condition) _ _ (assigned (view c.deref-in-Comma-2.result.now)) _ _ _ _ _ (assigned_told (view c.deref-in-Comma-2.result.now)) c.in_ok-effect-in-Comma.ensures c.in_ok-condition-in-Comma.ensures)
 
-pub condition-returns-in_ok-x-in-Number : goal.condition-returns-in_ok-x-in-Number
-condition-returns-in_ok-x-in-Number t c =
-    rw (c.nonzero.ensures) (tested_lowered (links_in c.args.none c.args.links.now) (view c.args.e.now) _ _ _ _ (rw (c.in-Number.is) tt) c.in_ok-x-in-Number.ensures)
-
-pub condition-returns-in_ok-x-in-Address : goal.condition-returns-in_ok-x-in-Address
-condition-returns-in_ok-x-in-Address t c =
-    rw (c.nonzero-in-Address.ensures) (tested_lowered (links_in c.args.none c.args.links.now) (view c.args.e.now) _ _ _ _ (rw (c.in-Address.is) tt) c.in_ok-x-in-Address.ensures)
-
-pub condition-returns-in_ok-x-in-Frame : goal.condition-returns-in_ok-x-in-Frame
-condition-returns-in_ok-x-in-Frame t c =
-    rw (c.nonzero-in-Frame.ensures) (tested_lowered (links_in c.args.none c.args.links.now) (view c.args.e.now) _ _ _ _ (rw (c.in-Frame.is) tt) c.in_ok-x-in-Frame.ensures)
-
-pub condition-returns-in_ok-x-in-Variable : goal.condition-returns-in_ok-x-in-Variable
-condition-returns-in_ok-x-in-Variable t c =
-    rw (c.nonzero-in-Variable.ensures) (tested_lowered (links_in c.args.none c.args.links.now) (view c.args.e.now) _ _ _ _ (rw (c.in-Variable.is) tt) c.in_ok-x-in-Variable.ensures)
-
-pub condition-returns-in_ok-x-in-Read : goal.condition-returns-in_ok-x-in-Read
-condition-returns-in_ok-x-in-Read t c =
-    rw (c.nonzero-in-Read.ensures) (tested_lowered (links_in c.args.none c.args.links.now) (view c.args.e.now) _ _ _ _ (rw (c.in-Read.is) tt) c.in_ok-x-in-Read.ensures)
-
-pub condition-returns-in_ok-x-in-Convert : goal.condition-returns-in_ok-x-in-Convert
-condition-returns-in_ok-x-in-Convert t c =
-    rw (c.nonzero-in-Convert.ensures) (tested_lowered (links_in c.args.none c.args.links.now) (view c.args.e.now) _ _ _ _ (rw (c.in-Convert.is) tt) c.in_ok-x-in-Convert.ensures)
-
-pub condition-returns-in_ok-x-in-Binary : goal.condition-returns-in_ok-x-in-Binary
-condition-returns-in_ok-x-in-Binary t c =
-    rw (c.nonzero-in-Binary.ensures) (tested_lowered (links_in c.args.none c.args.links.now) (view c.args.e.now) _ _ _ _ (rw (c.in-Binary.is) tt) c.in_ok-x-in-Binary.ensures)
-
-pub condition-returns-in_ok-x-in-And : goal.condition-returns-in_ok-x-in-And
-condition-returns-in_ok-x-in-And t c =
-    rw (c.nonzero-in-And.ensures) (tested_lowered (links_in c.args.none c.args.links.now) (view c.args.e.now) _ _ _ _ (rw (c.in-And.is) tt) c.in_ok-x-in-And.ensures)
-
-pub condition-returns-in_ok-x-in-Or : goal.condition-returns-in_ok-x-in-Or
-condition-returns-in_ok-x-in-Or t c =
-    rw (c.nonzero-in-Or.ensures) (tested_lowered (links_in c.args.none c.args.links.now) (view c.args.e.now) _ _ _ _ (rw (c.in-Or.is) tt) c.in_ok-x-in-Or.ensures)
-
-pub condition-returns-in_ok-x-in-Conditional : goal.condition-returns-in_ok-x-in-Conditional
-condition-returns-in_ok-x-in-Conditional t c =
-    rw (c.nonzero-in-Conditional.ensures) (tested_lowered (links_in c.args.none c.args.links.now) (view c.args.e.now) _ _ _ _ (rw (c.in-Conditional.is) tt) c.in_ok-x-in-Conditional.ensures)
-
-pub condition-returns-in_ok-x-in-Assign : goal.condition-returns-in_ok-x-in-Assign
-condition-returns-in_ok-x-in-Assign t c =
-    rw (c.nonzero-in-Assign.ensures) (tested_lowered (links_in c.args.none c.args.links.now) (view c.args.e.now) _ _ _ _ (rw (c.in-Assign.is) tt) c.in_ok-x-in-Assign.ensures)
-
-pub condition-returns-in_ok-x-in-Update : goal.condition-returns-in_ok-x-in-Update
-condition-returns-in_ok-x-in-Update t c =
-    rw (c.nonzero-in-Update.ensures) (tested_lowered (links_in c.args.none c.args.links.now) (view c.args.e.now) _ _ _ _ (rw (c.in-Update.is) tt) c.in_ok-x-in-Update.ensures)
-
-pub condition-returns-in_ok-x-in-Step : goal.condition-returns-in_ok-x-in-Step
-condition-returns-in_ok-x-in-Step t c =
-    rw (c.nonzero-in-Step.ensures) (tested_lowered (links_in c.args.none c.args.links.now) (view c.args.e.now) _ _ _ _ (rw (c.in-Step.is) tt) c.in_ok-x-in-Step.ensures)
-
-pub condition-returns-in_ok-x-in-Call : goal.condition-returns-in_ok-x-in-Call
-condition-returns-in_ok-x-in-Call t c =
-    rw (c.nonzero-in-Call.ensures) (tested_lowered (links_in c.args.none c.args.links.now) (view c.args.e.now) _ _ _ _ (by_call IsTested c.args.e.now c.in-Call.field-0 c.in-Call.field-1 c.in-Call.field-2 c.in-Call.is tt) c.in_ok-x-in-Call.ensures)
-
-pub condition-returns-in_ok-x-in-Putchar : goal.condition-returns-in_ok-x-in-Putchar
-condition-returns-in_ok-x-in-Putchar t c =
-    rw (c.nonzero-in-Putchar.ensures) (tested_lowered (links_in c.args.none c.args.links.now) (view c.args.e.now) _ _ _ _ (rw (c.in-Putchar.is) tt) c.in_ok-x-in-Putchar.ensures)
-
-pub condition-returns-in_ok-x-in-Exit : goal.condition-returns-in_ok-x-in-Exit
-condition-returns-in_ok-x-in-Exit t c =
-    rw (c.nonzero-in-Exit.ensures) (tested_lowered (links_in c.args.none c.args.links.now) (view c.args.e.now) _ _ _ _ (rw (c.in-Exit.is) tt) c.in_ok-x-in-Exit.ensures)
-
-pub condition-returns-in_ok-x-in-Abort : goal.condition-returns-in_ok-x-in-Abort
-condition-returns-in_ok-x-in-Abort t c =
-    rw (c.nonzero-in-Abort.ensures) (tested_lowered (links_in c.args.none c.args.links.now) (view c.args.e.now) _ _ _ _ (rw (c.in-Abort.is) tt) c.in_ok-x-in-Abort.ensures)
+pub condition-returns-in_ok-x-in_default : goal.condition-returns-in_ok-x-in_default
+condition-returns-in_ok-x-in_default t c =
+    let other = c.in_default in
+    let tested = otherwise_tested c.args.self.now.alloc c.args.e.now other.not-Not other.not-Compare other.not-Comma in
+    rw (c.nonzero.ensures) (tested_lowered (links_in c.args.none c.args.links.now) (view c.args.e.now) _ _ _ _ tested c.in_ok-x-in_default.ensures)
 
 pub spot-returns-in_ok-change-in-Variable : goal.spot-returns-in_ok-change-in-Variable
 spot-returns-in_ok-change-in-Variable t c =

@@ -1,10 +1,9 @@
-use Rattle.std.proofs.Common.{◌-◌, ◌∙◌, ap, arith}
-use Rattle.std.proofs.lemmas.List.{get_or_read}
-use Rattle.dae_lower_maker.proofs.Counts.{dropped, never_dropped}
+use Rattle.std.proofs.Common.{refl}
+use Rattle.dae_lower_maker.proofs.Counts.{never_removed, removed}
 use Rattle.dae_lower_maker.proofs.later.Later.remove.Goals as goal
 
-pub returns-then-index-len : goal.returns-then-index-len
-returns-then-index-len c = dropped c.args.self.now.counts.items c.args.v c.saturating_sub.result (omega (arith, c.if-index-len.true)) (c.saturating_sub.ensures ∙ ap (λ k. k - 1) (get_or_read c.args.self.now.counts.items _ _ (omega (arith, c.if-index-len.true)) c.index-count.ensures 0))
+pub returns-in-Some : goal.returns-in-Some
+returns-in-Some c = removed c.args.self.now.assigned.items c.remove.new.self.items c.in-Some.index c.args.v c.in-Some.ensures.found.0 c.in-Some.ensures.found.1 c.remove.ensures.items
 
-pub returns-else-index-len : goal.returns-else-index-len
-returns-else-index-len c rest = never_dropped c.args.self.now.counts.items c.args.v (omega (arith, c.if-index-len.false)) rest
+pub returns-in_default : goal.returns-in_default
+returns-in_default c = λ rest all. never_removed c.args.self.now.assigned.items c.args.v (c.in_default.ensures.none refl) rest all

@@ -1,0 +1,12 @@
+pub mod Values
+pub mod Lists
+pub mod Truth
+pub mod Meaning
+pub mod Accesses
+pub mod Names
+pub mod Scoping
+pub mod Ordering
+pub mod Counts
+pub mod Programs
+pub mod Steps
+pub mod Wholes

@@ -1,0 +1,14 @@
+// Common subexpressions: values that are computed again though a variable holds them already. In the form that is made here a copy
+// stands where such a value was computed, and what a copy was taken from stands where the copy was read, so that most copies are
+// read nowhere. Both only within what processors need alike, so that neither needs more than before.
+#![tactic(auto)]
+
+pub use theorems::{commoning_keeps_counts, forms_are_commoned};
+pub use whole::eliminate_commons;
+
+mod commoning;
+mod copies;
+mod equations;
+mod needs;
+mod theorems;
+mod whole;

@@ -1,0 +1,47 @@
+// The passes from form to form behind the lowering that ask something of the form before them.
+
+ghost use Rattle.std.specs.Prelude.{◌≡◌, IfOk, true};
+ghost use Rattle.std.specs.List.{list_all};
+ghost use Rattle.dae_alias.specs.Forms.{IsReuseOf, is_reusable};
+ghost use Rattle.dae_elide.specs.Forms.{IsElisionOf};
+ghost use Rattle.dae_ir.specs.Scope.{IsScoped};
+ghost use Rattle.dae_compile.specs.Passes.{IsWithoutCommons};
+
+use dae_alias::{ReuseError, reuse};
+use dae_commons::eliminate_commons;
+use dae_elide::elide_checks;
+use dae_ir::Ir;
+use dae_slice::classes;
+use std::alloc::{AllocError, Global};
+
+/// The form without its common subexpressions, by its least classes. An error is want of memory.
+pub fn without_commons(alloc: Global, ir: Ir) -> Result<Ir, AllocError>
+    requires { IsScoped ir }
+    ensures { IfOk result (IsWithoutCommons ir) }
+{
+    let tables = classes(alloc, &ir)?;
+    let new = eliminate_commons(alloc, ir, tables.as_slice())?;
+    Ok(new)
+}
+
+/// The form without the checks that are known to pass, by its least classes. An error is want of memory.
+pub fn without_known_checks(alloc: Global, ir: Ir) -> Result<Ir, AllocError>
+    requires { IsScoped ir }
+    ensures { IfOk result (IsElisionOf ir) }
+{
+    let tables = classes(alloc, &ir)?;
+    let new = elide_checks(alloc, ir, tables.as_slice())?;
+    Ok(new)
+}
+
+/// The form with its loads reused, where words number its variables and one more for each load. An error is want of memory.
+pub fn reuse_loads(alloc: Global, ir: Ir) -> Result<Ir, AllocError>
+    requires { list_all is_reusable ir.functions ≡ true }
+    ensures { IfOk result (IsReuseOf ir) }
+{
+    match reuse(alloc, ir) {
+        Ok(new) => Ok(new),
+        Err(ReuseError::Memory) => Err(AllocError),
+        Err(ReuseError::Variables) => unreachable!(),
+    }
+}

@@ -1,0 +1,5 @@
+mod Running
+mod Elides
+mod Lasting
+mod Programs
+mod Walked

@@ -1,0 +1,3 @@
+pub mod Elided
+pub mod Forms
+pub mod Walked

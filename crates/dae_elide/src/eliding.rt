@@ -1,0 +1,173 @@
+// The walk that elides checks.
+
+ghost use Rattle.std.specs.Prelude.{◌≡◌, IfOk};
+ghost use Rattle.dae_ir.specs.Form.{form_of};
+ghost use Rattle.dae_select_facts.specs.Knowns.{facts_by};
+ghost use Rattle.dae_elide.specs.Elided.{elided, elided_check, elided_item, is_known};
+ghost use Rattle.dae_elide.specs.Walked.{IsElided, chosen_by};
+
+use crate::likes::{action_like, steps_like};
+use dae_base::{Items, Width};
+use dae_ir::{Branch, Check, Class, Item, Operand, Statement, Value};
+use dae_select_facts::{
+    Known, bounds_in, facts_at_turn, facts_behind, facts_behind_turn, facts_in_list, facts_past_if,
+    facts_past_loop, is_good,
+};
+use dae_select_walks::Edge;
+use std::alloc::{AllocError, Global};
+
+/// Whether A alone needs the variable, so that E doesn't have its value sent where it is set.
+fn is_chosen(classes: &[Class], variable: u32) -> bool
+    ensures { result ≡ chosen_by classes.now variable }
+{
+    match classes.get(variable as usize) {
+        Some(class) => class.a && !class.e,
+        None => false,
+    }
+}
+
+/// Whether each word that the variable may hold is a good address of an access of the width.
+fn is_known(memory: u32, classes: &[Class], known: &Known, width: Width, variable: u32) -> bool
+    ensures { result
+        ≡ is_known memory (chosen_by classes.now) (facts_by known.now) width variable }
+{
+    is_chosen(classes, variable)
+        && 0 < variable
+        && is_good(memory, width, bounds_in(known, variable))
+}
+
+fn elide_check(memory: u32, classes: &[Class], known: &Known, check: Check) -> Item
+    ensures { result ≡ elided_check memory (chosen_by classes.now) (facts_by known.now) check }
+{
+    match check {
+        Check::Place(width, Operand::Variable(variable)) => {
+            if is_known(memory, classes, known, width, variable) {
+                Item::Assign(variable, Value::Same(Operand::Variable(variable)))
+            } else {
+                Item::Expect(check)
+            }
+        }
+        Check::Place(_, Operand::Number(_)) => Item::Expect(check),
+        Check::Zero(_) => Item::Expect(check),
+        Check::Room(_) => Item::Expect(check),
+        Check::Frame => Item::Expect(check),
+        Check::Abort => Item::Expect(check),
+    }
+}
+
+fn copy_operands(alloc: Global, operands: &[Operand]) -> Result<Items<Operand>, AllocError>
+    ensures { IfOk result (λ new. new ≡ operands.now) }
+{
+    let mut new = Vec::new(alloc);
+    new.extend_from_slice(operands)?;
+    Ok(Items::from_vec(new))
+}
+
+fn elide_item(
+    alloc: Global,
+    memory: u32,
+    classes: &[Class],
+    known: &Known,
+    item: &Item,
+) -> Result<Item, AllocError>
+    ensures { IfOk result (λ new.
+        new ≡ elided_item memory (chosen_by classes.now) (facts_by known.now) item.now) }
+{
+    match item {
+        Item::Assign(variable, value) => Ok(Item::Assign(*variable, *value)),
+        Item::Load(variable, kind, operand) => Ok(Item::Load(*variable, *kind, *operand)),
+        Item::Store(width, x, y) => Ok(Item::Store(*width, *x, *y)),
+        Item::Print(spelling, operand) => Ok(Item::Print(*spelling, *operand)),
+        Item::Expect(check) => Ok(elide_check(memory, classes, known, *check)),
+        Item::Break => Ok(Item::Break),
+        Item::Continue => Ok(Item::Continue),
+        Item::Call(variable, function, operands) => {
+            let operands = copy_operands(alloc, operands.as_slice())?;
+            Ok(Item::Call(*variable, *function, operands))
+        }
+        Item::Return(operand) => Ok(Item::Return(*operand)),
+        Item::Halt(operand) => Ok(Item::Halt(*operand)),
+    }
+}
+
+/// A statement without its known checks, and what is known behind it.
+#[derive(Drop)]
+struct Elided {
+    statement: Statement,
+    known: Known,
+}
+
+#[cycle(elide)]
+fn elide_statement(
+    alloc: Global,
+    memory: u32,
+    classes: &[Class],
+    known: Known,
+    statement: &Statement,
+) -> Result<Elided, AllocError>
+    ensures { IfOk result (λ e. IsElided memory (chosen_by classes.now) (facts_by known)
+        statement.now e.statement (facts_by e.known)) }
+{
+    match statement {
+        Statement::Simple(place, item) => {
+            let action = action_like(alloc, item);
+            let item = elide_item(alloc, memory, classes, &known, item)?;
+            let past = facts_behind(memory, known, &action)?;
+            Ok(Elided {
+                statement: Statement::Simple(*place, item),
+                known: past,
+            })
+        }
+        Statement::If(place, test, yes, no) => {
+            let branch = Branch::Silent(*test);
+            let in_first = facts_in_list(alloc, branch, Edge::Then, &known)?;
+            let first = elide_list(alloc, memory, classes, in_first, yes)?;
+            let in_second = facts_in_list(alloc, branch, Edge::Else, &known)?;
+            let second = elide_list(alloc, memory, classes, in_second, no)?;
+            let one = steps_like(alloc, yes)?;
+            let other = steps_like(alloc, no)?;
+            let past = facts_past_if(alloc, branch, one.as_slice(), other.as_slice(), &known)?;
+            Ok(Elided {
+                statement: Statement::If(*place, *test, first, second),
+                known: past,
+            })
+        }
+        Statement::Loop(place, body, step) => {
+            let turn = steps_like(alloc, body)?;
+            let again = steps_like(alloc, step)?;
+            let (turn, again) = (turn.as_slice(), again.as_slice());
+            let at_turn = facts_at_turn(alloc, memory, turn, again, &known)?;
+            let at_step = facts_behind_turn(alloc, turn, &at_turn)?;
+            let past = facts_past_loop(alloc, turn, again, &known)?;
+            let first = elide_list(alloc, memory, classes, at_turn, body)?;
+            let second = elide_list(alloc, memory, classes, at_step, step)?;
+            Ok(Elided {
+                statement: Statement::Loop(*place, first, second),
+                known: past,
+            })
+        }
+    }
+}
+
+/// Statements without the checks that are known to pass, where this is known before them, memory has so many addresses, and these
+/// are the classes of the variables.
+#[cycle(elide)]
+pub fn elide_list(
+    alloc: Global,
+    memory: u32,
+    classes: &[Class],
+    known: Known,
+    statements: &[Statement],
+) -> Result<Vec<Statement>, AllocError>
+    ensures { IfOk result (λ new. form_of new.items
+        ≡ elided memory (chosen_by classes.now) (facts_by known) (form_of statements.now)) }
+{
+    let mut new = Vec::new(alloc);
+    let mut known = known;
+    for statement in statements {
+        let elided = elide_statement(alloc, memory, classes, known, statement)?;
+        new.push(elided.statement)?;
+        known = elided.known;
+    }
+    Ok(new)
+}

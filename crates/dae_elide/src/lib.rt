@@ -1,0 +1,11 @@
+// Checks of places that are known to pass leave a form: in place of each the variable is set to itself, which needs no code. So
+// fewer messages tell that checks have passed.
+#![tactic(auto)]
+
+pub use theorems::{checks_are_elided, elision_keeps_sizes};
+pub use whole::elide_checks;
+
+mod eliding;
+mod likes;
+mod theorems;
+mod whole;
