@@ -5,7 +5,7 @@ use Rattle.std.specs.declared.alloc.Global.{Global}
 use Rattle.std.proofs.lemmas.List.{get_or_append_left}
 use Rattle.std.proofs.Math.Seq.{get_or-append_seam}
 use Rattle.std.proofs.lemmas.Bool.Decides.{nat_tests}
-use Rattle.dae_ir.specs.Code.{Done, If, Loop}
+use Rattle.dae_ir.specs.Code.{Done}
 use Rattle.dae_ir.specs.Streams.{Actions, actions_of, step_onto}
 use Rattle.dae_ir.specs.declared.stream.Mark.{Mark}
 use Rattle.dae_ir.specs.declared.stream.Branch.{Branch}

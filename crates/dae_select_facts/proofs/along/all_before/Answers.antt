@@ -43,12 +43,12 @@ loop-place-preserved c =
     let a = c.args in let m = a.memory in let begin = facts_by a.known in let steps = a.steps.now in
     let l = c.loop-place in let i = l.place in let s = c.index-steps-place.result in
     let lt = c.loop-place-test.true in
-    let b = c.in_ok-told_before-in-loop-place.field-0 in
+    let b = c.in_ok-told_before-2.field-0 in
     let known = facts_by c.loop-index.known in
     let told : IsBefore m known s (actions_of (drop (i + 1) steps)) b.need (facts_by b.known) =
-    subst (λ (z : List Step). IsBefore m known s (actions_of z) b.need (facts_by b.known)) (rest_is (i + 1) steps) c.in_ok-told_before-in-loop-place.ensures in
+    subst (λ (z : List Step). IsBefore m known s (actions_of z) b.need (facts_by b.known)) (rest_is (i + 1) steps) c.in_ok-told_before-2.ensures in
     let unasked = c.count_asked-asked.ensures.rest i s l.auto.place lt c.index-steps-place.is in
-    one_before m begin steps l.all.items c.push-in-loop-place.new.self.items i s b (drop (i + 1) steps) lt c.index-steps-place.is c.in_ok-push-in-loop-place.ensures.items refl
+    one_before m begin steps l.all.items c.push-in-loop-place.new.self.items i s b (drop (i + 1) steps) lt c.index-steps-place.is c.in_ok-push-2.ensures.items refl
     (unasked_before m known (facts_at m begin steps i) s (actions_of (drop (i + 1) steps)) b.need (facts_by b.known) unasked told) l.invariant
 
 pub returns : goal.returns

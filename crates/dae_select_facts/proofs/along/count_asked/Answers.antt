@@ -8,7 +8,7 @@ loop-index-init c = none_asked c.args.steps.now
 pub loop-index-preserved : goal.loop-index-preserved
 loop-index-preserved c =
     let l = c.loop-index in
-    one_asked c.args.steps.now l.asked c.asked_up_to.result l.index c.index-steps-index.result c.loop-index-test.true c.index-steps-index.is c.asked_up_to.ensures l.invariant
+    one_asked c.args.steps.now l.asked c.asked_up_to-asked.result l.index c.index-steps-index.result c.loop-index-test.true c.index-steps-index.is c.asked_up_to-asked.ensures l.invariant
 
 pub returns-clause-within : goal.returns-clause-within
 returns-clause-within c =
