@@ -180,19 +180,23 @@ pub item_given : {Y : Type 0} (place : Place) (item : Item) (a b : Written) (x :
 item_given place item a b x y h =
     given_written (only (one place item) x a.next) (only (one place item) y a.next) a b x y (λ h. record { code = h.code; given = refl; next = h.next }) refl h
 
--- one after the other
-pub written_on : {X Y : Type 0} (made : Made X) (f : X → ℕ → Made Y) (a b c : Written) (x : X) (y : Y) → Writes made a b x → Writes (f x b.next) b c y → Writes (made ≫ f) a c y
-written_on {X} {Y} made f a b c x y w v =
-    parts_written made (f x b.next) (made ≫ f) a b c x y y w v
+-- one after the other, of which the second is that behind what the first gives
+pub written_so : {X Y : Type 0} (made : Made X) (f : X → ℕ → Made Y) (second : Made Y) (a b c : Written) (x : X) (y : Y) → (x ≡ made.given → second ≡ f x b.next) → Writes made a b x → Writes second b c y → Writes (made ≫ f) a c y
+written_so {X} {Y} made f second a b c x y same w v =
+    parts_written made second (made ≫ f) a b c x y y w v
     (λ g h. record {
-      code = h.code ∙ ap (λ k. k ⨾ (f x b.next).code) g.code ∙ behind_behind a.code made.code (f x b.next).code ∙ ap (λ k. a.code ⨾ (made.code ⨾ k)) (both g (λ x n. (f x n).code));
-      given = h.given ∙ both g (λ x n. (f x n).given);
-      next = h.next ∙ both g (λ x n. (f x n).next);
+      code = h.code ∙ ap (λ k. k ⨾ second.code) g.code ∙ behind_behind a.code made.code second.code ∙ ap (λ k. a.code ⨾ (made.code ⨾ k)) (both g (λ m. m.code));
+      given = h.given ∙ both g (λ m. m.given);
+      next = h.next ∙ both g (λ m. m.next);
     })
     (λ some. let l = late_then made.code (f made.given made.next).code in omega (arith, l, some))
-    (λ g some. let l = late_then made.code (f made.given made.next).code in let same = both g (λ x n. late_in (f x n).code) in omega (arith, l, same, some)) where
-      both : Wrote made a b x → {A : Type 0} (k : X → ℕ → A) → k x b.next ≡ k made.given made.next
-      both g {A} k = ap (λ z. k z b.next) g.given ∙ ap (λ z. k made.given z) g.next
+    (λ g some. let l = late_then made.code (f made.given made.next).code in let same = both g (λ m. late_in m.code) in omega (arith, l, same, some)) where
+      both : Wrote made a b x → {A : Type 0} (k : Made Y → A) → k second ≡ k (f made.given made.next)
+      both g {A} k = ap k (same g.given) ∙ ap (λ z. k (f z b.next)) g.given ∙ ap (λ n. k (f made.given n)) g.next
+
+-- one after the other
+pub written_on : {X Y : Type 0} (made : Made X) (f : X → ℕ → Made Y) (a b c : Written) (x : X) (y : Y) → Writes made a b x → Writes (f x b.next) b c y → Writes (made ≫ f) a c y
+written_on made f a b c x y = written_so made f (f x b.next) a b c x y (λ e. refl)
 
 -- one after the other, of which the flag says which is given
 pub picked_written : {X : Type 0} (flag : Bool) (made : Made X) (f : X → ℕ → Made X) (a b c : Written) (x y : X) → Writes made a b x → Writes (f x b.next) b c y → Writes (made ≫ λ x n. f x n ≫ λ y. nothing (if flag then y else x)) a c (if flag then y else x)
