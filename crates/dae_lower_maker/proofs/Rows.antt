@@ -43,6 +43,12 @@ after_grows n = by (nat_lt n (2 ^ 32 - 1)) where
   by true = omega arith
   by false = omega arith
 
+pub after_most : (n : ℕ) → number_after n ≤ n + 1
+after_most n = by (nat_lt n (2 ^ 32 - 1)) where
+  by : (b : Bool) → (if b then n + 1 else n) ≤ n + 1
+  by true = omega arith
+  by false = omega arith
+
 pub after_fits : (n : ℕ) → number_after n < 2 ^ 32 - 1 → number_after n ≡ n + 1
 after_fits n lt = by (nat_lt n (2 ^ 32 - 1)) refl lt where
   by : (b : Bool) → nat_lt n (2 ^ 32 - 1) ≡ b → (if b then n + 1 else n) < 2 ^ 32 - 1 → (if b then n + 1 else n) ≡ n + 1

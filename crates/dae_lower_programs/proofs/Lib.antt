@@ -1,5 +1,6 @@
 mod Rows
 pub mod Laws
+mod Reserving
 mod Loops
 mod Firsts
 mod Arguments
