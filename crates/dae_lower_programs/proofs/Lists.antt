@@ -35,6 +35,11 @@ last_forms p fs i forms le h =
     subst (λ (gs : List FormFunction). AreFormsOf p 0 fs gs) (append-nil forms)
     (h.ends [] (subst (λ (xs : List Function). AreFormsOf p i xs []) (sym (drop_all i fs le)) tt))
 
+pub there : (fs : List Function) (i : ℕ) (f : Function) → i < length fs → f ≡ get_or fs i f → slice_get fs i ≡ Some f
+there [] i f lt is = absurd (omega (arith, lt))
+there (g ∷ gs) zero f lt is = ap Some (sym is)
+there (g ∷ gs) (suc i) f lt is = there gs i f (omega (arith, lt)) is
+
 -- ---- parameters
 
 pub below_word : (f : Function) → NumbersParameters f → f.variables < 2 ^ 32 → 1 + length f.parameters < 2 ^ 32

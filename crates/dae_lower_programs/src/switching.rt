@@ -10,6 +10,7 @@ ghost use Rattle.dae_ir.specs.declared.form.Item.TheVariants.{Assign, Break, Con
 ghost use Rattle.dae_ir.specs.declared.form.Operand.TheVariants.{Number, Variable};
 ghost use Rattle.dae_ir.specs.declared.form.Value.TheVariants.{Same};
 ghost use Rattle.dae_lower_expressions.specs.Lowered.{MakesWhole};
+ghost use Rattle.dae_lower_maker.specs.Numbers.{number_after};
 ghost use Rattle.dae_lower_programs.specs.Switching.{arm_done, switch_begun, switch_ended};
 ghost use Rattle.dae_meaning.specs.declared.Comparison.TheVariants.{NotEqual};
 ghost use Rattle.dae_program.specs.Switches.{arm_with, count_arms, has_label};
@@ -33,13 +34,14 @@ pub struct Dispatch {
     pub arm: u32,
 }
 
-/// A switch between its beginning and its end: its place, the variable that has the number of the arm where it begins, and
-/// whether its arms continue a loop round it.
+/// A switch between its beginning and its end: its place, the variable that has the number of the arm where it begins, whether its
+/// arms continue a loop round it, and the variable that notes that.
 #[derive(Clone, Copy, PartialEq, Eq, Debug)]
 pub struct OpenSwitch {
     pub place: Place,
     pub arm: u32,
     pub continues: bool,
+    pub flag: u32,
 }
 
 /// Whether a label is `default`.
@@ -163,15 +165,17 @@ pub fn search(alloc: Global, dispatch: Dispatch, arms: &[Arm]) -> Result<Vec<Sta
 }
 
 /// Nothing has continued the loop outside yet, which a variable notes where something may.
-fn clear(lowerer: &mut Lowerer, switch: OpenSwitch, flag: u32) -> Result<(), AllocError>
+fn clear(lowerer: &mut Lowerer, switch: OpenSwitch) -> Result<(), AllocError>
     ensures { IfOk result
         (MakesWhole
         (emit (where_so switch.continues
-        (one switch.place (Assign flag (Same (Number 0)))))) lowerer.old lowerer.new) }
+        (one switch.place (Assign switch.flag (Same (Number 0)))))) lowerer.old lowerer.new) }
 {
     if switch.continues {
         let zero = Value::Same(Operand::Number(0));
-        lowerer.maker.item(switch.place, Item::Assign(flag, zero))?;
+        lowerer
+            .maker
+            .item(switch.place, Item::Assign(switch.flag, zero))?;
     }
     Ok(())
 }
@@ -190,9 +194,10 @@ pub fn begin_switch(
     ensures place { IfOk result (λ switch. switch.place ≡ place) }
     ensures continues { IfOk result
         (λ switch. switch.continues ≡ arms_continue (arms_of arms.now)) }
+    ensures flag { IfOk result (λ switch. switch.flag ≡ number_after switch.arm) }
 {
-    let v = lowerer.maker.reserve()?;
-    let flag = lowerer.maker.reserve()?;
+    let v = lowerer.maker.reserve();
+    let flag = lowerer.maker.reserve();
     let other = default_arm(arms)?;
     let dispatch = Dispatch {
         place,
@@ -207,8 +212,9 @@ pub fn begin_switch(
         place,
         arm: v,
         continues: arms_continue(arms),
+        flag,
     };
-    clear(lowerer, switch, flag)?;
+    clear(lowerer, switch)?;
     Ok(switch)
 }
 
@@ -238,34 +244,34 @@ pub fn do_arm(
 }
 
 /// What a continue in the arms goes to: it is noted, and the arms are left.
-fn note(alloc: Global, switch: OpenSwitch, flag: u32) -> Result<Vec<Statement>, AllocError>
+fn note(alloc: Global, switch: OpenSwitch) -> Result<Vec<Statement>, AllocError>
     ensures { IfOk result
         (λ block. form_of block.items
         ≡ where_so switch.continues
-        (Do switch.place (Assign flag (Same (Number 1))) (one switch.place Break))) }
+        (Do switch.place (Assign switch.flag (Same (Number 1))) (one switch.place Break))) }
 {
     let mut block = Vec::new(alloc);
     if switch.continues {
         let one = Value::Same(Operand::Number(1));
-        block.push(Statement::Simple(switch.place, Item::Assign(flag, one)))?;
+        block.push(Statement::Simple(switch.place, Item::Assign(switch.flag, one)))?;
         block.push(Statement::Simple(switch.place, Item::Break))?;
     }
     Ok(block)
 }
 
 /// Where the arms continued the loop outside, so does what is behind them.
-fn go_on(lowerer: &mut Lowerer, switch: OpenSwitch, flag: u32) -> Result<(), AllocError>
+fn go_on(lowerer: &mut Lowerer, switch: OpenSwitch) -> Result<(), AllocError>
     ensures { IfOk result
         (MakesWhole
         (emit (where_so switch.continues
-        (If switch.place (test_of NotEqual (Variable flag) (Number 0))
+        (If switch.place (test_of NotEqual (Variable switch.flag) (Number 0))
         (one switch.place Continue) Done Done))) lowerer.old lowerer.new) }
 {
     let place = switch.place;
     if switch.continues {
         let test = Test {
             comparison: Comparison::NotEqual,
-            left: Operand::Variable(flag),
+            left: Operand::Variable(switch.flag),
             right: Operand::Number(0),
         };
         let condition = Condition {
@@ -287,12 +293,11 @@ pub fn end_switch(
 ) -> Result<(), AllocError>
     ensures { IfOk result
         (MakesWhole
-        (switch_ended switch.place switch.arm switch.continues
+        (switch_ended switch.place switch.flag switch.continues
         (form_of body.items)) lowerer.old lowerer.new) }
 {
-    let flag = one_more(switch.arm)?;
-    let step = note(lowerer.alloc, switch, flag)?;
+    let step = note(lowerer.alloc, switch)?;
     lowerer.maker.repeat(switch.place, body, step)?;
-    go_on(lowerer, switch, flag)?;
+    go_on(lowerer, switch)?;
     Ok(())
 }

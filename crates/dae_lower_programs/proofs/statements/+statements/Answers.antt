@@ -150,7 +150,7 @@ make_switch-returns t c =
     let arms = arms_of c.args.arms.now in
     let v = c.in_ok-switch.switch.arm in
     let turns = arms_from l p v 0 arms in
-    switch_whole l p c.args.x (arm_with None 0 arms (count_arms arms)) arms (arms_continue arms) a (state_of first) ended z v c.end_block-body.result.items
+    switch_whole l p c.args.x (arm_with None 0 arms (count_arms arms)) arms (arms_continue arms) a (state_of first) ended z v c.in_ok-switch.switch.flag c.end_block-body.result.items c.in_ok-switch.ensures.flag
     (rw (c.in_ok-switch.ensures.continues) at (c.in_ok-switch.ensures.made))
     (block_whole (λ n. turns n ≫ λ u. emit (one p Break)) (state_of first) begun done ended c.begin_block-outer.result.items c.end_block-body.result.items c.begin_block-outer.ensures.after refl c.begin_block-outer.ensures.outer
     (then_whole turns (λ u. emit (one p Break)) begun (state_of inner) done tt tt c.in_ok-make_arms.ensures (leaf_whole (emit (one p Break)) (state_of inner) done tt refl c.in_ok-item.ensures))
