@@ -9,5 +9,6 @@ mod Parted
 mod Turns
 mod Closing
 mod Wholes
+mod Sound
 mod Lists
 mod Room

@@ -1,5 +1,5 @@
 -- The form of a function, where its file has these links, and of a parameter that is stored in the frame.
-use Rattle.std.specs.Prelude.{◌≡◌, ℕ, ◌+◌, ◌-◌, ◌^◌, ◌<◌, ◌≤◌, Bool, nat_eq, List, length, slice_get, Some}
+use Rattle.std.specs.Prelude.{◌≡◌, ℕ, ◌+◌, ◌-◌, ◌^◌, ◌<◌, Bool, nat_eq, List, length, slice_get, Some}
 use Rattle.dae_base.specs.declared.Place.{Place}
 use Rattle.dae_lower_formed.specs.Formed.{form_variables, plain}
 use Rattle.dae_ir.specs.Code.{Do}
@@ -27,10 +27,6 @@ linked none links f = record {
   frame = f.frame;
   body = view_statements f.body;
 }
-
--- variable 0 and the parameters are among its variables
-abbrev pub NumbersParameters : Function → Type 0
-NumbersParameters f = 1 + length f.parameters ≤ f.variables
 
 -- Words number the variables of a function's form: its own, and those that lowering makes, so that none of the last is set.
 abbrev pub HasNumbersWith : (none : ℕ) → Links → (is_main : Bool) → Function → Type 0

@@ -1,6 +1,6 @@
 // The form of a function: what its frame needs, its parameters, its statements, and an end.
 
-ghost use Rattle.std.specs.Prelude.{◌≡◌, ◌<◌, ◌≤◌, ◌+◌, ◌^◌, ◌&&◌, [], ◌∷◌, length, nat_eq, not, if◌then◌else◌, IfOk};
+ghost use Rattle.std.specs.Prelude.{◌≡◌, ◌<◌, ◌+◌, ◌^◌, ◌&&◌, [], ◌∷◌, length, nat_eq, not, if◌then◌else◌, IfOk};
 ghost use Rattle.std.specs.List.{AllByRecursion};
 ghost use Rattle.dae_lower_formed.specs.Formed.{AreFormsOf, IsFunctionFormOf};
 ghost use Rattle.dae_ir.specs.Code.{Done};
@@ -10,7 +10,8 @@ ghost use Rattle.dae_ir.specs.declared.form.Item.TheVariants.{Expect, Halt, Retu
 ghost use Rattle.dae_ir.specs.declared.form.Operand.TheVariants.{Number};
 ghost use Rattle.dae_lower.specs.Lowering.{checks, closed, emit, is_closed, parameters_stored};
 ghost use Rattle.dae_lower_expressions.specs.Lowered.{MakesWhole};
-ghost use Rattle.dae_lower_programs.specs.Functions.{HasNumbers, HasNumbersWith, HaveNumbers, IsFormWith, NumbersParameters, slot_stored};
+ghost use Rattle.dae_lower_programs.specs.Functions.{HasNumbers, HasNumbersWith, HaveNumbers, IsFormWith, slot_stored};
+ghost use Rattle.dae_lower_programs.specs.Sound.{IsNumbered};
 ghost use Rattle.dae_lower_programs.specs.Invocations.{at_startup};
 
 use crate::make_statements;
@@ -183,7 +184,7 @@ fn lower_with(
     invocation: Invocation,
     f: &Function,
 ) -> Result<FormFunction, AllocError>
-    requires parameters { NumbersParameters f.now }
+    requires numbered { IsNumbered f.now }
     requires numbers { HasNumbersWith none links.now (at_startup invocation) f.now }
     ensures { IfOk result (IsFormWith none links.now (at_startup invocation) f.now) }
 {
@@ -219,7 +220,7 @@ fn lower_function(
     f: &Function,
 ) -> Result<FormFunction, AllocError>
     requires none { none ≡ length program.now.functions }
-    requires parameters { NumbersParameters f.now }
+    requires numbered { IsNumbered f.now }
     requires numbers { HasNumbers program.now number f.now }
     ensures { IfOk result (IsFunctionFormOf program.now number f.now) }
 {
@@ -249,7 +250,7 @@ fn lower_each(
 ) -> Result<Vec<FormFunction>, AllocError>
     requires none { none ≡ length program.now.functions }
     requires few { length functions.now < 2 ^ 32 }
-    requires parameters { AllByRecursion NumbersParameters functions.now }
+    requires numbered { AllByRecursion IsNumbered functions.now }
     requires numbers { HaveNumbers program.now functions.now }
     ensures { IfOk result (λ gs. AreFormsOf program.now 0 functions.now gs.items) }
 {

@@ -1,6 +1,6 @@
 // Where a switch begins (C90 6.6.4.2).
 
-ghost use Rattle.std.specs.Prelude.{◌≡◌, [], ◌∷◌, IfOk, None};
+ghost use Rattle.std.specs.Prelude.{◌≡◌, ◌<◌, ◌^◌, [], ◌∷◌, length, IfOk, None};
 ghost use Rattle.dae_ir.specs.Code.{Do, Done, If};
 ghost use Rattle.dae_ir.specs.Form.{before, form_of, Form};
 ghost use Rattle.dae_lower.specs.Lowering.{arms_continue, emit, one, search, search_labels, test_of, where_so, ◌⨾◌};
@@ -20,7 +20,7 @@ use crate::continuing::arms_continue;
 use dae_base::Place;
 use dae_ir::{Item, Operand, Statement, Test, Value};
 use dae_lower_expressions::Lowerer;
-use dae_lower_maker::{Condition, one_more};
+use dae_lower_maker::Condition;
 use dae_meaning::Comparison;
 use dae_program::Arm;
 use std::alloc::{AllocError, Global};
@@ -64,18 +64,18 @@ fn has_default(labels: &[Option<u32>]) -> bool
 }
 
 /// The number of the arm with `default`, and where there is none of the end.
-pub fn default_arm(arms: &[Arm]) -> Result<u32, AllocError>
-    ensures { IfOk result
-        (λ k. k ≡ arm_with None 0 (arms_of arms.now) (count_arms (arms_of arms.now))) }
+pub fn default_arm(arms: &[Arm]) -> u32
+    requires { length arms.now < 2 ^ 32 }
+    ensures { result ≡ arm_with None 0 (arms_of arms.now) (count_arms (arms_of arms.now)) }
 {
     let mut number = 0;
     for arm in arms {
         if has_default(&arm.labels) {
-            return Ok(number);
+            return number;
         }
-        number = one_more(number)?;
+        number += 1;
     }
-    Ok(number)
+    number
 }
 
 /// Where the value equals a label, the search ends, and the arm of this number is the first.
@@ -150,6 +150,7 @@ fn search_labels(
 
 /// The search for the first arm, whose number a variable gets.
 pub fn search(alloc: Global, dispatch: Dispatch, arms: &[Arm]) -> Result<Vec<Statement>, AllocError>
+    requires { length arms.now < 2 ^ 32 }
     ensures { IfOk result
         (λ block. form_of block.items
         ≡ search dispatch.place dispatch.value dispatch.arm 0 (arms_of arms.now)) }
@@ -158,7 +159,7 @@ pub fn search(alloc: Global, dispatch: Dispatch, arms: &[Arm]) -> Result<Vec<Sta
     let mut number = 0;
     for arm in arms {
         search_labels(alloc, &mut block, dispatch, number, &arm.labels)?;
-        number = one_more(number)?;
+        number += 1;
     }
     block.push(Statement::Simple(dispatch.place, Item::Break))?;
     Ok(block)
@@ -180,13 +181,14 @@ fn clear(lowerer: &mut Lowerer, switch: OpenSwitch) -> Result<(), AllocError>
     Ok(())
 }
 
-/// A switch up to its arms, with two variables of its own.
+/// A switch up to its arms, which words number, with two variables of its own.
 pub fn begin_switch(
     lowerer: &mut Lowerer,
     place: Place,
     x: Operand,
     arms: &[Arm],
 ) -> Result<OpenSwitch, AllocError>
+    requires { length arms.now < 2 ^ 32 }
     ensures made { IfOk result
         (λ switch. MakesWhole
         (switch_begun place x (arm_with None 0 (arms_of arms.now) (count_arms (arms_of arms.now)))
@@ -198,7 +200,7 @@ pub fn begin_switch(
 {
     let v = lowerer.maker.reserve();
     let flag = lowerer.maker.reserve();
-    let other = default_arm(arms)?;
+    let other = default_arm(arms);
     let dispatch = Dispatch {
         place,
         value: x,

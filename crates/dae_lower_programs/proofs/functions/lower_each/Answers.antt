@@ -1,14 +1,14 @@
 use Rattle.std.proofs.Common.{◌+◌, ℕ, refl, ap, sym, subst, arith}
 use Rattle.dae_lower_formed.specs.Formed.{IsFunctionFormOf}
-use Rattle.dae_lower_programs.proofs.Lists.{first_forms, last_forms, next_forms, parameters_at, there}
+use Rattle.dae_lower_programs.proofs.Lists.{first_forms, last_forms, next_forms, numbered_at, there}
 use Rattle.dae_lower_programs.specs.Functions.{HasNumbers}
 use Rattle.dae_lower_programs.proofs.functions.lower_each.Goals as goal
 
 pub loop-f-init : goal.loop-f-init
 loop-f-init c = (refl, first_forms c.args.program.now c.args.functions.now c.new-forms.result.items c.new-forms.ensures.items)
 
-pub lower_function-requires-clause-parameters : goal.lower_function-requires-clause-parameters
-lower_function-requires-clause-parameters c = parameters_at c.args.functions.now c.loop-f.f-index c.f-item.result c.loop-f-test.true c.f-item.is c.requires.parameters
+pub lower_function-requires-clause-numbered : goal.lower_function-requires-clause-numbered
+lower_function-requires-clause-numbered c = numbered_at c.args.functions.now c.loop-f.f-index c.f-item.result c.loop-f-test.true c.f-item.is c.requires.numbered
 
 pub lower_function-requires-clause-numbers : goal.lower_function-requires-clause-numbers
 lower_function-requires-clause-numbers c =

@@ -10,6 +10,7 @@ use Rattle.dae_lower_expressions.specs.Lowered.{Whole, links_in, state_of}
 use Rattle.dae_lower_programs.proofs.Lists.{below_word}
 use Rattle.dae_lower_programs.proofs.Wholes.{code_closed, function_written, stays_below}
 use Rattle.dae_lower_programs.specs.Invocations.{at_startup}
+use Rattle.dae_lower_programs.specs.Sound.{AreSound}
 use Rattle.dae_program.specs.Views.{view_statements}
 use Rattle.dae_program.specs.declared.program.Slot.{Slot}
 use Rattle.dae_program.specs.declared.statements.Statement.{Statement}
@@ -17,7 +18,10 @@ use Rattle.dae_lower_programs.proofs.functions.lower_with.Goals as goal
 
 pub store_parameters-requires : goal.store_parameters-requires
 store_parameters-requires c =
-    subst (λ (xs : List (Option Slot)). 1 + length xs < 2 ^ 32) (sym c.as_slice.ensures) (below_word c.args.f.now c.requires.parameters c.see_word.ensures)
+    subst (λ (xs : List (Option Slot)). 1 + length xs < 2 ^ 32) (sym c.as_slice.ensures) (below_word c.args.f.now c.requires.numbered c.see_word.ensures)
+
+pub make_statements-requires : goal.make_statements-requires
+make_statements-requires c = let n = c.requires.numbered in subst (λ (ss : List Statement). AreSound (view_statements ss)) (sym c.as_slice-2.ensures) n.statements
 
 pub returns : goal.returns
 returns c =
