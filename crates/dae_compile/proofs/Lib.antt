@@ -1,6 +1,7 @@
 mod Accesses
 mod Fitting
 mod Small
+mod Numbers
 mod Names
 mod Own
 mod Private
