@@ -63,7 +63,7 @@ after_full n le = by (nat_lt n (2 ^ 32 - 1)) le where
 
 pub late_there : (v : ℕ) → 2 ^ 32 - 1 ≤ v + 2 → late v ≡ 1
 late_there v le = let t : nat_le (2 ^ 32 - 1) (v + 2) ≡ true = grind (arith, nat_tests, le) in by (nat_le (2 ^ 32 - 1) (v + 2)) t where
-  by : (b : Bool) → b ≡ true → (if b then 1 else 0) ≡ 1
+  by : (b : Bool) → b ≡ true → ◌≡◌ {A = ℕ} (if b then 1 else 0) 1
   by true e = refl
   by false e = absurd (false≢true e)
 

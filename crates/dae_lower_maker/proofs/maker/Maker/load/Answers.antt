@@ -9,5 +9,5 @@ pub returns : goal.returns
 returns c =
     let made = loaded_next c.args.place c.args.kind c.args.x c.args.self.now.next in
     let code = form_of c.put.new.self.statements.items in
-    set_written made (so_far c.args.self.now) (so_far c.put.new.self) (record { code = code; next = c.after.result }) (Variable c.args.self.now.next)
-    c.in_ok-put.ensures (ap (λ (n : ℕ). record { code = code; next = n }) c.after.ensures) refl refl (omega arith)
+    set_written made (so_far c.args.self.now) (so_far c.put.new.self) (record { code = code; next = c.after-self.result }) (Variable c.args.self.now.next)
+    c.in_ok-put.ensures (ap (λ (n : ℕ). record { code = code; next = n }) c.after-self.ensures) refl refl (omega arith)
