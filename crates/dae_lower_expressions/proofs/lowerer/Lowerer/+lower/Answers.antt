@@ -150,7 +150,7 @@ effect-returns-in_ok-item-in-Putchar t c =
 pub effect-returns-in_ok-value-in_default : goal.effect-returns-in_ok-value-in_default
 effect-returns-in_ok-value-in_default t c =
     let other = c.in_default in
-    let plain = otherwise_plain c.args.self.now.alloc c.args.e.now other.not-Variable other.not-Convert other.not-Not other.not-Compare other.not-Conditional other.not-Comma other.not-Step other.not-Putchar in
+    let plain = otherwise_plain c.args.e.now other.not-Variable other.not-Convert other.not-Not other.not-Compare other.not-Conditional other.not-Comma other.not-Step other.not-Putchar in
     plain_lowered (links_in c.args.none c.args.links.now) (view c.args.e.now) _ _ _ _ plain c.in_ok-value-in_default.ensures
 
 pub condition-returns-in_ok-condition-in-Not : goal.condition-returns-in_ok-condition-in-Not
@@ -169,7 +169,7 @@ condition-returns-in_ok-condition-in-Comma t c =
 pub condition-returns-in_ok-x-in_default : goal.condition-returns-in_ok-x-in_default
 condition-returns-in_ok-x-in_default t c =
     let other = c.in_default in
-    let tested = otherwise_tested c.args.self.now.alloc c.args.e.now other.not-Not other.not-Compare other.not-Comma in
+    let tested = otherwise_tested c.args.e.now other.not-Not other.not-Compare other.not-Comma in
     rw (c.nonzero.ensures) (tested_lowered (links_in c.args.none c.args.links.now) (view c.args.e.now) _ _ _ _ tested c.in_ok-x-in_default.ensures)
 
 pub spot-returns-in_ok-change-in-Variable : goal.spot-returns-in_ok-change-in-Variable
