@@ -3,6 +3,7 @@ mod Fitting
 mod Passes
 mod Prepared
 mod Small
+mod Numbers
 mod Names
 mod Own
 mod Private

@@ -15,9 +15,10 @@ use dae_cli_options::Options;
 use dae_compile_promise::later_forms_do_programs;
 use dae_link::CodeError;
 use dae_lower_bounds::sets_bounded;
+use dae_lower_formed::{forms_name, variables_within};
 use dae_sizes::{
     definitions_are_short, forms_are_within, frames_are_within, functions_are_counted,
-    functions_initialise_constants, functions_test_values,
+    functions_are_within, functions_initialise_constants, functions_test_values,
 };
 use std::alloc::Global;
 
@@ -46,6 +47,9 @@ pub fn compile(
     forms_are_within();
     frames_are_within();
     functions_are_counted();
+    functions_are_within();
+    forms_name();
+    variables_within();
     functions_initialise_constants();
     functions_test_values();
     sets_bounded();

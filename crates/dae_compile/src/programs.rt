@@ -8,6 +8,7 @@ ghost use Rattle.dae_compile_promise.specs.Promises.{KeepsMeaning};
 ghost use Rattle.dae_link.specs.declared.error.CodeError.TheVariants as errors;
 ghost use Rattle.dae_ir.specs.Scope.{IsScoped};
 ghost use Rattle.dae_ir.specs.SetFirst.{IsFunctionSetFirst};
+ghost use Rattle.dae_lower_programs.specs.Functions.{HaveNumbers};
 ghost use Rattle.dae_lower_programs.specs.Lowered.{HasRoom};
 ghost use Rattle.dae_compile.specs.Compiled.{AreCompiledFrom, HasFewVariables, HasTooMuchPrivate, HasTooMuchCode, IsFinalForm};
 
@@ -35,6 +36,7 @@ fn see_bytes(bytes: &[u8])
 /// made, sets each variable before it reads it, and has room in its memory. An error is want of memory.
 fn final_form(alloc: Global, program: &Program, calls: u16) -> Result<Ir, AllocError>
     requires functions { length program.now.functions < 2 ^ 32 }
+    requires numbers { HaveNumbers program.now program.now.functions }
     requires variables { HasFewVariables program.now }
     ensures made { IfOk result (IsFinalForm program.now calls) }
     ensures scoped { IfOk result IsScoped }
@@ -73,6 +75,7 @@ pub fn compile_program(
     names: Items<Text>,
 ) -> Result<Compiled, CodeError>
     requires functions { length program.functions < 2 ^ 32 }
+    requires numbers { HaveNumbers program program.functions }
     requires variables { HasFewVariables program }
     requires least { 64 ≤ program.memory }
     requires aligned { program.memory % 16 ≡ 0 }

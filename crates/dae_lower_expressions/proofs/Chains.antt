@@ -1,17 +1,20 @@
 -- Parts of expressions, one behind the outer.
-use Rattle.std.proofs.Common.{◌≡◌, ℕ, ◌+◌, List, refl, ap, ◌∙◌, subst}
+use Rattle.std.proofs.Common.{◌≡◌, ◌⊎◌, ℕ, ◌+◌, ◌-◌, ◌^◌, ◌<◌, ◌≤◌, Bool, true, false, if◌then◌else◌, List, inl, inr, refl, ap, sym, ◌∙◌, subst, arith}
 use Rattle.dae_base.specs.declared.Place.{Place}
 use Rattle.dae_ir.specs.Classes.{VariableSet}
+use Rattle.dae_ir.specs.Code.{Done, If}
 use Rattle.dae_ir.specs.Form.{Form, form_of}
 use Rattle.dae_ir.specs.declared.form.Operand.TheVariants.{Variable}
 use Rattle.dae_ir.specs.declared.form.Statement.{Statement}
+use Rattle.dae_ir.specs.declared.form.Test.{Test}
 use Rattle.dae_lower.specs.Lowering.{nowhere, Made, Condition, ◌≫◌, ◌⨾◌, nothing, skip, emit, or, branches}
 use Rattle.dae_lower_expressions.proofs.Counting.{with_never, part_last, counted_both}
-use Rattle.dae_lower_expressions.specs.Lowered.{State, Lowers, IsBlock, Whole}
-use Rattle.dae_lower_maker.proofs.Laws.{behind_behind, nothing_written, written_on}
+use Rattle.dae_lower_expressions.specs.Lowered.{State, Lowers, IsBlock, Whole, WroteBlock}
+use Rattle.dae_lower_maker.proofs.Laws.{after_fits, after_full, after_grows, behind_behind, behind_done, below_or_last, late_then, late_there, nothing_written, written_on}
 use Rattle.dae_lower_maker.specs.Counting.{Counts, never, both, is_counted, Changes}
 use Rattle.dae_lower_maker.specs.declared.later.Change.TheVariants.{Add}
-use Rattle.dae_lower_maker.specs.Making.{Written, Writes, forked}
+use Rattle.dae_lower_maker.specs.Making.{Written, Writes, Wrote, forked}
+use Rattle.dae_lower_maker.specs.Numbers.{late, late_in, number_after}
 
 -- what holds no others
 pub leaf_lowered : {Y : Type 0} (made : VariableSet → ℕ → Made Y) (a b : State) (y : Y) → b.later ≡ a.later → Writes (made (is_counted a.later) a.written.next) a.written b.written y → Lowers made never a b y
@@ -53,36 +56,108 @@ same_lowered f some others a b y e h = subst (λ (c : Counts). Lowers f c a b y)
 
 -- ---- branches
 
+fork_late : (turned : Bool) (p : Place) (t : Test) (a b : Form) → late_in (if turned then If p t b a Done else If p t a b Done) ≡ late_in a + late_in b
+fork_late true p t a b = omega arith
+fork_late false p t a b = omega arith
+
+pub late_branches : (place : Place) (cond : Made Condition) (f g : ℕ → Made (Unit {0})) → late_in (branches place cond f g).code ≡ late_in cond.code + (late_in (f cond.next).code + late_in (g (f cond.next).next).code)
+late_branches place cond f g =
+    let s = late_then cond.code (if cond.given.turned then If place cond.given.test (g (f cond.next).next).code (f cond.next).code Done else If place cond.given.test (f cond.next).code (g (f cond.next).next).code Done) in
+    let i = fork_late cond.given.turned place cond.given.test (f cond.next).code (g (f cond.next).next).code in omega (arith, s, i)
+
 -- what is written last is the branches
 pub branched : (place : Place) (cond : Made Condition) (f g : ℕ → Made (Unit {0})) (a b d e z : Written) (c : Condition) (inner outer : List Statement) → Writes cond a b c → IsBlock (f b.next) b d inner → IsBlock (g d.next) d e outer → Writes (emit (forked place c (form_of inner) (form_of outer)) e.next) e z tt → Writes (branches place cond f g) a z tt
 branched place cond f g a b d e z c inner outer w i j p = record {
-  code = p.code ∙ ap (λ (k : Form). k ⨾ forked place c (form_of inner) (form_of outer)) (j.code ∙ i.code ∙ w.code)
-      ∙ behind_behind a.code cond.code (forked place c (form_of inner) (form_of outer))
-      ∙ ap (λ (k : Form). a.code ⨾ (cond.code ⨾ k)) (
-      ap (λ (c : Condition). forked place c (form_of inner) (form_of outer)) w.given
-      ∙ ap (λ (k : Form). forked place cond.given k (form_of outer)) first
-      ∙ ap (λ (k : Form). forked place cond.given (f cond.next).code k) second);
-  given = refl;
-  next = p.next ∙ (j.next ∙ ap (λ n. (g n).next) between);
+  grows = omega (arith, w.grows, i.grows, j.grows, p.grows);
+  fits = λ lt. wrote (w.fits (omega (arith, i.grows, j.grows, p.grows, lt))) (i.fits (omega (arith, j.grows, p.grows, lt))) (j.fits (omega (arith, p.grows, lt))) (p.fits lt);
+  full = λ start over. by_first start (below_or_last b.next) over;
 } where
-  first : form_of inner ≡ (f cond.next).code
-  first = i.block ∙ ap (λ n. (f n).code) w.next
+  first : Wrote cond a b c → WroteBlock (f b.next) b d inner → form_of inner ≡ (f cond.next).code
+  first w i = i.block ∙ ap (λ n. (f n).code) w.next
 
-  between : d.next ≡ (f cond.next).next
-  between = i.next ∙ ap (λ n. (f n).next) w.next
+  between : Wrote cond a b c → WroteBlock (f b.next) b d inner → d.next ≡ (f cond.next).next
+  between w i = i.next ∙ ap (λ n. (f n).next) w.next
 
-  second : form_of outer ≡ (g (f cond.next).next).code
-  second = j.block ∙ ap (λ n. (g n).code) between
+  second : Wrote cond a b c → WroteBlock (f b.next) b d inner → WroteBlock (g d.next) d e outer → form_of outer ≡ (g (f cond.next).next).code
+  second w i j = j.block ∙ ap (λ n. (g n).code) (between w i)
 
--- one variable is left to what is written
-pub reserved_lowered : (f : ℕ → VariableSet → ℕ → Made (Unit {0})) (some : Counts) (a b c : State) (v : ℕ) → v ≡ a.written.next → b.written ≡ record { code = a.written.code; next = v + 1 } → b.later ≡ a.later → Lowers (f v) some b c tt → Lowers (λ later n. f n later (n + 1) ≫ λ x. nothing (Variable n)) some a c (Variable v)
-reserved_lowered f some a b c v is after same h = record {
+  wrote : Wrote cond a b c → WroteBlock (f b.next) b d inner → WroteBlock (g d.next) d e outer → Wrote (emit (forked place c (form_of inner) (form_of outer)) e.next) e z tt → Wrote (branches place cond f g) a z tt
+  wrote w i j p = record {
+    code = p.code ∙ ap (λ (k : Form). k ⨾ forked place c (form_of inner) (form_of outer)) (j.code ∙ i.code ∙ w.code)
+        ∙ behind_behind a.code cond.code (forked place c (form_of inner) (form_of outer))
+        ∙ ap (λ (k : Form). a.code ⨾ (cond.code ⨾ k)) (
+        ap (λ (c : Condition). forked place c (form_of inner) (form_of outer)) w.given
+        ∙ ap (λ (k : Form). forked place cond.given k (form_of outer)) (first w i)
+        ∙ ap (λ (k : Form). forked place cond.given (f cond.next).code k) (second w i j));
+    given = refl;
+    next = p.next ∙ (j.next ∙ ap (λ n. (g n).next) (between w i));
+  }
+
+  all : late_in (branches place cond f g).code ≡ late_in cond.code + (late_in (f cond.next).code + late_in (g (f cond.next).next).code)
+  all = late_branches place cond f g
+
+  yes : Wrote cond a b c → 0 < late_in (f b.next).code → 0 < late_in (branches place cond f g).code
+  yes w some = let same = ap (λ n. late_in (f n).code) w.next in omega (arith, all, same, some)
+
+  no : Wrote cond a b c → WroteBlock (f b.next) b d inner → 0 < late_in (g d.next).code → 0 < late_in (branches place cond f g).code
+  no w i some = let same = ap (λ n. late_in (g n).code) (between w i) in omega (arith, all, same, some)
+
+  last : Wrote cond a b c → WroteBlock (f b.next) b d inner → WroteBlock (g d.next) d e outer → 0 < late_in (forked place c (form_of inner) (form_of outer)) → 0 < late_in (branches place cond f g).code
+  last w i j some =
+      let l = fork_late c.turned place c.test (form_of inner) (form_of outer) in
+      let m = ap (λ k. late_in k) (first w i) in
+      let n = ap (λ k. late_in k) (second w i j) in omega (arith, all, l, m, n, some)
+
+  by_third : b.next < 2 ^ 32 - 1 → d.next < 2 ^ 32 - 1 → (e.next < 2 ^ 32 - 1) ⊎ (2 ^ 32 - 1 ≤ e.next) → 2 ^ 32 - 1 ≤ z.next → 0 < late_in (branches place cond f g).code
+  by_third lb ld (inl le) over = last (w.fits lb) (i.fits ld) (j.fits le) (p.full le over)
+  by_third lb ld (inr le) over = no (w.fits lb) (i.fits ld) (j.full ld le)
+
+  by_second : b.next < 2 ^ 32 - 1 → (d.next < 2 ^ 32 - 1) ⊎ (2 ^ 32 - 1 ≤ d.next) → 2 ^ 32 - 1 ≤ z.next → 0 < late_in (branches place cond f g).code
+  by_second lb (inl ld) over = by_third lb ld (below_or_last e.next) over
+  by_second lb (inr ld) over = yes (w.fits lb) (i.full lb ld)
+
+  by_first : a.next < 2 ^ 32 - 1 → (b.next < 2 ^ 32 - 1) ⊎ (2 ^ 32 - 1 ≤ b.next) → 2 ^ 32 - 1 ≤ z.next → 0 < late_in (branches place cond f g).code
+  by_first start (inl lb) over = by_second lb (below_or_last d.next) over
+  by_first start (inr lb) over = let some = w.full start lb in omega (arith, all, some)
+
+-- a block for which the next variable stays
+pub exact_block : (made : Made (Unit {0})) (a b : Written) (inner : List Statement) → WroteBlock made a b inner → made.next ≡ a.next → IsBlock made a b inner
+exact_block made a b inner h same = record {
+  grows = omega (arith, h.next, same);
+  fits = λ lt. h;
+  full = λ start over. absurd (omega (arith, h.next, same, start, over));
+}
+
+-- one variable is left to what is written, which sets it
+reserved : (f : ℕ → Made (Unit {0})) (a c : Written) (v : ℕ) → v ≡ a.next → Writes (f (number_after v)) (record { code = a.code; next = number_after v }) c tt → late v ≤ late_in (f (v + 1)).code → Writes (f (v + 1) ≫ λ x. nothing (Variable v)) a c (Variable v)
+reserved f a c v is w sets = record {
+  grows = let g = after_grows v in omega (arith, is, g, w.grows);
+  fits = λ lt. wrote (after_fits v (omega (arith, w.grows, lt))) (w.fits lt);
+  full = λ start over. by (below_or_last (number_after v)) over;
+} where
+  wrote : number_after v ≡ v + 1 → Wrote (f (number_after v)) (record { code = a.code; next = number_after v }) c tt → Wrote (f (v + 1) ≫ λ x. nothing (Variable v)) a c (Variable v)
+  wrote one h =
+      let u = subst (λ (n : ℕ). Wrote (f n) (record { code = a.code; next = n }) c tt) one h in
+      record { code = u.code ∙ ap (λ (k : Form). a.code ⨾ k) (sym (behind_done (f (v + 1)).code)); given = refl; next = u.next }
+
+  all : late_in (f (v + 1) ≫ λ x. nothing (Variable v)).code ≡ late_in (f (v + 1)).code
+  all = ap (λ (k : Form). late_in k) (behind_done (f (v + 1)).code)
+
+  by : (number_after v < 2 ^ 32 - 1) ⊎ (2 ^ 32 - 1 ≤ number_after v) → 2 ^ 32 - 1 ≤ c.next → 0 < late_in (f (v + 1) ≫ λ x. nothing (Variable v)).code
+  by (inl lt) over =
+      let same = ap (λ (n : ℕ). late_in (f n).code) (after_fits v lt) in
+      let some = w.full lt over in omega (arith, all, same, some)
+  by (inr le) over =
+      let more = after_full v le in
+      let one = late_there v (omega (arith, more)) in omega (arith, all, one, sets)
+
+pub reserved_lowered : (f : ℕ → VariableSet → ℕ → Made (Unit {0})) (some : Counts) (a b c : State) (v : ℕ) → v ≡ a.written.next → b.written ≡ record { code = a.written.code; next = number_after v } → b.later ≡ a.later → ((later : VariableSet) → late v ≤ late_in (f v later (v + 1)).code) → Lowers (f v) some b c tt → Lowers (λ later n. f n later (n + 1) ≫ λ x. nothing (Variable n)) some a c (Variable v)
+reserved_lowered f some a b c v is after same sets h = record {
   by = λ rest e.
-      let start : Written = record { code = a.written.code; next = v + 1 } in
       let k = h.by rest (same ∙ e) in
       let w = subst (λ (s : Written). Writes (f v (is_counted rest) s.next) s c.written tt) after k.1 in
-      let u = written_on (f v (is_counted rest) (v + 1)) (λ x. nothing (Variable v)) start c.written c.written tt (Variable v) w (nothing_written c.written (Variable v)) in
-      (k.0, subst (λ (n : ℕ). Writes (f n (is_counted rest) (n + 1) ≫ λ x. nothing (Variable n)) a.written c.written (Variable v)) is (record { code = u.code; given = u.given; next = u.next }));
+      let u = reserved (f v (is_counted rest)) a.written c.written v is w (sets (is_counted rest)) in
+      (k.0, subst (λ (n : ℕ). Writes (f n (is_counted rest) (n + 1) ≫ λ x. nothing (Variable n)) a.written c.written (Variable v)) is u);
 }
 
 -- what is counted first, and lowered then, is a whole

@@ -1,2 +1,3 @@
--- Laws for the crates above: of branches.
-pub use Rattle.dae_lower_expressions.proofs.Chains.{branched}
+-- Laws for the crates above: of branches and blocks.
+pub use Rattle.dae_lower_expressions.proofs.Chains.{branched, exact_block}
+pub use Rattle.dae_lower_expressions.proofs.Nodes.{alone}

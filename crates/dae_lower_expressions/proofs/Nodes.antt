@@ -1,5 +1,5 @@
 -- Nodes with branches, and lists of expressions.
-use Rattle.std.proofs.Common.{◌≡◌, ℕ, ◌+◌, Bool, true, false, ◌||◌, List, [], ◌∷◌, ◌++◌, if◌then◌else◌, refl, ap, sym, ◌∙◌, subst, append-nil}
+use Rattle.std.proofs.Common.{◌≡◌, ℕ, ◌+◌, arith, Bool, true, false, ◌||◌, List, [], ◌∷◌, ◌++◌, if◌then◌else◌, refl, ap, sym, ◌∙◌, subst, append-nil}
 use Rattle.dae_base.specs.declared.LoadKind.{LoadKind}
 use Rattle.dae_meaning.specs.declared.Operator.{Operator}
 use Rattle.dae_base.specs.declared.Place.{Place}
@@ -13,16 +13,17 @@ use Rattle.dae_ir.specs.declared.form.Operand.TheVariants.{Variable, Number}
 use Rattle.dae_ir.specs.declared.form.Statement.{Statement}
 use Rattle.dae_ir.specs.declared.form.Value.TheVariants.{Same}
 use Rattle.dae_lower.specs.Lowering.{Made, Condition, Links, Spot, Local, Ways, ways, spot, operands, ◌≫◌, nothing, emit, one, or, just, advanced, assigned, assigned_target, assigned_all, branches, chosen, gives, held, isnt_zero, narrowed, operated, put_in, variable}
-use Rattle.dae_lower_expressions.proofs.Chains.{leaf_lowered, nothing_lowered, then_lowered, both_lowered, dropped_lowered, given_lowered, same_lowered, branched, reserved_lowered}
+use Rattle.dae_lower_expressions.proofs.Chains.{exact_block, late_branches, leaf_lowered, nothing_lowered, then_lowered, both_lowered, dropped_lowered, given_lowered, same_lowered, branched, reserved_lowered}
 use Rattle.dae_lower_expressions.proofs.Counting.{never_with, part_last, parts_together, counted_both, assigned_told, all_told}
 use Rattle.dae_lower_expressions.specs.Assignments.{assignments, target_assignments, all_assignments}
 use Rattle.dae_lower_expressions.specs.Lowered.{State, Lowers, Parts, IsBlock, used, chosen_by}
 use Rattle.dae_lower_expressions.specs.declared.leaves.Part.{Part}
 use Rattle.dae_lower_expressions.specs.declared.leaves.Part.TheVariants.{Value, Truth}
-use Rattle.dae_lower_maker.proofs.Laws.{nothing_written, written_on}
+use Rattle.dae_lower_maker.proofs.Laws.{late_then, nothing_written, written_so}
 use Rattle.dae_lower_maker.specs.Counting.{Counts, never, once, both, is_counted, Changes}
 use Rattle.dae_lower_maker.specs.declared.later.Change.TheVariants.{Add, Remove}
 use Rattle.dae_lower_maker.specs.Making.{Written, Writes, forked}
+use Rattle.dae_lower_maker.specs.Numbers.{number_after}
 use Rattle.dae_program.specs.Trees.{Expression, Target, Expressions, Call, Putchar, Exit, Abort, Frame, Address, Read, Convert, Not, Binary, Compare, And, Or, Conditional, Comma, Assign, Update, Step, InVariable, AtAddress, no_expressions, expression_then}
 use Rattle.dae_program.specs.Trees as tree
 
@@ -42,7 +43,7 @@ forked_lowered place fc f g some others s a b z d e c inner outer told h blocks 
 
 -- a variable gets a number
 constant_block : (place : Place) (v k : ℕ) (a : Written) (block : List Statement) → form_of block ≡ one place (item.Assign v (Same (Number k))) → IsBlock (gives place v (Number k) a.next) a a block
-constant_block place v k a block e = record { code = refl; block = e; next = refl }
+constant_block place v k a block e = exact_block (gives place v (Number k) a.next) a a block (record { code = refl; block = e; next = refl }) refl
 
 pub truth_lowered : (place : Place) (v : ℕ) (w : Ways) (some : Counts) (a b z : State) (c : Condition) (inner outer : List Statement)
     → Lowers w.condition some a b c → form_of inner ≡ one place (item.Assign v (Same (Number 1))) → form_of outer ≡ one place (item.Assign v (Same (Number 0)))
@@ -56,19 +57,21 @@ truth_lowered place v w some a b z c inner outer h k l same p = record {
 
 pub and_lowered : (place : Place) (fc : VariableSet → ℕ → Made Condition) (w : Ways) (some others : Counts) (s : VariableSet) (a b d e z : State) (v : ℕ) (c : Condition) (inner outer : List Statement)
     → is_counted others ≡ s → Lowers fc some b d c → Parts (used (Truth place v) w) others d e inner → form_of outer ≡ one place (item.Assign v (Same (Number 0)))
-    → v ≡ a.written.next → b.written ≡ record { code = a.written.code; next = v + 1 } → b.later ≡ a.later → z.later ≡ e.later
+    → v ≡ a.written.next → b.written ≡ record { code = a.written.code; next = number_after v } → b.later ≡ a.later → z.later ≡ e.later
     → Writes (emit (forked place c (form_of inner) (form_of outer)) e.written.next) e.written z.written tt
     → Lowers (λ later n. branches place (fc (or later s) (n + 1)) (λ k. branches place (w.condition later k) (gives place n (Number 1)) (gives place n (Number 0))) (gives place n (Number 0)) ≫ λ x. nothing (Variable n)) (both some others) a z (Variable v)
 and_lowered place fc w some others s a b d e z v c inner outer told h k l is after same last p = reserved_lowered (λ n later m. branches place (fc (or later s) m) (used (Truth place n) w later) (gives place n (Number 0))) (both some others) a b z v is after same
+    (λ later. let l = late_branches place (fc (or later s) (v + 1)) (used (Truth place v) w later) (gives place v (Number 0)) in omega (arith, l))
     (forked_lowered place fc (used (Truth place v) w) (λ later. gives place v (Number 0)) some others s b d z e.written e.written c inner outer told h
     (λ rest q. let j = k.by rest q in (last ∙ j.0, j.1, constant_block place v 0 e.written outer l)) p)
 
 pub or_lowered : (place : Place) (fc : VariableSet → ℕ → Made Condition) (w : Ways) (some others : Counts) (s : VariableSet) (a b d e z : State) (v : ℕ) (c : Condition) (inner outer : List Statement)
     → is_counted others ≡ s → Lowers fc some b d c → Parts (used (Truth place v) w) others d e outer → form_of inner ≡ one place (item.Assign v (Same (Number 1)))
-    → v ≡ a.written.next → b.written ≡ record { code = a.written.code; next = v + 1 } → b.later ≡ a.later → z.later ≡ e.later
+    → v ≡ a.written.next → b.written ≡ record { code = a.written.code; next = number_after v } → b.later ≡ a.later → z.later ≡ e.later
     → Writes (emit (forked place c (form_of inner) (form_of outer)) e.written.next) e.written z.written tt
     → Lowers (λ later n. branches place (fc (or later s) (n + 1)) (gives place n (Number 1)) (λ k. branches place (w.condition later k) (gives place n (Number 1)) (gives place n (Number 0))) ≫ λ x. nothing (Variable n)) (both some others) a z (Variable v)
 or_lowered place fc w some others s a b d e z v c inner outer told h k l is after same last p = reserved_lowered (λ n later m. branches place (fc (or later s) m) (gives place n (Number 1)) (used (Truth place n) w later)) (both some others) a b z v is after same
+    (λ later. let l = late_branches place (fc (or later s) (v + 1)) (gives place v (Number 1)) (used (Truth place v) w later) in omega (arith, l))
     (forked_lowered place fc (λ later. gives place v (Number 1)) (used (Truth place v) w) some others s b d z d.written e.written c inner outer told h
     (λ rest q. let j = k.by rest q in (last ∙ j.0, constant_block place v 1 d.written inner l, j.1)) p)
 
@@ -88,11 +91,26 @@ chosen_lowered place part x y z first second third s a d e g dl dm el em gl last
 
 -- what a conditional expression gives, in a variable
 pub picked_lowered : (place : Place) (x y z : Ways) (some : Counts) (s : VariableSet) (a b last : State) (v : ℕ) → Lowers (chosen_by place (Value place v) x y z s) some b last tt
-    → v ≡ a.written.next → b.written ≡ record { code = a.written.code; next = v + 1 } → b.later ≡ a.later
+    → v ≡ a.written.next → b.written ≡ record { code = a.written.code; next = number_after v } → b.later ≡ a.later
     → Lowers (λ later n. chosen place s x y z later n) some a last (Variable v)
-picked_lowered place x y z some s a b last v h is after same = reserved_lowered (λ n. chosen_by place (Value place n) x y z s) some a b last v is after same h
+picked_lowered place x y z some s a b last v h is after same =
+    reserved_lowered (λ n. chosen_by place (Value place n) x y z s) some a b last v is after same
+    (λ later.
+    let c = x.condition (or later s) (v + 1) in
+    let l = late_branches place c (used (Value place v) y later) (used (Value place v) z later) in
+    let t = late_then (y.value later c.next).code (one place (item.Assign v (Same (y.value later c.next).given))) in omega (arith, l, t))
+    h
 
 -- statements of their own
+pub alone : (made : Made (Unit {0})) (a c d : Written) (outer inner : List Statement) → form_of outer ≡ a.code → form_of inner ≡ c.code → d ≡ record { code = form_of outer; next = c.next } → Writes made (record { code = Done; next = a.next }) c tt → IsBlock made a d inner
+alone made a c d outer inner out in_it ended w = record {
+  grows = omega (arith, number, w.grows);
+  fits = λ lt. let h = w.fits (omega (arith, number, lt)) in record { code = ap (λ (s : Written). s.code) ended ∙ out; block = in_it ∙ h.code; next = number ∙ h.next };
+  full = λ start over. w.full start (omega (arith, number, over));
+} where
+  number : d.next ≡ c.next
+  number = ap (λ (s : Written). s.next) ended
+
 pub block_made : (made : VariableSet → ℕ → Made (Unit {0})) (some : Counts) (a b c d : State) (outer inner : List Statement)
     → b.written ≡ record { code = Done; next = a.written.next } → b.later ≡ a.later → form_of outer ≡ a.written.code → Lowers made some b c tt
     → form_of inner ≡ c.written.code → d.written ≡ record { code = form_of outer; next = c.written.next } → d.later ≡ c.later → Parts made some a d inner
@@ -100,7 +118,7 @@ block_made made some a b c d outer inner begun same out h in_it ended after = re
   by = λ rest q.
       let i = h.by rest (same ∙ q) in
       let w = subst (λ (s : Written). Writes (made (is_counted rest) s.next) s c.written tt) begun i.1 in
-      (after ∙ i.0, record { code = ap (λ (s : Written). s.code) ended ∙ out; block = in_it ∙ w.code; next = ap (λ (s : Written). s.next) ended ∙ w.next });
+      (after ∙ i.0, alone (made (is_counted rest) a.written.next) a.written c.written d.written outer inner out in_it ended w);
 }
 
 -- ---- targets
@@ -130,11 +148,11 @@ pub step_lowered : (l : Links) (place : Place) (kind : LoadKind) (t : Target) (c
 step_lowered l place kind t change new a b c o z h same w = record {
   by = λ rest q.
       let i = h.by rest q in
-      let e = step_held l place kind t (is_counted rest) a.written.next o new i.1.given in (
+      let behind = λ (g : ℕ → Made Operand). g b.written.next ≫ λ x n. advanced place kind change o x n ≫ λ y. nothing (if new then y else x) in (
         same ∙ i.0,
-        written_on (spot l t (is_counted rest) a.written.next) (λ o n. held place kind (if new then is_counted rest else or (is_counted rest) (assigned_target t)) o n ≫ λ x n. advanced place kind change o x n ≫ λ y. nothing (if new then y else x)) a.written b.written c.written o z i.1
-            (subst (λ (g : ℕ → Made Operand). Writes (g b.written.next ≫ λ x n. advanced place kind change o x n ≫ λ y. nothing (if new then y else x)) b.written c.written z) e
-            (subst (λ (s : Counts). Writes (held place kind (if new then is_counted s else (λ v. true)) o b.written.next ≫ λ x n. advanced place kind change o x n ≫ λ y. nothing (if new then y else x)) b.written c.written z) i.0 w)),
+        written_so (spot l t (is_counted rest) a.written.next) (λ o n. held place kind (if new then is_counted rest else or (is_counted rest) (assigned_target t)) o n ≫ λ x n. advanced place kind change o x n ≫ λ y. nothing (if new then y else x))
+            (behind (held place kind (if new then is_counted rest else (λ v. true)) o)) a.written b.written c.written o z (λ e. ap behind (step_held l place kind t (is_counted rest) a.written.next o new e)) i.1
+            (subst (λ (s : Counts). Writes (held place kind (if new then is_counted s else (λ v. true)) o b.written.next ≫ λ x n. advanced place kind change o x n ≫ λ y. nothing (if new then y else x)) b.written c.written z) i.0 w),
       );
 }
 

@@ -1,5 +1,5 @@
 -- What a lowerer has written and what is still to come, before and after a part of an expression.
-use Rattle.std.specs.Prelude.{◌≡◌, ℕ, List}
+use Rattle.std.specs.Prelude.{◌≡◌, ℕ, ◌-◌, ◌^◌, ◌<◌, ◌≤◌, List}
 use Rattle.dae_ir.specs.Classes.{VariableSet}
 use Rattle.dae_ir.specs.Form.{form_of}
 use Rattle.dae_ir.specs.declared.form.Statement.{Statement}
@@ -11,6 +11,7 @@ use Rattle.dae_lower_expressions.specs.declared.leaves.Part.{Part}
 use Rattle.dae_lower_expressions.specs.declared.leaves.Part.TheVariants.{Value, Truth, Effect}
 use Rattle.dae_lower_maker.specs.Counting.{Counts, both, never, is_counted, counts_of}
 use Rattle.dae_lower_maker.specs.Making.{Written, Writes, so_far}
+use Rattle.dae_lower_maker.specs.Numbers.{late_in}
 use Rattle.dae_lower_maker.specs.declared.maker.Increment.{Increment}
 use Rattle.dae_program.specs.Resolved.{address_in, callee_in}
 use Rattle.dae_program.specs.Trees.{Expression, Target, Step}
@@ -39,10 +40,16 @@ abbrev pub LowersTo : {Y : Type 0} → (VariableSet → ℕ → Made Y) → Coun
 LowersTo made some old new y = Lowers made some (state_of old) (state_of new) y
 
 -- statements of their own, and nothing is written
-pub record IsBlock (made : Made (Unit {0})) (a b : Written) (inner : List Statement) : Type 0 where
+pub record WroteBlock (made : Made (Unit {0})) (a b : Written) (inner : List Statement) : Type 0 where
   pub code : b.code ≡ a.code
   pub block : form_of inner ≡ made.code
   pub next : b.next ≡ made.next
+
+-- so they are where the next variable has a number below the last
+pub record IsBlock (made : Made (Unit {0})) (a b : Written) (inner : List Statement) : Type 0 where
+  pub grows : a.next ≤ b.next
+  pub fits : b.next < 2 ^ 32 - 1 → WroteBlock made a b inner
+  pub full : a.next < 2 ^ 32 - 1 → 2 ^ 32 - 1 ≤ b.next → 0 < late_in made.code
 
 pub record Parts (made : VariableSet → ℕ → Made (Unit {0})) (some : Counts) (a b : State) (block : List Statement) : Type 0 where
   pub by : (rest : Counts) → a.later ≡ both rest some →

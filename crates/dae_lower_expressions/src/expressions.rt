@@ -77,7 +77,7 @@ impl Lowerer {
                 Ok(z)
             }
             Expression::And(place, a, b) => {
-                let v = self.maker.reserve()?;
+                let v = self.maker.reserve();
                 let condition = self.condition(links, none, a)?;
                 let holds = self.block(links, none, Part::Truth(*place, v), b)?;
                 let fails = constant(self.alloc, *place, v, 0)?;
@@ -85,7 +85,7 @@ impl Lowerer {
                 Ok(Operand::Variable(v))
             }
             Expression::Or(place, a, b) => {
-                let v = self.maker.reserve()?;
+                let v = self.maker.reserve();
                 let condition = self.condition(links, none, a)?;
                 let holds = constant(self.alloc, *place, v, 1)?;
                 let fails = self.block(links, none, Part::Truth(*place, v), b)?;
@@ -93,7 +93,7 @@ impl Lowerer {
                 Ok(Operand::Variable(v))
             }
             Expression::Conditional(place, a, b, c) => {
-                let v = self.maker.reserve()?;
+                let v = self.maker.reserve();
                 let part = Part::Value(*place, v);
                 let condition = self.condition(links, none, a)?;
                 count(&mut self.later, Change::Remove, c)?;

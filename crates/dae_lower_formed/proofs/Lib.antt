@@ -8,6 +8,7 @@ mod Statements
 mod Below
 mod Functions
 mod Programs
+mod Named
 mod Order
 mod Agreeing
 mod Small

@@ -63,12 +63,13 @@ module _ (p : Program) where
   function_there k (x ∷ fs) (y ∷ gs) a zero g e = (x, refl, first_number k x g (subst (λ z. IsFunctionFormOf p k x z) (same_Some y g e) a.0))
   function_there k (x ∷ fs) (y ∷ gs) a (suc j) g e = let h = function_there (k + 1) fs gs a.1 j g e in (h.0, h.1, next_number k j h.0 g h.2)
 
-module _ (p : Program) (ir : Ir) (low : IsLowered p ir) where
+-- what a lawful program keeps
+module _ (p : Program) (lawful : is_lawful p.memory p.frames p.content p.links p.functions p.main ≡ true) where
   placed : is_well_placed p.memory p.frames p.content p.links p.functions p.main ≡ true
-  placed = and_first _ (list_all (is_ready p.links p.functions) p.functions) low.lawful
+  placed = and_first _ (list_all (is_ready p.links p.functions) p.functions) lawful
 
-  main_is : is_main p.memory p.links p.functions (slice_get p.functions p.main) ≡ true
-  main_is = and_second (is_lawful_memory p.memory p.frames (length p.content)) _ (and_first _ (list_all (spares p.main) p.links && list_all (is_lawful_in p.memory p.links p.functions true) p.functions) placed)
+  main_there : is_main p.memory p.links p.functions (slice_get p.functions p.main) ≡ true
+  main_there = and_second (is_lawful_memory p.memory p.frames (length p.content)) _ (and_first _ (list_all (spares p.main) p.links && list_all (is_lawful_in p.memory p.links p.functions true) p.functions) placed)
 
   all_lawful : list_all (is_lawful_in p.memory p.links p.functions true) p.functions ≡ true
   all_lawful = and_second (list_all (spares p.main) p.links) _ (and_second (is_lawful_memory p.memory p.frames (length p.content) && is_main p.memory p.links p.functions (slice_get p.functions p.main)) _ placed)
@@ -76,30 +77,46 @@ module _ (p : Program) (ir : Ir) (low : IsLowered p ir) where
   ready_at : (k : ℕ) (f : Function) → slice_get p.functions k ≡ Some f → is_ready p.links p.functions f ≡ true
   ready_at k f e =
       passes_at (is_ready p.links p.functions) p.functions k f
-      (and_second (is_well_placed p.memory p.frames p.content p.links p.functions p.main) (list_all (is_ready p.links p.functions) p.functions) low.lawful) e
+      (and_second (is_well_placed p.memory p.frames p.content p.links p.functions p.main) (list_all (is_ready p.links p.functions) p.functions) lawful) e
 
-  abbrev pub counts : Function → ℕ → Option ℕ
-  counts f k = parameter_count (slice_get p.functions (let g = plain p f in g.callee k))
+  abbrev pub callee_counts : Function → ℕ → Option ℕ
+  callee_counts f k = parameter_count (slice_get p.functions (let g = plain p f in g.callee k))
 
   -- main may not return, and each other function may
-  pub lawful_at : (k : ℕ) (f : Function) → slice_get p.functions k ≡ Some f → is_lawful_body p.memory f.variables (counts f) (not (nat_eq k p.main)) (plain p f) ≡ true
-  lawful_at k f e = by (nat_eq k p.main) refl where
-    main_so : (o : Option Function) → o ≡ Some f → is_main p.memory p.links p.functions o ≡ true → is_lawful_body p.memory f.variables (counts f) false (plain p f) ≡ true
+  pub body_lawful : (k : ℕ) (f : Function) → slice_get p.functions k ≡ Some f → is_lawful_body p.memory f.variables (callee_counts f) (not (nat_eq k p.main)) (plain p f) ≡ true
+  body_lawful k f e = by (nat_eq k p.main) refl where
+    main_so : (o : Option Function) → o ≡ Some f → is_main p.memory p.links p.functions o ≡ true → is_lawful_body p.memory f.variables (callee_counts f) false (plain p f) ≡ true
     main_so None e h = absurd (let c : false ≡ true = h in cc)
     main_so (Some x) e h = subst (λ z. is_lawful_in p.memory p.links p.functions false z ≡ true) (same_Some x f e) (and_second _ _ h)
 
-    by : (b : Bool) → nat_eq k p.main ≡ b → is_lawful_body p.memory f.variables (counts f) (not b) (plain p f) ≡ true
-    by true i = main_so (slice_get p.functions p.main) (subst (λ (n : ℕ). slice_get p.functions n ≡ Some f) (eqb-true k p.main i) e) main_is
+    by : (b : Bool) → nat_eq k p.main ≡ b → is_lawful_body p.memory f.variables (callee_counts f) (not b) (plain p f) ≡ true
+    by true i = main_so (slice_get p.functions p.main) (subst (λ (n : ℕ). slice_get p.functions n ≡ Some f) (eqb-true k p.main i) e) main_there
     by false i = passes_at (is_lawful_in p.memory p.links p.functions true) p.functions k f all_lawful e
+
+  pub body_prints : (k : ℕ) (f : Function) → slice_get p.functions k ≡ Some f → PrintBytes (let g = plain p f in g.body)
+  body_prints k f e = let g = plain p f in print_bytes g.body (and_second (is_set_first g) (prints_bytes g.body) (ready_at k f e))
+
+  body_first : (k : ℕ) (f : Function) → slice_get p.functions k ≡ Some f → is_set_first (plain p f) ≡ true
+  body_first k f e = let g = plain p f in and_first (is_set_first g) (prints_bytes g.body) (ready_at k f e)
+
+module _ (p : Program) (ir : Ir) (low : IsLowered p ir) where
+  main_is : is_main p.memory p.links p.functions (slice_get p.functions p.main) ≡ true
+  main_is = main_there p low.lawful
+
+  abbrev pub counts : Function → ℕ → Option ℕ
+  counts f = callee_counts p low.lawful f
+
+  pub lawful_at : (k : ℕ) (f : Function) → slice_get p.functions k ≡ Some f → is_lawful_body p.memory f.variables (counts f) (not (nat_eq k p.main)) (plain p f) ≡ true
+  lawful_at = body_lawful p low.lawful
+
+  bytes_at : (k : ℕ) (f : Function) → slice_get p.functions k ≡ Some f → PrintBytes (let g = plain p f in g.body)
+  bytes_at = body_prints p low.lawful
+
+  first_at : (k : ℕ) (f : Function) → slice_get p.functions k ≡ Some f → is_set_first (plain p f) ≡ true
+  first_at = body_first p low.lawful
 
   forms : AreFormsOf p 0 p.functions ir.functions
   forms = let g = low.form in g.functions
-
-  bytes_at : (k : ℕ) (f : Function) → slice_get p.functions k ≡ Some f → PrintBytes (let g = plain p f in g.body)
-  bytes_at k f e = let g = plain p f in print_bytes g.body (and_second (is_set_first g) (prints_bytes g.body) (ready_at k f e))
-
-  first_at : (k : ℕ) (f : Function) → slice_get p.functions k ≡ Some f → is_set_first (plain p f) ≡ true
-  first_at k f e = let g = plain p f in and_first (is_set_first g) (prints_bytes g.body) (ready_at k f e)
 
   -- a call finds its function
   finds : (f : Function) → FindsFunctions ir.functions (bounds_of p.memory f.variables (counts f) (plain p f)) (record { address = (plain p f).address; callee = (plain p f).callee })

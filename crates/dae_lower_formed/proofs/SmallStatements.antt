@@ -21,7 +21,7 @@ use Rattle.dae_program.specs.declared.program.Slot.{Slot}
 use Rattle.dae_lower.specs.Lowering.{Made, function_code, ◌⨾◌, ◌≫◌, emit, one, checks, nowhere, test_of, Links, leave_unless, leave_unless_some, effect_of_some, loop, text_loop, prints, turn_bytes, zeros_at, zeros, settings, arms_continue, search_labels, search, switch, statements, arms_from, parameters_stored, is_closed, closed}
 use Rattle.dae_lower.proofs.Laws.{turn_is_short}
 use Rattle.dae_lower_formed.specs.Formed.{form_variables}
-use Rattle.dae_lower_formed.specs.Sizes.{most_made, most_made_of_some, most_made_of_items, most_made_of_pieces, most_made_in, most_made_in_arms, most_made_of_slots, most_made_in_function}
+use Rattle.dae_lower_formed.specs.Sizes.{most_made, most_made_of_some, most_made_of_items, most_made_of_pieces, most_made_in, most_made_in_arms, most_made_of_slots, most_made_in_function, VariablesWithin}
 use Rattle.dae_ir.specs.Sizes.{bit, is_load_into}
 use Rattle.dae_ir_pair.specs.Sizes.{item_burden}
 use Rattle.dae_lower_formed.specs.Code.{loaded_burden, loads_in, most_code, most_code_of_some, most_code_of_items, most_code_of_pieces, most_code_in, most_code_in_arms, most_code_of_slots, CodeWithin}
@@ -230,3 +230,6 @@ function_loads p is_main f n =
     let g = closed_loads p is_main made.code in
     let c = checks_loads (is_main && not (nat_eq f.frame 0)) p (closed p (if is_main then Halt (Number 0) else Return (Number 0)) made.code) in
     omega (arith, h, g, c)
+
+pub variables_within : VariablesWithin
+variables_within p f n = (function_small p f n).few

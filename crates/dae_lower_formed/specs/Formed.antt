@@ -2,9 +2,10 @@
 use Rattle.std.specs.Prelude.{◌≡◌, ℕ, ◌+◌, true, nat_eq, nat_lt, List, [], ◌∷◌, length, slice_get, Some}
 use Rattle.std.specs.List.{AllByRecursion}
 use Rattle.dae_base.specs.declared.Place.{Place}
+use Rattle.dae_ir.specs.Code.{Each}
 use Rattle.dae_ir.specs.Form.{form_of}
 use Rattle.dae_ir.specs.Classes.{VariableSet}
-use Rattle.dae_ir.specs.Scope.{IsScoped}
+use Rattle.dae_ir.specs.Scope.{IsScoped, ItemIn, TestIn}
 use Rattle.dae_ir.specs.SetFirst.{form_flow, IsSetFirst, IsFunctionSetFirst}
 use Rattle.dae_ir.specs.declared.form.Function.{Function as FormFunction}
 use Rattle.dae_ir.specs.declared.form.Ir.{Ir}
@@ -59,6 +60,15 @@ pub record IsLowered (p : Program) (ir : Ir) : Type 0 where
 -- stands in a loop, main has no parameters and never returns.
 abbrev pub FormsScoped : Type 0
 FormsScoped = (p : Program) (ir : Ir) → IsLowered p ir → IsScoped ir
+
+-- Each variable that a function's form sets or reads is below the number of its variables, and each constant is a word; it takes
+-- calls of some functions, which needn't be forms.
+abbrev pub FormsName : Type 0
+FormsName =
+    (p : Program) → is_lawful p.memory p.frames p.content p.links p.functions p.main ≡ true → (k : ℕ) (f : Function) → slice_get p.functions k ≡ Some f →
+    let n = form_variables f.place (plain p f) f.variables in
+    (functions : List FormFunction) ×
+    Each (ItemIn functions n) (TestIn n) (function_code f.place (nat_eq k p.main) (plain p f) f.variables)
 
 -- each variable below a number
 abbrev pub below : ℕ → VariableSet

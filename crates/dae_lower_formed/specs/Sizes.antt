@@ -1,6 +1,7 @@
 -- How large the form of a function is: at most so many variables are made for each node of its tree, and at most 10 items. A
 -- source has at most so many tokens, and a token makes few nodes: so these bound the code of a function and its frames.
 use Rattle.std.specs.Prelude.{◌≡◌, ℕ, ◌+◌, ◌*◌, ◌≤◌, List, [], ◌∷◌, length, slice_get, Option, Some, None}
+use Rattle.dae_base.specs.declared.Place.{Place}
 use Rattle.dae_ir.specs.Form.{form_of}
 use Rattle.dae_ir.specs.Sizes.{form_size}
 use Rattle.dae_ir.specs.declared.form.Function.{Function as FormFunction}
@@ -13,7 +14,7 @@ use Rattle.dae_program.specs.declared.statements.Piece.TheVariants as piece
 use Rattle.dae_program.specs.Trees as tree
 use Rattle.dae_program.specs.Trees.{Expression, Target, Expressions, Setting, Statements, Arms, Number, Address, Frame, Variable, Read, Convert, Not, Binary, Compare, And, Or, Conditional, Comma, Assign, Update, Step, Call, Putchar, Exit, Abort, InVariable, AtAddress, no_expressions, expression_then, Done, Evaluate, Initialise, Print, If, Loop, Do, Switch, Break, Continue, Return, no_arms, arm_then}
 use Rattle.dae_lower_formed.specs.Code.{loads_in}
-use Rattle.dae_lower_formed.specs.Formed.{plain, IsFormOf}
+use Rattle.dae_lower_formed.specs.Formed.{form_variables, plain, IsFormOf}
 
 -- ---- the nodes of a tree: each expression, argument, statement, item, piece, arm and label is one, but an initialised aggregate
 -- is two, since several of its bytes are cleared in a turn
@@ -165,6 +166,10 @@ pub record IsSmall (f : tree.Function) (own : ℕ) (g : FormFunction) : Type 0 w
   pub made : most_made_in_function f ≤ 3 * nodes_of_function f
   pub code : form_size (form_of g.body) ≤ 10 * nodes_of_function f
   pub loads : own + loads_in (form_of g.body) ≤ g.variables
+
+-- the form of a function has its own variables and at most so many more
+abbrev pub VariablesWithin : Type 0
+VariablesWithin = (p : Place) (f : tree.Function) (n : ℕ) → form_variables p f n ≤ n + most_made_in_function f
 
 abbrev pub FormsSmall : Type 0
 FormsSmall =

@@ -3,8 +3,8 @@
 #![tactic(auto)]
 
 pub use theorems::{
-    code_within, forms_do_programs, forms_scoped, forms_set_first, forms_small,
-    lowered_do_programs, made_set_first,
+    code_within, forms_do_programs, forms_name, forms_scoped, forms_set_first, forms_small,
+    lowered_do_programs, made_set_first, variables_within,
 };
 
 mod theorems;

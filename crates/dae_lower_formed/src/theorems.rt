@@ -1,9 +1,9 @@
 // What is proved of the forms of programs in memory.
 
 ghost use Rattle.dae_lower_formed.specs.Code.{CodeWithin};
-ghost use Rattle.dae_lower_formed.specs.Formed.{FormsScoped, FormsSetFirst, MadeSetFirst};
+ghost use Rattle.dae_lower_formed.specs.Formed.{FormsName, FormsScoped, FormsSetFirst, MadeSetFirst};
 ghost use Rattle.dae_lower_formed.specs.Order.{FormsDoPrograms, LoweredDoPrograms};
-ghost use Rattle.dae_lower_formed.specs.Sizes.{FormsSmall};
+ghost use Rattle.dae_lower_formed.specs.Sizes.{FormsSmall, VariablesWithin};
 
 /// The form of a lawful program is well made: each variable, function and loop that it names is there, its constants are words,
 /// a call gives as many arguments as are taken, no code falls off its end, and main has no parameters and never returns.
@@ -12,6 +12,11 @@ pub fn forms_scoped()
 {
     dae_lower::forms_close();
 }
+
+/// The form of a lawful program's function names variables below their number, and words.
+pub fn forms_name()
+    ensures { FormsName }
+{}
 
 /// Each variable that lowering makes is set before it is read, whichever way the code takes.
 pub fn made_set_first()
@@ -37,6 +42,11 @@ pub fn forms_do_programs()
 /// 10 items of code for each node.
 pub fn forms_small()
     ensures { FormsSmall }
+{}
+
+/// The form of a function has its own variables and at most those that are counted of its tree, node by node.
+pub fn variables_within()
+    ensures { VariablesWithin }
 {}
 
 /// The form of a function weighs at most what is counted of its tree, node by node.

@@ -1,5 +1,5 @@
 -- What a maker has written so far, and how it goes on.
-use Rattle.std.specs.Prelude.{◌≡◌, ℕ, ◌+◌, true, List, if◌then◌else◌}
+use Rattle.std.specs.Prelude.{◌≡◌, ℕ, ◌+◌, ◌-◌, ◌^◌, ◌<◌, ◌≤◌, true, List, if◌then◌else◌}
 use Rattle.dae_ir.specs.Classes.{VariableSet}
 use Rattle.dae_ir.specs.Code.{Done, Do, If}
 use Rattle.dae_ir.specs.Form.{Form, form_of}
@@ -11,11 +11,13 @@ use Rattle.dae_lower_maker.specs.declared.maker.Condition.{Condition}
 use Rattle.dae_lower_maker.specs.declared.maker.Spot.TheVariants as spot
 use Rattle.dae_base.specs.declared.LoadKind.{LoadKind}
 use Rattle.dae_base.specs.declared.Place.{Place}
+use Rattle.dae_ir.specs.declared.form.Item.{Item}
 use Rattle.dae_ir.specs.declared.form.Item.TheVariants.{Load, Expect, Call}
 use Rattle.dae_ir.specs.declared.form.Check.TheVariants.{Room}
 use Rattle.dae_ir.specs.declared.form.Operand.{Operand}
 use Rattle.dae_ir.specs.declared.form.Operand.TheVariants.{Variable}
 use Rattle.dae_lower.specs.Lowering.{Made, only, one, nothing, operated, narrowed, ◌⨾◌, ◌≫◌}
+use Rattle.dae_lower_maker.specs.Numbers.{late_in}
 use Rattle.dae_meaning.specs.declared.Operator.{Operator}
 use Rattle.dae_lower.specs.Lowering as form
 use Rattle.dae_program.specs.Views.{is_prefix}
@@ -30,14 +32,25 @@ abbrev pub so_far : Maker → Written
 so_far maker = record { code = form_of maker.statements.items; next = maker.next }
 
 -- what is made stands behind what was written
-pub record Writes {Y : Type 0} (what : Made Y) (old new : Written) (y : Y) : Type 0 where
+pub record Wrote {Y : Type 0} (what : Made Y) (old new : Written) (y : Y) : Type 0 where
   pub code : new.code ≡ old.code ⨾ what.code
   pub given : y ≡ what.given
   pub next : new.next ≡ what.next
 
+-- It does where the next variable has a number below the last. The number comes to the last only where it was that before, or
+-- where what is made sets a variable with one of the last numbers.
+pub record Writes {Y : Type 0} (what : Made Y) (old new : Written) (y : Y) : Type 0 where
+  pub grows : old.next ≤ new.next
+  pub fits : new.next < 2 ^ 32 - 1 → Wrote what old new y
+  pub full : old.next < 2 ^ 32 - 1 → 2 ^ 32 - 1 ≤ new.next → 0 < late_in what.code
+
 -- a maker appends what is made from its next variable on
 abbrev pub Appends : {Y : Type 0} → (ℕ → Made Y) → Maker → Maker → Y → Type 0
 Appends made old new y = Writes (made old.next) (so_far old) (so_far new) y
+
+-- a maker appends an item, and its next variable stays
+abbrev pub AppendsItem : Place → Item → Maker → Maker → Unit {0} → Type 0
+AppendsItem place item old new y = Wrote (only (one place item) (tt {0}) old.next) (so_far old) (so_far new) y
 
 abbrev pub spot_of : Spot → form.Spot
 spot_of (spot.Variable v) = form.Local v

@@ -19,14 +19,6 @@ pub enum Change {
     Remove,
 }
 
-/// The next number.
-pub fn one_more(number: u32) -> Result<u32, AllocError>
-    ensures { IfOk result (λ n. n ≡ number + 1) }
-{
-    let next = number.checked_add(1).ok_or(AllocError)?;
-    Ok(next)
-}
-
 impl Later {
     /// Nothing is to come.
     pub fn new(alloc: Global) -> Later

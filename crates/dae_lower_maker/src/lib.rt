@@ -1,7 +1,7 @@
 // What lowering writes: statements of the structured form behind one another, in single items.
 #![tactic(auto)]
 
-pub use later::{Change, Later, one_more};
+pub use later::{Change, Later};
 pub use maker::{Condition, Increment, Location, Lvalue, Maker, Spot, test_of};
 
 mod later;

@@ -1,13 +1,14 @@
 // Statements so far, and single items behind them.
 
-use crate::later::{Later, one_more};
+use crate::later::Later;
 use dae_base::{Items, LoadKind, Place};
 use dae_ir::{Check, Item, Operand, Statement, Test, Value};
 use dae_meaning::{Comparison, Operator};
 use dae_program::Fixity;
 use std::alloc::{AllocError, Global};
 
-/// The statements so far, and the next variable that isn't used yet.
+/// The statements so far, and the next variable that isn't used yet. Numbers of variables stop at the last that a word holds: where the
+/// number of the next comes to that, the statements may be wrong.
 #[derive(Drop)]
 pub struct Maker {
     statements: Vec<Statement>,
@@ -67,6 +68,7 @@ fn divides(operator: Operator) -> bool
 ghost use Rattle.std.specs.Prelude.{◌≡◌, ◌&&◌, IfOk};
 ghost use Rattle.dae_program.specs.Expressions.{divides};
 ghost use Rattle.dae_lower.specs.Lowering.{may_be_zero, related};
+ghost use Rattle.dae_lower_maker.specs.Numbers.{number_after};
 
 fn may_be_zero(x: Operand) -> bool
     ensures { result ≡ may_be_zero x }
@@ -102,6 +104,18 @@ fn is_checked(operator: Operator, y: Operand) -> bool
     divides(operator) && may_be_zero(y)
 }
 
+/// The number behind one, where numbers stop at the last that a word holds.
+#[tactic(auto, unfolding(crate::specs::Numbers::number_after))]
+fn after(number: u32) -> u32
+    ensures { result ≡ number_after number }
+{
+    if number < u32::MAX {
+        number + 1
+    } else {
+        number
+    }
+}
+
 impl Maker {
     ghost use Rattle.std.specs.Prelude.{◌+◌, ◌++◌, true};
     ghost use Rattle.dae_base.specs.Words.{width_of};
@@ -113,7 +127,7 @@ impl Maker {
     ghost use Rattle.dae_lower.specs.Lowering.{checks, emit, fetched, narrowed, one, only, operated};
     ghost use Rattle.dae_lower.specs.Lowering.{put_in, set, variable, Placed};
     ghost use Rattle.dae_lower_maker.specs.Counting.{counts_of, is_counted};
-    ghost use Rattle.dae_lower_maker.specs.Making.{Appends, advanced_in, called_with, condition_of};
+    ghost use Rattle.dae_lower_maker.specs.Making.{Appends, AppendsItem, advanced_in, called_with, condition_of};
     ghost use Rattle.dae_lower_maker.specs.Making.{copied_by, forked, held_in, loaded_next, so_far};
     ghost use Rattle.dae_lower_maker.specs.Making.{spot_of, stepped_in, updated_in};
 
@@ -134,11 +148,18 @@ impl Maker {
         self.next
     }
 
+    fn put(&mut self, place: Place, item: Item) -> Result<(), AllocError>
+        ensures { IfOk result (AppendsItem place item self.old self.new) }
+    {
+        self.statements.push(Statement::Simple(place, item))?;
+        Ok(())
+    }
+
     /// Appends an item.
     pub fn item(&mut self, place: Place, item: Item) -> Result<(), AllocError>
         ensures { IfOk result (Appends (only (one place item) tt) self.old self.new) }
     {
-        self.statements.push(Statement::Simple(place, item))?;
+        self.put(place, item)?;
         Ok(())
     }
 
@@ -157,9 +178,8 @@ impl Maker {
         ensures { IfOk result (Appends (set place value) self.old self.new) }
     {
         let variable = self.next;
-        let next = one_more(variable)?;
-        self.item(place, Item::Assign(variable, value))?;
-        self.next = next;
+        self.put(place, Item::Assign(variable, value))?;
+        self.next = after(variable);
         Ok(Operand::Variable(variable))
     }
 
@@ -168,9 +188,8 @@ impl Maker {
         ensures { IfOk result (Appends (loaded_next place kind x) self.old self.new) }
     {
         let variable = self.next;
-        let next = one_more(variable)?;
-        self.item(place, Item::Load(variable, kind, x))?;
-        self.next = next;
+        self.put(place, Item::Load(variable, kind, x))?;
+        self.next = after(variable);
         Ok(Operand::Variable(variable))
     }
 
@@ -418,23 +437,21 @@ impl Maker {
         ensures { IfOk result (Appends (called_with place function arguments) self.old self.new) }
     {
         let variable = self.next;
-        let next = one_more(variable)?;
-        self.item(place, Item::Expect(Check::Room(function)))?;
-        self.item(place, Item::Call(variable, function, arguments))?;
-        self.next = next;
+        self.put(place, Item::Expect(Check::Room(function)))?;
+        self.put(place, Item::Call(variable, function, arguments))?;
+        self.next = after(variable);
         Ok(Operand::Variable(variable))
     }
 
     /// Leaves the next variable to what comes.
-    pub fn reserve(&mut self) -> Result<u32, AllocError>
-        ensures given { IfOk result (λ v. v ≡ self.old.next) }
-        ensures after { IfOk result
-            (λ v. so_far self.new
-            ≡ record { code = form_of self.old.statements.items; next = v + 1 }) }
+    pub fn reserve(&mut self) -> u32
+        ensures given { result ≡ self.old.next }
+        ensures after { so_far self.new
+            ≡ record { code = form_of self.old.statements.items; next = number_after result } }
     {
         let variable = self.next;
-        self.next = one_more(variable)?;
-        Ok(variable)
+        self.next = after(variable);
+        variable
     }
 
     /// Begins a block, and gives the statements before it.

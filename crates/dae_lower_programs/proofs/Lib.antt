@@ -1,5 +1,6 @@
 mod Rows
 pub mod Laws
+mod Reserving
 mod Loops
 mod Firsts
 mod Arguments
@@ -8,5 +9,6 @@ mod Parted
 mod Turns
 mod Closing
 mod Wholes
+mod Sound
 mod Lists
 mod Room

@@ -7,7 +7,7 @@ use Rattle.std.specs.List.{AllByRecursion, list_all}
 use Rattle.dae_base.proofs.Laws.{and_first, and_second, drop_at}
 use Rattle.dae_lower_formed.specs.Formed.{AreFormsOf, IsFunctionFormOf}
 use Rattle.dae_ir.specs.declared.form.Function.{Function as FormFunction}
-use Rattle.dae_lower_programs.specs.Functions.{NumbersParameters}
+use Rattle.dae_lower_programs.specs.Sound.{IsNumbered}
 use Rattle.dae_program.specs.Lawful.{Bounds, are_inside, are_sound_statements, is_lawful_in, is_lawful_memory, is_main, is_ready, is_sound_slot, is_well_placed, parameter_count, spares}
 use Rattle.dae_program.specs.Resolved.{function_in}
 use Rattle.dae_program.specs.declared.program.Function.{Function}
@@ -35,25 +35,34 @@ last_forms p fs i forms le h =
     subst (λ (gs : List FormFunction). AreFormsOf p 0 fs gs) (append-nil forms)
     (h.ends [] (subst (λ (xs : List Function). AreFormsOf p i xs []) (sym (drop_all i fs le)) tt))
 
+pub there : (fs : List Function) (i : ℕ) (f : Function) → i < length fs → f ≡ get_or fs i f → slice_get fs i ≡ Some f
+there [] i f lt is = absurd (omega (arith, lt))
+there (g ∷ gs) zero f lt is = ap Some (sym is)
+there (g ∷ gs) (suc i) f lt is = there gs i f (omega (arith, lt)) is
+
 -- ---- parameters
 
-pub below_word : (f : Function) → NumbersParameters f → f.variables < 2 ^ 32 → 1 + length f.parameters < 2 ^ 32
-below_word f h word = omega (arith, h, word)
+pub below_word : (f : Function) → IsNumbered f → f.variables < 2 ^ 32 → 1 + length f.parameters < 2 ^ 32
+below_word f h word = omega (arith, h.parameters, word)
 
-pub parameters_at : (fs : List Function) (i : ℕ) (f : Function) → i < length fs → f ≡ get_or fs i f → AllByRecursion NumbersParameters fs → NumbersParameters f
-parameters_at [] i f lt is all = absurd (omega (arith, lt))
-parameters_at (g ∷ gs) zero f lt is all = subst NumbersParameters (sym is) all.0
-parameters_at (g ∷ gs) (suc i) f lt is all = parameters_at gs i f (omega (arith, lt)) is all.1
+pub numbered_at : (fs : List Function) (i : ℕ) (f : Function) → i < length fs → f ≡ get_or fs i f → AllByRecursion IsNumbered fs → IsNumbered f
+numbered_at [] i f lt is all = absurd (omega (arith, lt))
+numbered_at (g ∷ gs) zero f lt is all = subst IsNumbered (sym is) all.0
+numbered_at (g ∷ gs) (suc i) f lt is all = numbered_at gs i f (omega (arith, lt)) is all.1
 
-lawful_numbers : (memory : ℕ) (links : List Links) (functions : List Function) (f : Function) → is_lawful_in memory links functions true f ≡ true → NumbersParameters f
+lawful_numbers : (memory : ℕ) (links : List Links) (functions : List Function) (f : Function) → is_lawful_in memory links functions true f ≡ true → IsNumbered f
 lawful_numbers memory links functions f h =
     let g = function_in (length functions) links (Some f) in
     let b : Bounds = record { variables = f.variables; parameters = λ k. parameter_count (slice_get functions (g.callee k)); address = g.address; memory = memory; frame = g.frame } in
     let sound = list_all (is_sound_slot g.frame) g.parameters && are_sound_statements b g.body in
     let first = nat_eq (g.frame % 4) 0 && nat_le (1 + length g.parameters) f.variables in
-    leb-true (1 + length f.parameters) f.variables (and_second (nat_eq (g.frame % 4) 0) _ (and_first first sound (and_first (first && sound) (are_inside false false true g.body) h)))
+    let both = and_first (first && sound) (are_inside false false true g.body) h in
+    record {
+      parameters = leb-true (1 + length f.parameters) f.variables (and_second (nat_eq (g.frame % 4) 0) _ (and_first first sound both));
+      statements = record { bounds = b; sound = and_second (list_all (is_sound_slot g.frame) g.parameters) _ (and_second first sound both) };
+    }
 
-all_numbered : (memory : ℕ) (links : List Links) (functions fs : List Function) → list_all (is_lawful_in memory links functions true) fs ≡ true → AllByRecursion NumbersParameters fs
+all_numbered : (memory : ℕ) (links : List Links) (functions fs : List Function) → list_all (is_lawful_in memory links functions true) fs ≡ true → AllByRecursion IsNumbered fs
 all_numbered memory links functions [] h = tt
 all_numbered memory links functions (f ∷ fs) h = (
   lawful_numbers memory links functions f (and_first (is_lawful_in memory links functions true f) (list_all (is_lawful_in memory links functions true) fs) h),
@@ -61,8 +70,8 @@ all_numbered memory links functions (f ∷ fs) h = (
 )
 
 -- a lawful program
-pub parameters_numbered : (p : Program) → AllByRecursion NumbersParameters p.functions
-parameters_numbered p =
+pub functions_numbered : (p : Program) → AllByRecursion IsNumbered p.functions
+functions_numbered p =
     all_numbered p.memory p.links p.functions p.functions
     (and_second (list_all (spares p.main) p.links) _
     (and_second (is_lawful_memory p.memory p.frames (length p.content) && is_main p.memory p.links p.functions (slice_get p.functions p.main)) _

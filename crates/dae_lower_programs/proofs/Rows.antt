@@ -1,16 +1,17 @@
 -- Whole parts, one behind the other.
-use Rattle.std.proofs.Common.{◌≡◌, ℕ, List, [], refl, ap, sym, ◌∙◌, subst}
+use Rattle.std.proofs.Common.{◌≡◌, ◌⊎◌, ℕ, ◌-◌, ◌^◌, ◌<◌, ◌≤◌, List, [], inl, inr, refl, ap, sym, ◌∙◌, subst, arith}
 use Rattle.dae_base.specs.declared.Place.{Place}
 use Rattle.dae_ir.specs.Code.{Done, Do, Loop}
 use Rattle.dae_ir.specs.Form.{Form, form_of}
 use Rattle.dae_ir.specs.declared.form.Item.{Item}
 use Rattle.dae_ir.specs.declared.form.Statement.{Statement}
 use Rattle.dae_lower.specs.Lowering.{Made, Condition, branches, emit, loop, nothing, one, only, skip, ◌⨾◌, ◌≫◌}
-use Rattle.dae_lower_expressions.specs.Lowered.{IsBlock, State, Whole}
-use Rattle.dae_lower_expressions.proofs.Laws.{branched}
+use Rattle.dae_lower_expressions.specs.Lowered.{IsBlock, State, Whole, WroteBlock}
+use Rattle.dae_lower_expressions.proofs.Laws.{alone, branched, exact_block}
 use Rattle.dae_lower_programs.specs.Made.{WholeBlock}
-use Rattle.dae_lower_maker.proofs.Laws.{behind_behind, behind_done, nothing_written, written_on}
-use Rattle.dae_lower_maker.specs.Making.{Written, Writes, forked}
+use Rattle.dae_lower_maker.proofs.Laws.{behind_behind, behind_done, below_or_last, nothing_written, parts_written, written_on}
+use Rattle.dae_lower_maker.specs.Making.{Written, Writes, Wrote, forked}
+use Rattle.dae_lower_maker.specs.Numbers.{late_in}
 
 -- what is written without a count
 pub leaf_whole : {Y : Type 0} (made : ℕ → Made Y) (a b : State) (y : Y) → b.later ≡ a.later → Writes (made a.written.next) a.written b.written y → Whole made a b y
@@ -54,6 +55,18 @@ two_codes a b c first second h k = k ∙ ap (λ d. d ⨾ second) h ∙ behind_be
 
 -- ---- blocks
 
+-- statements of their own, and what is written with them
+pub block_written : {Y : Type 0} (block : Made (Unit {0})) (second all : Made Y) (a b c : Written) (inner : List Statement) (y : Y) → IsBlock block a b inner → Writes second b c y → (WroteBlock block a b inner → Wrote second b c y → Wrote all a c y)
+    → (0 < late_in block.code → 0 < late_in all.code) → (WroteBlock block a b inner → 0 < late_in second.code → 0 < late_in all.code) → Writes all a c y
+block_written {Y} block second all a b c inner y i w join here there = record {
+  grows = omega (arith, i.grows, w.grows);
+  fits = λ lt. join (i.fits (omega (arith, w.grows, lt))) (w.fits lt);
+  full = λ start over. by start over (below_or_last b.next);
+} where
+  by : a.next < 2 ^ 32 - 1 → 2 ^ 32 - 1 ≤ c.next → (b.next < 2 ^ 32 - 1) ⊎ (2 ^ 32 - 1 ≤ b.next) → 0 < late_in all.code
+  by start over (inl lt) = there (i.fits lt) (w.full lt over)
+  by start over (inr le) = here (i.full start le)
+
 pub block_whole : (made : ℕ → Made (Unit {0})) (a b c d : State) (outer inner : List Statement)
     → b.written ≡ record { code = Done; next = a.written.next } → b.later ≡ a.later → form_of outer ≡ a.written.code → Whole made b c tt
     → form_of inner ≡ c.written.code → d.written ≡ record { code = form_of outer; next = c.written.next } → d.later ≡ c.later → WholeBlock made a d inner
@@ -61,7 +74,7 @@ block_whole made a b c d outer inner begun same out h in_it ended after = record
   by = λ q.
       let i = h.by (same ∙ q) in
       let w = subst (λ (s : Written). Writes (made s.next) s c.written tt) begun i.1 in
-      (after ∙ i.0, record { code = ap (λ (s : Written). s.code) ended ∙ out; block = in_it ∙ w.code; next = ap (λ (s : Written). s.next) ended ∙ w.next });
+      (after ∙ i.0, alone (made a.written.next) a.written c.written d.written outer inner out in_it ended w);
 }
 
 -- the branches of a condition
@@ -88,21 +101,31 @@ loop_whole place f g a b c z body step h i same p = record {
       let k = i.by j.0 in
       (same ∙ k.0, looped j.1 k.1);
 } where
+  -- the step, and then the loop
+  behind : IsBlock (g b.written.next) b.written c.written step → Writes (only (Loop place (form_of body) (g b.written.next).code Done) (tt {0}) (g b.written.next).next) b.written z.written tt
+  behind k =
+      block_written (g b.written.next) (emit (Loop place (form_of body) (form_of step) Done) c.written.next) (only (Loop place (form_of body) (g b.written.next).code Done) (tt {0}) (g b.written.next).next) b.written c.written z.written step tt k p
+      (λ k w. record { code = w.code ∙ ap (λ d. d ⨾ Loop place (form_of body) (form_of step) Done) k.code ∙ ap (λ u. b.written.code ⨾ Loop place (form_of body) u Done) k.block; given = refl; next = w.next ∙ k.next })
+      (λ some. omega (arith, some)) (λ k some. let same = ap (λ u. late_in u) k.block in omega (arith, same, some))
+
   looped : IsBlock (f a.written.next) a.written b.written body → IsBlock (g b.written.next) b.written c.written step → Writes (loop place (f a.written.next) g) a.written z.written tt
-  looped j k = record {
-    code = p.code ∙ ap (λ d. d ⨾ Loop place (form_of body) (form_of step) Done) (k.code ∙ j.code) ∙ ap (λ u. a.written.code ⨾ Loop place u (form_of step) Done) j.block
-        ∙ ap (λ u. a.written.code ⨾ Loop place (f a.written.next).code u Done) (k.block ∙ ap (λ n. (g n).code) j.next);
-    given = refl;
-    next = p.next ∙ k.next ∙ ap (λ n. (g n).next) j.next;
-  }
+  looped j k =
+      block_written (f a.written.next) (only (Loop place (form_of body) (g b.written.next).code Done) (tt {0}) (g b.written.next).next) (loop place (f a.written.next) g) a.written b.written z.written body tt j (behind k)
+      (λ j w. record {
+        code = w.code ∙ ap (λ d. d ⨾ Loop place (form_of body) (g b.written.next).code Done) j.code ∙ ap (λ u. a.written.code ⨾ Loop place u (g b.written.next).code Done) j.block
+            ∙ ap (λ n. a.written.code ⨾ Loop place (f a.written.next).code (g n).code Done) j.next;
+        given = refl;
+        next = w.next ∙ ap (λ n. (g n).next) j.next;
+      })
+      (λ some. omega (arith, some))
+      (λ j some. let same = ap (λ u. late_in u) j.block in let step = ap (λ n. late_in (g n).code) j.next in omega (arith, same, step, some))
 
 -- two items
 pub two_items : (place : Place) (first second : Item) (a b c : Written) → Writes (only (one place first) (tt {0}) a.next) a b tt → Writes (only (one place second) (tt {0}) b.next) b c tt → Writes (emit (Do place first (one place second)) a.next) a c tt
-two_items place first second a b c h k = record {
-  code = two_codes a.code b.code c.code (one place first) (one place second) h.code k.code;
-  given = refl;
-  next = k.next ∙ h.next;
-}
+two_items place first second a b c h k =
+    parts_written (only (one place first) (tt {0}) a.next) (only (one place second) (tt {0}) b.next) (emit (Do place first (one place second)) a.next) a b c tt tt tt h k
+    (λ h k. record { code = two_codes a.code b.code c.code (one place first) (one place second) h.code k.code; given = refl; next = k.next ∙ h.next })
+    (λ some. omega (arith, some)) (λ h some. omega (arith, some))
 
 -- ---- what nothing stands behind, with something behind it
 
@@ -118,7 +141,7 @@ seam_two f g h =
 -- ---- blocks that need no variable
 
 pub empty_block : (a : State) (inner : List Statement) → inner ≡ [] → WholeBlock skip a a inner
-empty_block a inner e = record { by = λ q. (q, record { code = refl; block = ap form_of e; next = refl }) }
+empty_block a inner e = record { by = λ q. (q, exact_block (skip a.written.next) a.written a.written inner (record { code = refl; block = ap form_of e; next = refl }) refl) }
 
 pub code_block : (code : Form) (a : State) (inner : List Statement) → form_of inner ≡ code → WholeBlock (emit code) a a inner
-code_block code a inner e = record { by = λ q. (q, record { code = refl; block = e; next = refl }) }
+code_block code a inner e = record { by = λ q. (q, exact_block (emit code a.written.next) a.written a.written inner (record { code = refl; block = e; next = refl }) refl) }

@@ -1,5 +1,5 @@
 -- A function's form: its parts, one behind the other, and its links.
-use Rattle.std.proofs.Common.{◌≡◌, ℕ, ◌+◌, ◌<◌, ◌≤◌, Bool, List, [], ◌∷◌, length, drop, get_or, refl, ap, sym, ◌∙◌, subst}
+use Rattle.std.proofs.Common.{◌≡◌, ◌⊎◌, ℕ, ◌+◌, ◌-◌, ◌^◌, ◌<◌, ◌≤◌, Bool, true, false, if◌then◌else◌, List, [], ◌∷◌, length, drop, get_or, inl, inr, refl, ap, sym, ◌∙◌, subst, arith}
 use Rattle.std.proofs.lemmas.List.{drop_all}
 use Rattle.std.specs.Prelude.{nat_eq, slice_get, Option, Some, None}
 use Rattle.dae_base.proofs.Laws.{drop_at}
@@ -13,13 +13,16 @@ use Rattle.dae_ir.specs.declared.form.Item.{Item}
 use Rattle.dae_ir.specs.declared.form.Item.TheVariants.{Assign, Expect, Store}
 use Rattle.dae_ir.specs.declared.form.Operand.TheVariants.{Variable}
 use Rattle.dae_ir.specs.declared.form.Value.TheVariants.{FrameAddress}
-use Rattle.dae_lower.specs.Lowering.{Made, checks, closed, emit, function_code, one, only, parameters_stored, skip, ◌⨾◌, ◌≫◌}
+use Rattle.dae_lower.specs.Lowering.{Made, checks, closed, emit, function_code, is_closed, one, only, parameters_stored, skip, ◌⨾◌, ◌≫◌}
 use Rattle.dae_lower_expressions.specs.Lowered.{State, Whole}
 use Rattle.dae_lower_programs.proofs.Closing.{front_closed}
-use Rattle.dae_lower_programs.specs.Functions.{IsFormWith, linked, slot_stored}
+use Rattle.dae_lower_programs.proofs.Reserving.{one_reserved}
+use Rattle.dae_lower_programs.specs.Functions.{HasNumbers, HasNumbersWith, IsFormWith, linked, slot_stored}
 use Rattle.dae_lower_programs.proofs.Laws.{then_whole, two_items}
 use Rattle.dae_lower_maker.specs.Counting.{never}
 use Rattle.dae_lower_maker.specs.Making.{Written, Writes}
+use Rattle.dae_lower_maker.specs.Numbers.{late, late_in, number_after}
+use Rattle.dae_lower_maker.proofs.Laws.{below_or_last, late_checks, late_then}
 use Rattle.dae_program.specs.Resolved.{address_in, callee_in}
 use Rattle.dae_program.specs.Trees as tree
 use Rattle.dae_program.specs.Views.{view_statements}
@@ -42,48 +45,78 @@ pub slots_end : (p : Place) (slots : List (Option Slot)) (i k : ℕ) → length 
 slots_end p slots i k le = ap (λ s. parameters_stored p s k) (drop_all i slots le)
 
 -- the address in the next variable, and the store
-pub slot_written : (p : Place) (v : ℕ) (slot : Slot) (a b c d : Written) (address : ℕ) → address ≡ a.next → b ≡ record { code = a.code; next = address + 1 }
+pub slot_written : (p : Place) (v : ℕ) (slot : Slot) (a b c d : Written) (address : ℕ) → address ≡ a.next → b ≡ record { code = a.code; next = number_after address }
     → Writes (only (one p (Assign address (FrameAddress slot.offset))) (tt {0}) b.next) b c tt
     → Writes (only (one p (Store slot.width (Variable address) (Variable v))) (tt {0}) c.next) c d tt
     → Writes (slot_stored p v slot a.next) a d tt
 slot_written p v slot a b c d address is begun h k =
-    let w = two_items p (Assign address (FrameAddress slot.offset)) (Store slot.width (Variable address) (Variable v)) b c d h k in
-    record {
-      code = w.code
-          ∙ ap (λ (s : Written). s.code ⨾ Do p (Assign address (FrameAddress slot.offset)) (one p (Store slot.width (Variable address) (Variable v)))) begun
-          ∙ ap (λ (n : ℕ). a.code ⨾ Do p (Assign n (FrameAddress slot.offset)) (one p (Store slot.width (Variable n) (Variable v)))) is;
+    one_reserved (emit (stored address) b.next) (slot_stored p v slot a.next) a b d address tt is begun
+    (two_items p (Assign address (FrameAddress slot.offset)) (Store slot.width (Variable address) (Variable v)) b c d h k)
+    (λ more same w. record {
+      code = w.code ∙ ap (λ (f : Form). f ⨾ stored address) same ∙ ap (λ (n : ℕ). a.code ⨾ stored n) is;
       given = refl;
-      next = w.next ∙ ap (λ (s : Written). s.next) begun ∙ ap (λ (n : ℕ). n + 1) is;
-    }
+      next = w.next ∙ more ∙ ap (λ (n : ℕ). n + 1) is;
+    })
+    (λ some. subst (λ (n : ℕ). 0 < late_in (stored n)) is some)
+    (subst (λ (n : ℕ). late n ≤ late_in (slot_stored p v slot a.next).code) (sym is) (omega arith)) where
+      stored : ℕ → Form
+      stored n = Do p (Assign n (FrameAddress slot.offset)) (one p (Store slot.width (Variable n) (Variable v)))
 
 -- ---- the parts
 
 -- what is written of a function with n variables of its own
 pub record Written_so (p : Place) (flag : Bool) (body : ℕ → Made (Unit {0})) (n : ℕ) (d : State) : Type 0 where
-  pub code : d.written.code ≡ checks flag p (Expect Frame) Done ⨾ (body n).code
-  pub next : d.written.next ≡ (body n).next
+  pub fits : d.written.next < 2 ^ 32 - 1 → (d.written.code ≡ checks flag p (Expect Frame) Done ⨾ (body n).code) × (d.written.next ≡ (body n).next)
+  pub full : n < 2 ^ 32 - 1 → 2 ^ 32 - 1 ≤ d.written.next → 0 < late_in (body n).code
 
 abbrev pub begun : ℕ → State
 begun n = record { written = record { code = Done; next = n }; later = never }
 
-pub parts_written : (p : Place) (flag : Bool) (first second : ℕ → Made (Unit {0})) (n : ℕ) (a b c d : State) → a ≡ begun n
+frame_late : (flag : Bool) (p : Place) → late_in (checks flag p (Expect Frame) Done) ≡ 0
+frame_late true p = refl
+frame_late false p = refl
+
+pub function_written : (p : Place) (flag : Bool) (first second : ℕ → Made (Unit {0})) (n : ℕ) (a b c d : State) → a ≡ begun n
     → Whole (emit (checks flag p (Expect Frame) Done)) a b tt → Whole first b c tt → Whole second c d tt
     → Written_so p flag (λ n. first n ≫ λ x. second) n d
-parts_written p flag first second n a b c d is h i j = record { code = w.1.code; next = w.1.next } where
+function_written p flag first second n a b c d is h i j = record {
+  fits = λ lt. let w = all_written.1 in let e = w.fits lt in (e.code, e.next);
+  full = λ start over.
+      let w = all_written.1 in
+      let some = w.full start over in
+      let l = late_then (checks flag p (Expect Frame) Done) (first n ≫ λ x. second).code in
+      let none = frame_late flag p in omega (arith, l, none, some);
+} where
   front : ℕ → Made (Unit {0})
   front = emit (checks flag p (Expect Frame) Done)
 
   all : ℕ → Made (Unit {0})
   all n = first n ≫ λ x. second
 
-  w : (d.later ≡ never) × Writes (front n ≫ λ x. all) (let s = begun n in s.written) d.written tt
-  w =
+  all_written : (d.later ≡ never) × Writes (front n ≫ λ x. all) (let s = begun n in s.written) d.written tt
+  all_written =
       let e = then_whole front (λ x. all) (begun n) b d tt tt (subst (λ (s : State). Whole front s b tt) is h) (then_whole first (λ x. second) b c d tt tt i j) in
       e.by refl
 
 -- with its end
-pub code_closed : (p : Place) (flag : Bool) (last : Item) (body : ℕ → Made (Unit {0})) (n : ℕ) (d : State) (block code : Form) → Written_so p flag body n d → block ≡ d.written.code → code ≡ closed p last block → code ≡ checks flag p (Expect Frame) (closed p last (body n).code)
-code_closed p flag last body n d block code w e h = h ∙ ap (closed p last) (e ∙ w.code) ∙ front_closed flag p Frame last (body n).code
+pub code_closed : (p : Place) (flag : Bool) (last : Item) (body : ℕ → Made (Unit {0})) (n : ℕ) (d : State) (block code : Form) → d.written.code ≡ checks flag p (Expect Frame) Done ⨾ (body n).code → block ≡ d.written.code → code ≡ closed p last block → code ≡ checks flag p (Expect Frame) (closed p last (body n).code)
+code_closed p flag last body n d block code w e h = h ∙ ap (closed p last) (e ∙ w) ∙ front_closed flag p Frame last (body n).code
+
+closed_late : (p : Place) (last : Item) (code : Form) → late_in code ≤ late_in (closed p last code)
+closed_late p last code = by (is_closed code) where
+  by : (b : Bool) → late_in code ≤ late_in (if b then code else code ⨾ one p last)
+  by true = omega arith
+  by false = let l = late_then code (one p last) in omega (arith, l)
+
+-- where no item sets one of the last variables, numbers don't come to the last
+pub stays_below : (p : Place) (flag : Bool) (last : Item) (body : ℕ → Made (Unit {0})) (n : ℕ) (d : State) → Written_so p flag body n d → n < 2 ^ 32 - 1 → late_in (checks flag p (Expect Frame) (closed p last (body n).code)) ≡ 0 → d.written.next < 2 ^ 32 - 1
+stays_below p flag last body n d w start none = by (below_or_last d.written.next) where
+  by : (d.written.next < 2 ^ 32 - 1) ⊎ (2 ^ 32 - 1 ≤ d.written.next) → d.written.next < 2 ^ 32 - 1
+  by (inl lt) = lt
+  by (inr le) =
+      let some = w.full start le in
+      let c = closed_late p last (body n).code in
+      let l = late_checks flag p (Expect Frame) (closed p last (body n).code) in absurd (omega (arith, some, c, l, none))
 
 -- ---- links
 
@@ -113,3 +146,13 @@ pub links_missing : (p : Program) (links : Links) (k : ℕ) (f : Function) (g : 
 links_missing p links k f g e a b = by_plain p links k f g (ap (λ (xs : List ℕ). of xs links.functions) a ∙ ap (of []) b ∙ ap (λ o. view_with (length p.functions) o f) (sym e)) where
   of : List ℕ → List ℕ → tree.Function
   of xs ys = view_with (length p.functions) (Some (record { addresses = xs; functions = ys })) f
+
+-- words number the variables of a function by the links of its file too
+pub numbers_there : (p : Program) (links : Links) (k : ℕ) (f : Function) → slice_get p.links f.file ≡ Some links → HasNumbers p k f → HasNumbersWith (length p.functions) links (nat_eq k p.main) f
+numbers_there p links k f e h = (h.0, ap (λ o. late_in (function_code f.place (nat_eq k p.main) (view_with (length p.functions) o f) f.variables)) (sym e) ∙ h.1)
+
+pub numbers_missing : (p : Program) (links : Links) (k : ℕ) (f : Function) → slice_get p.links f.file ≡ None → links.addresses ≡ [] → links.functions ≡ [] → HasNumbers p k f → HasNumbersWith (length p.functions) links (nat_eq k p.main) f
+numbers_missing p links k f e a b h =
+    (h.0, ap (λ (t : tree.Function). late_in (function_code f.place (nat_eq k p.main) t f.variables)) (ap (λ (xs : List ℕ). of xs links.functions) a ∙ ap (of []) b ∙ ap (λ o. view_with (length p.functions) o f) (sym e)) ∙ h.1) where
+      of : List ℕ → List ℕ → tree.Function
+      of xs ys = view_with (length p.functions) (Some (record { addresses = xs; functions = ys })) f

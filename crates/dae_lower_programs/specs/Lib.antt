@@ -1,4 +1,5 @@
 pub mod Made
+pub mod Sound
 pub mod Parts
 pub mod Switching
 pub mod Functions

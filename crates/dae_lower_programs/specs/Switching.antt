@@ -23,10 +23,10 @@ abbrev pub arm_done : Place → (v number : ℕ) → Form → ℕ → Made (Unit
 arm_done p v number code n = emit (If p (test_of AtLeastUnsigned (Number number) (Variable v)) code Done Done) n
 
 -- the arms, in a loop of one turn, and a continue of the loop outside where they continued it
-abbrev pub switch_ended : Place → (v : ℕ) → (goes_on : Bool) → Form → ℕ → Made (Unit {0})
-switch_ended p v goes_on arms n =
-    emit (Loop p arms (where_so goes_on (Do p (Assign (v + 1) (Same (Number 1))) (one p Break)))
-    (where_so goes_on (If p (test_of NotEqual (Variable (v + 1)) (Number 0)) (one p Continue) Done Done))) n
+abbrev pub switch_ended : Place → (flag : ℕ) → (goes_on : Bool) → Form → ℕ → Made (Unit {0})
+switch_ended p flag goes_on arms n =
+    emit (Loop p arms (where_so goes_on (Do p (Assign flag (Same (Number 1))) (one p Break)))
+    (where_so goes_on (If p (test_of NotEqual (Variable flag) (Number 0)) (one p Continue) Done Done))) n
 
 -- a switch, once its value is known
 abbrev pub switch_on : Links → Place → Arms → Operand → ℕ → Made (Unit {0})

@@ -1,6 +1,6 @@
 // The form of a function: what its frame needs, its parameters, its statements, and an end.
 
-ghost use Rattle.std.specs.Prelude.{◌≡◌, ◌<◌, ◌≤◌, ◌+◌, ◌^◌, ◌&&◌, [], ◌∷◌, length, nat_eq, not, if◌then◌else◌, IfOk};
+ghost use Rattle.std.specs.Prelude.{◌≡◌, ◌<◌, ◌+◌, ◌^◌, ◌&&◌, [], ◌∷◌, length, nat_eq, not, if◌then◌else◌, IfOk};
 ghost use Rattle.std.specs.List.{AllByRecursion};
 ghost use Rattle.dae_lower_formed.specs.Formed.{AreFormsOf, IsFunctionFormOf};
 ghost use Rattle.dae_ir.specs.Code.{Done};
@@ -10,7 +10,8 @@ ghost use Rattle.dae_ir.specs.declared.form.Item.TheVariants.{Expect, Halt, Retu
 ghost use Rattle.dae_ir.specs.declared.form.Operand.TheVariants.{Number};
 ghost use Rattle.dae_lower.specs.Lowering.{checks, closed, emit, is_closed, parameters_stored};
 ghost use Rattle.dae_lower_expressions.specs.Lowered.{MakesWhole};
-ghost use Rattle.dae_lower_programs.specs.Functions.{IsFormWith, NumbersParameters, slot_stored};
+ghost use Rattle.dae_lower_programs.specs.Functions.{HasNumbers, HasNumbersWith, HaveNumbers, IsFormWith, slot_stored};
+ghost use Rattle.dae_lower_programs.specs.Sound.{IsNumbered};
 ghost use Rattle.dae_lower_programs.specs.Invocations.{at_startup};
 
 use crate::make_statements;
@@ -36,7 +37,7 @@ fn store_in(
 ) -> Result<(), AllocError>
     ensures { IfOk result (MakesWhole (slot_stored place variable slot) lowerer.old lowerer.new) }
 {
-    let address = lowerer.maker.reserve()?;
+    let address = lowerer.maker.reserve();
     let value = Value::FrameAddress(slot.offset);
     let store = Item::Store(
         slot.width,
@@ -183,7 +184,8 @@ fn lower_with(
     invocation: Invocation,
     f: &Function,
 ) -> Result<FormFunction, AllocError>
-    requires { NumbersParameters f.now }
+    requires numbered { IsNumbered f.now }
+    requires numbers { HasNumbersWith none links.now (at_startup invocation) f.now }
     ensures { IfOk result (IsFormWith none links.now (at_startup invocation) f.now) }
 {
     see_word(f.variables);
@@ -218,7 +220,8 @@ fn lower_function(
     f: &Function,
 ) -> Result<FormFunction, AllocError>
     requires none { none ≡ length program.now.functions }
-    requires parameters { NumbersParameters f.now }
+    requires numbered { IsNumbered f.now }
+    requires numbers { HasNumbers program.now number f.now }
     ensures { IfOk result (IsFunctionFormOf program.now number f.now) }
 {
     let invocation = invocation_of(number, program.main);
@@ -247,7 +250,8 @@ fn lower_each(
 ) -> Result<Vec<FormFunction>, AllocError>
     requires none { none ≡ length program.now.functions }
     requires few { length functions.now < 2 ^ 32 }
-    requires parameters { AllByRecursion NumbersParameters functions.now }
+    requires numbered { AllByRecursion IsNumbered functions.now }
+    requires numbers { HaveNumbers program.now functions.now }
     ensures { IfOk result (λ gs. AreFormsOf program.now 0 functions.now gs.items) }
 {
     let mut forms = Vec::new(alloc);
@@ -262,7 +266,8 @@ fn lower_each(
 
 /// The forms of all functions of a program, in order.
 pub fn lower_functions(alloc: Global, program: &Program) -> Result<Vec<FormFunction>, AllocError>
-    requires { length program.now.functions < 2 ^ 32 }
+    requires few { length program.now.functions < 2 ^ 32 }
+    requires numbers { HaveNumbers program.now program.now.functions }
     ensures { IfOk result (λ gs. AreFormsOf program.now 0 program.now.functions gs.items) }
 {
     let none = count_of(program.functions.len());

@@ -105,8 +105,8 @@ pub fn zero(lowerer: &mut Lowerer, aggregate: Aggregate) -> Result<u32, AllocErr
         lowerer.new) }
 {
     let place = aggregate.place;
-    let address = lowerer.maker.reserve()?;
-    let end = lowerer.maker.reserve()?;
+    let address = lowerer.maker.reserve();
+    let end = lowerer.maker.reserve();
     let body = zero_turn(lowerer.alloc, place, aggregate.size, address, end)?;
     let step = Vec::new(lowerer.alloc);
     let behind = aggregate.offset.wrapping_add(aggregate.size);

@@ -45,8 +45,8 @@ fn text_turn(
 fn print_text(lowerer: &mut Lowerer, place: Place, x: Operand) -> Result<(), AllocError>
     ensures { IfOk result (MakesWhole (text_loop place x) lowerer.old lowerer.new) }
 {
-    let address = lowerer.maker.reserve()?;
-    let byte = lowerer.maker.reserve()?;
+    let address = lowerer.maker.reserve();
+    let byte = lowerer.maker.reserve();
     let body = text_turn(lowerer.alloc, place, address, byte)?;
     let step = go_up(lowerer.alloc, place, address)?;
     lowerer

@@ -5,6 +5,7 @@ ghost use Rattle.std.specs.List.{AllByRecursion};
 ghost use Rattle.dae_lower_formed.specs.Formed.{IsLowered};
 ghost use Rattle.dae_ir.specs.Scope.{IsScoped};
 ghost use Rattle.dae_ir.specs.SetFirst.{IsFunctionSetFirst};
+ghost use Rattle.dae_lower_programs.specs.Functions.{HaveNumbers};
 ghost use Rattle.dae_lower_programs.specs.Lowered.{HasRoom};
 
 use crate::functions::lower_functions;
@@ -15,7 +16,8 @@ use std::alloc::{AllocError, Global};
 
 /// The form of a program as the definition has it.
 fn lower_program(alloc: Global, program: &Program, calls: u16) -> Result<Ir, AllocError>
-    requires { length program.now.functions < 2 ^ 32 }
+    requires few { length program.now.functions < 2 ^ 32 }
+    requires numbers { HaveNumbers program.now program.now.functions }
     ensures lowered { IfOk result (λ ir. IsLowered program.now ir) }
     ensures calls { IfOk result (λ ir. ir.calls ≡ calls) }
 {
@@ -29,11 +31,11 @@ fn lower_program(alloc: Global, program: &Program, calls: u16) -> Result<Ir, All
     })
 }
 
-/// The form of a program, with at most so many calls inside one another, where words number its functions. It is well made, sets
-/// each variable before it reads it, and has room in its memory. An error is want of memory: that a function needs more variables
-/// than a word counts is such.
+/// The form of a program, with at most so many calls inside one another, where words number its functions and the variables of
+/// their forms. It is well made, sets each variable before it reads it, and has room in its memory.
 pub fn lower(alloc: Global, program: &Program, calls: u16) -> Result<Ir, AllocError>
-    requires { length program.now.functions < 2 ^ 32 }
+    requires few { length program.now.functions < 2 ^ 32 }
+    requires numbers { HaveNumbers program.now program.now.functions }
     ensures lowered { IfOk result (λ ir. IsLowered program.now ir) }
     ensures calls { IfOk result (λ ir. ir.calls ≡ calls) }
     ensures scoped { IfOk result IsScoped }

@@ -5,6 +5,7 @@ ghost use Rattle.dae_lower.specs.Lowering.{arms_from, effect_of_some, leave_unle
 ghost use Rattle.dae_lower.specs.Lowering.{leave_unless_some, statements};
 ghost use Rattle.dae_lower_expressions.specs.Lowered.{MakesWhole, links_in};
 ghost use Rattle.dae_lower_programs.specs.Made.{MakesBlock};
+ghost use Rattle.dae_lower_programs.specs.Sound.{AreArmsSound, AreSound};
 ghost use Rattle.dae_lower_programs.specs.Switching.{switch_on};
 ghost use Rattle.dae_program.specs.Trees.{Done, Initialise, Return};
 ghost use Rattle.dae_program.specs.Views.{statement_then, view, view_settings, view_some, view_statements, arms_of};
@@ -16,7 +17,6 @@ use crate::switching::{begin_switch, do_arm, end_switch};
 use dae_base::Place;
 use dae_ir::{Item, Operand, Statement as FormStatement};
 use dae_lower_expressions::Lowerer;
-use dae_lower_maker::one_more;
 use dae_program::{Arm, Expression, Links, Setting, Statement};
 use std::alloc::AllocError;
 
@@ -163,7 +163,7 @@ fn give_back(
     }
 }
 
-/// Statements in order. `none` is the number of no function.
+/// Statements in order, whose arms words number. `none` is the number of no function.
 #[cycle(statements)]
 pub fn make_statements(
     lowerer: &mut Lowerer,
@@ -171,6 +171,7 @@ pub fn make_statements(
     none: u32,
     ss: &[Statement],
 ) -> Result<(), AllocError>
+    requires { AreSound (view_statements ss.now) }
     ensures { IfOk result
         (MakesWhole
         (statements (links_in none links.now) (view_statements ss.now)) lowerer.old lowerer.new) }
@@ -188,6 +189,7 @@ fn make_statement(
     none: u32,
     s: &Statement,
 ) -> Result<(), AllocError>
+    requires { AreSound (statement_then s.now Done) }
     ensures { IfOk result
         (MakesWhole
         (statements (links_in none links.now)
@@ -262,6 +264,7 @@ fn block(
     none: u32,
     ss: &[Statement],
 ) -> Result<Vec<FormStatement>, AllocError>
+    requires { AreSound (view_statements ss.now) }
     ensures { IfOk result
         (λ inner.
         MakesBlock
@@ -283,6 +286,7 @@ fn make_switch(
     x: Operand,
     arms: &[Arm],
 ) -> Result<(), AllocError>
+    requires { AreArmsSound (arms_of arms.now) }
     ensures { IfOk result
         (MakesWhole
         (switch_on (links_in none links.now) place (arms_of arms.now) x) lowerer.old lowerer.new) }
@@ -306,6 +310,7 @@ fn make_arms(
     v: u32,
     arms: &[Arm],
 ) -> Result<(), AllocError>
+    requires { AreArmsSound (arms_of arms.now) }
     ensures { IfOk result
         (MakesWhole
         (arms_from (links_in none links.now) place v 0
@@ -315,7 +320,7 @@ fn make_arms(
     for arm in arms {
         let body = block(lowerer, links, none, &arm.statements)?;
         do_arm(lowerer, place, v, number, body)?;
-        number = one_more(number)?;
+        number += 1;
     }
     Ok(())
 }

@@ -1,6 +1,6 @@
 // Where a switch begins (C90 6.6.4.2).
 
-ghost use Rattle.std.specs.Prelude.{◌≡◌, [], ◌∷◌, IfOk, None};
+ghost use Rattle.std.specs.Prelude.{◌≡◌, ◌<◌, ◌^◌, [], ◌∷◌, length, IfOk, None};
 ghost use Rattle.dae_ir.specs.Code.{Do, Done, If};
 ghost use Rattle.dae_ir.specs.Form.{before, form_of, Form};
 ghost use Rattle.dae_lower.specs.Lowering.{arms_continue, emit, one, search, search_labels, test_of, where_so, ◌⨾◌};
@@ -10,6 +10,7 @@ ghost use Rattle.dae_ir.specs.declared.form.Item.TheVariants.{Assign, Break, Con
 ghost use Rattle.dae_ir.specs.declared.form.Operand.TheVariants.{Number, Variable};
 ghost use Rattle.dae_ir.specs.declared.form.Value.TheVariants.{Same};
 ghost use Rattle.dae_lower_expressions.specs.Lowered.{MakesWhole};
+ghost use Rattle.dae_lower_maker.specs.Numbers.{number_after};
 ghost use Rattle.dae_lower_programs.specs.Switching.{arm_done, switch_begun, switch_ended};
 ghost use Rattle.dae_meaning.specs.declared.Comparison.TheVariants.{NotEqual};
 ghost use Rattle.dae_program.specs.Switches.{arm_with, count_arms, has_label};
@@ -19,7 +20,7 @@ use crate::continuing::arms_continue;
 use dae_base::Place;
 use dae_ir::{Item, Operand, Statement, Test, Value};
 use dae_lower_expressions::Lowerer;
-use dae_lower_maker::{Condition, one_more};
+use dae_lower_maker::Condition;
 use dae_meaning::Comparison;
 use dae_program::Arm;
 use std::alloc::{AllocError, Global};
@@ -33,13 +34,14 @@ pub struct Dispatch {
     pub arm: u32,
 }
 
-/// A switch between its beginning and its end: its place, the variable that has the number of the arm where it begins, and
-/// whether its arms continue a loop round it.
+/// A switch between its beginning and its end: its place, the variable that has the number of the arm where it begins, whether its
+/// arms continue a loop round it, and the variable that notes that.
 #[derive(Clone, Copy)]
 pub struct OpenSwitch {
     pub place: Place,
     pub arm: u32,
     pub continues: bool,
+    pub flag: u32,
 }
 
 /// Whether a label is `default`.
@@ -62,18 +64,18 @@ fn has_default(labels: &[Option<u32>]) -> bool
 }
 
 /// The number of the arm with `default`, and where there is none of the end.
-pub fn default_arm(arms: &[Arm]) -> Result<u32, AllocError>
-    ensures { IfOk result
-        (λ k. k ≡ arm_with None 0 (arms_of arms.now) (count_arms (arms_of arms.now))) }
+pub fn default_arm(arms: &[Arm]) -> u32
+    requires { length arms.now < 2 ^ 32 }
+    ensures { result ≡ arm_with None 0 (arms_of arms.now) (count_arms (arms_of arms.now)) }
 {
     let mut number = 0;
     for arm in arms {
         if has_default(&arm.labels) {
-            return Ok(number);
+            return number;
         }
-        number = one_more(number)?;
+        number += 1;
     }
-    Ok(number)
+    number
 }
 
 /// Where the value equals a label, the search ends, and the arm of this number is the first.
@@ -148,6 +150,7 @@ fn search_labels(
 
 /// The search for the first arm, whose number a variable gets.
 pub fn search(alloc: Global, dispatch: Dispatch, arms: &[Arm]) -> Result<Vec<Statement>, AllocError>
+    requires { length arms.now < 2 ^ 32 }
     ensures { IfOk result
         (λ block. form_of block.items
         ≡ search dispatch.place dispatch.value dispatch.arm 0 (arms_of arms.now)) }
@@ -156,33 +159,36 @@ pub fn search(alloc: Global, dispatch: Dispatch, arms: &[Arm]) -> Result<Vec<Sta
     let mut number = 0;
     for arm in arms {
         search_labels(alloc, &mut block, dispatch, number, &arm.labels)?;
-        number = one_more(number)?;
+        number += 1;
     }
     block.push(Statement::Simple(dispatch.place, Item::Break))?;
     Ok(block)
 }
 
 /// Nothing has continued the loop outside yet, which a variable notes where something may.
-fn clear(lowerer: &mut Lowerer, switch: OpenSwitch, flag: u32) -> Result<(), AllocError>
+fn clear(lowerer: &mut Lowerer, switch: OpenSwitch) -> Result<(), AllocError>
     ensures { IfOk result
         (MakesWhole
         (emit (where_so switch.continues
-        (one switch.place (Assign flag (Same (Number 0)))))) lowerer.old lowerer.new) }
+        (one switch.place (Assign switch.flag (Same (Number 0)))))) lowerer.old lowerer.new) }
 {
     if switch.continues {
         let zero = Value::Same(Operand::Number(0));
-        lowerer.maker.item(switch.place, Item::Assign(flag, zero))?;
+        lowerer
+            .maker
+            .item(switch.place, Item::Assign(switch.flag, zero))?;
     }
     Ok(())
 }
 
-/// A switch up to its arms, with two variables of its own.
+/// A switch up to its arms, which words number, with two variables of its own.
 pub fn begin_switch(
     lowerer: &mut Lowerer,
     place: Place,
     x: Operand,
     arms: &[Arm],
 ) -> Result<OpenSwitch, AllocError>
+    requires { length arms.now < 2 ^ 32 }
     ensures made { IfOk result
         (λ switch. MakesWhole
         (switch_begun place x (arm_with None 0 (arms_of arms.now) (count_arms (arms_of arms.now)))
@@ -190,10 +196,11 @@ pub fn begin_switch(
     ensures place { IfOk result (λ switch. switch.place ≡ place) }
     ensures continues { IfOk result
         (λ switch. switch.continues ≡ arms_continue (arms_of arms.now)) }
+    ensures flag { IfOk result (λ switch. switch.flag ≡ number_after switch.arm) }
 {
-    let v = lowerer.maker.reserve()?;
-    let flag = lowerer.maker.reserve()?;
-    let other = default_arm(arms)?;
+    let v = lowerer.maker.reserve();
+    let flag = lowerer.maker.reserve();
+    let other = default_arm(arms);
     let dispatch = Dispatch {
         place,
         value: x,
@@ -207,8 +214,9 @@ pub fn begin_switch(
         place,
         arm: v,
         continues: arms_continue(arms),
+        flag,
     };
-    clear(lowerer, switch, flag)?;
+    clear(lowerer, switch)?;
     Ok(switch)
 }
 
@@ -238,34 +246,34 @@ pub fn do_arm(
 }
 
 /// What a continue in the arms goes to: it is noted, and the arms are left.
-fn note(alloc: Global, switch: OpenSwitch, flag: u32) -> Result<Vec<Statement>, AllocError>
+fn note(alloc: Global, switch: OpenSwitch) -> Result<Vec<Statement>, AllocError>
     ensures { IfOk result
         (λ block. form_of block.items
         ≡ where_so switch.continues
-        (Do switch.place (Assign flag (Same (Number 1))) (one switch.place Break))) }
+        (Do switch.place (Assign switch.flag (Same (Number 1))) (one switch.place Break))) }
 {
     let mut block = Vec::new(alloc);
     if switch.continues {
         let one = Value::Same(Operand::Number(1));
-        block.push(Statement::Simple(switch.place, Item::Assign(flag, one)))?;
+        block.push(Statement::Simple(switch.place, Item::Assign(switch.flag, one)))?;
         block.push(Statement::Simple(switch.place, Item::Break))?;
     }
     Ok(block)
 }
 
 /// Where the arms continued the loop outside, so does what is behind them.
-fn go_on(lowerer: &mut Lowerer, switch: OpenSwitch, flag: u32) -> Result<(), AllocError>
+fn go_on(lowerer: &mut Lowerer, switch: OpenSwitch) -> Result<(), AllocError>
     ensures { IfOk result
         (MakesWhole
         (emit (where_so switch.continues
-        (If switch.place (test_of NotEqual (Variable flag) (Number 0))
+        (If switch.place (test_of NotEqual (Variable switch.flag) (Number 0))
         (one switch.place Continue) Done Done))) lowerer.old lowerer.new) }
 {
     let place = switch.place;
     if switch.continues {
         let test = Test {
             comparison: Comparison::NotEqual,
-            left: Operand::Variable(flag),
+            left: Operand::Variable(switch.flag),
             right: Operand::Number(0),
         };
         let condition = Condition {
@@ -287,12 +295,11 @@ pub fn end_switch(
 ) -> Result<(), AllocError>
     ensures { IfOk result
         (MakesWhole
-        (switch_ended switch.place switch.arm switch.continues
+        (switch_ended switch.place switch.flag switch.continues
         (form_of body.items)) lowerer.old lowerer.new) }
 {
-    let flag = one_more(switch.arm)?;
-    let step = note(lowerer.alloc, switch, flag)?;
+    let step = note(lowerer.alloc, switch)?;
     lowerer.maker.repeat(switch.place, body, step)?;
-    go_on(lowerer, switch, flag)?;
+    go_on(lowerer, switch)?;
     Ok(())
 }

@@ -1,4 +1,4 @@
-// Tests of dae_lower_programs: a small program with its form.
+// Tests of dae_lower_expressions: small expressions with their code.
 #![tactic(auto)]
 
 #[cfg(test)]

@@ -10,7 +10,10 @@ use Rattle.dae_tree.specs.Marks.{literal_numbers}
 use Rattle.dae_tree.specs.Names.{Names, after_external}
 use Rattle.dae_tree.specs.Statements.{AreExternals, spell_external, spell_file}
 use Rattle.dae_tree.specs.Trees.{External, Declared, Defined}
+use Rattle.dae_program.specs.Views.{view_statements}
+use Rattle.dae_program.specs.declared.program.Function.{Function}
 use Rattle.dae_types_typed.specs.declared.files.FileParts.{FileParts}
+use Rattle.dae_unit.specs.Meanings.{functions_from}
 use Rattle.dae_ir.specs.Form.{form_of}
 use Rattle.dae_ir.specs.Streams.{actions_of}
 use Rattle.dae_ir.specs.declared.form.Function.{Function as FormFunction}
@@ -18,11 +21,12 @@ use Rattle.dae_ir.specs.declared.stream.StreamFunction.{StreamFunction}
 use Rattle.dae_sizes.specs.Worth.{priced, pay_of_all, IsDefinition, PartsPay, DefinitionsAreLong}
 use Rattle.dae_sizes.specs.Paid.{bytes_of_literal}
 use Rattle.dae_lower_formed.specs.Code.{loaded_burden, loads_in}
+use Rattle.dae_lower_formed.specs.Sizes.{most_made_in, most_made_of_slots}
 use Rattle.dae_ir_pair.specs.Sizes.{words_in}
 use Rattle.dae_sizes.specs.From.{AreFrom}
-use Rattle.dae_sizes.specs.Small.{tokens, text}
+use Rattle.dae_sizes.specs.Small.{tokens, text, HasFew}
 use Rattle.dae_sizes.specs.Sources.{Source, sources_of, sources_in, IsTypedAs, AreTypedAs, IsUpTo, tokens_of, tokens_in, bytes_of, bytes_in}
-use Rattle.dae_sizes.specs.Promise.{DefinitionsAreShort, FormsAreFew, FormsAreLittle, FormsAreWithin, FramesAreSmall, FramesAreWithin, HasFrameWithin, StreamsAreLittle, burdens_of, words_of, StreamsAreWithin}
+use Rattle.dae_sizes.specs.Promise.{DefinitionsAreShort, FormsAreFew, FormsAreLittle, FormsAreWithin, FramesAreSmall, FramesAreWithin, FunctionsAreFew, FunctionsAreWithin, HasFrameWithin, StreamsAreLittle, burdens_of, words_of, StreamsAreWithin}
 
 -- ---- frames
 
@@ -66,6 +70,11 @@ each_from P R S h xs [] p r = tt
 each_from P R S h [] (y ∷ ys) p r = absurd r
 each_from P R S h (x ∷ xs) (y ∷ ys) p (inl r) = (h x y p.0 r.0, each_from P R S h xs ys p.1 r.1)
 each_from P R S h (x ∷ xs) (y ∷ ys) p (inr r) = each_from P R S h xs (y ∷ ys) p.1 r
+
+pub functions_are_within : FunctionsAreFew → FunctionsAreWithin
+functions_are_within few cs files n typed up =
+    each_from (IsUpTo n) (λ (x : Source) (f : Function). HasFew x.external f.variables f.parameters (view_statements f.body)) (λ (f : Function). 7 + (f.variables + (most_made_of_slots f.parameters + most_made_in (view_statements f.body))) ≤ 4 * n)
+    (λ x f most r. let a = most r.0 in let b = r.1 in omega (arith, a, b)) (sources_in cs) (functions_from [] 0 files) up (few cs files typed)
 
 pub frames_are_within : DefinitionsAreLong → FormsAreFew → FramesAreWithin
 frames_are_within long few cs ir n is up =

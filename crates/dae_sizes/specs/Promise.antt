@@ -17,6 +17,7 @@ use Rattle.dae_ir.specs.declared.form.Ir.{Ir}
 use Rattle.dae_ir.specs.declared.stream.Stream.{Stream}
 use Rattle.dae_ir.specs.declared.stream.StreamFunction.{StreamFunction}
 use Rattle.dae_lower_formed.specs.Formed.{IsFormOf}
+use Rattle.dae_lower_formed.specs.Sizes.{most_made_in, most_made_of_slots}
 use Rattle.dae_sizes.specs.Worth.{IsDefinition}
 use Rattle.dae_lower_formed.specs.Code.{loaded_burden, loads_in}
 use Rattle.dae_ir_pair.specs.Sizes.{words_in}
@@ -36,6 +37,12 @@ abbrev pub FunctionsAreFew : Type 0
 FunctionsAreFew =
     (files : List Contents) (typed : List FileParts) → AreTypedAs files typed →
     AreFrom (λ (x : Source) (f : Function). HasFew x.external f.variables f.parameters (view_statements f.body)) (sources_in files) (functions_from [] 0 typed)
+
+-- where no definition has more than n tokens, a function has fewer than 4 for each of n
+abbrev pub FunctionsAreWithin : Type 0
+FunctionsAreWithin =
+    (files : List Contents) (typed : List FileParts) (n : ℕ) → AreTypedAs files typed → AreUpTo n files →
+    AllByRecursion (λ (f : Function). 7 + (f.variables + (most_made_of_slots f.parameters + most_made_in (view_statements f.body))) ≤ 4 * n) (functions_from [] 0 typed)
 
 abbrev pub FunctionsAreLittle : Type 0
 FunctionsAreLittle =

@@ -10,6 +10,7 @@ ghost use Rattle.dae_sizes.specs.Paid.{ValuesPaid};
 ghost use Rattle.dae_sizes.specs.Promise.{DefinitionsAreShort, FormsAreFew, FormsAreLittle};
 ghost use Rattle.dae_sizes.specs.Promise.{FormsAreWithin, FramesAreSmall, FramesAreWithin};
 ghost use Rattle.dae_sizes.specs.Promise.{FunctionsAreCounted, FunctionsAreFew, FunctionsAreLittle};
+ghost use Rattle.dae_sizes.specs.Promise.{FunctionsAreWithin};
 ghost use Rattle.dae_sizes.specs.Promise.{StreamsAreLittle, StreamsAreWithin};
 ghost use Rattle.dae_sizes.specs.Small.{CodeIsLittle, VariablesAreFew};
 ghost use Rattle.dae_sizes.specs.Tests.{FunctionsTestValues};
@@ -79,6 +80,13 @@ pub fn functions_are_few()
     ensures { FunctionsAreFew }
 {
     variables_are_few();
+}
+
+/// Where no definition has more than n tokens, such a function has fewer than 4 for each of n.
+pub fn functions_are_within()
+    ensures { FunctionsAreWithin }
+{
+    functions_are_few();
 }
 
 /// The same of what their code weighs, by the tokens of the definition and the bytes of its literals.

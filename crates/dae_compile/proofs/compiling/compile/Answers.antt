@@ -1,6 +1,7 @@
 use Rattle.std.proofs.Common.{refl}
 use Rattle.dae_accept.specs.Read.{texts_in}
 use Rattle.dae_compile.proofs.Accesses.{keeps_accesses}
+use Rattle.dae_compile.proofs.Numbers.{have_numbers}
 use Rattle.dae_compile.proofs.Small.{few_functions, few_variables, never_deep, never_long, small}
 use Rattle.dae_compile.proofs.compiling.compile.Goals as goal
 
@@ -29,6 +30,10 @@ returns-in-Ok-clause-compiled c =
 pub compile_program-requires-clause-functions : goal.compile_program-requires-clause-functions
 compile_program-requires-clause-functions c =
     few_functions c.functions_are_counted.ensures c.read_are_within.ensures (texts_in c.args.texts.now) c.in_ok-program.program c.in_ok-program.ensures.files
+
+pub compile_program-requires-clause-numbers : goal.compile_program-requires-clause-numbers
+compile_program-requires-clause-numbers c =
+    have_numbers c.forms_name.ensures c.variables_within.ensures c.functions_are_within.ensures c.definitions_are_short.ensures (texts_in c.args.texts.now) c.in_ok-program.program c.in_ok-program.ensures.files
 
 pub compile_program-requires-clause-variables : goal.compile_program-requires-clause-variables
 compile_program-requires-clause-variables c =

@@ -10,4 +10,4 @@ pub returns : goal.returns
 returns c =
     let old = c.args.lowerer.now in
     leaf_whole (slot_stored c.args.place c.args.variable c.args.slot) (state_of old) (state_of (record { alloc = old.alloc; maker = c.item-2.new.self; later = old.later })) tt refl
-    (slot_written c.args.place c.args.variable c.args.slot (so_far old.maker) (so_far c.reserve.new.self) (so_far c.item.new.self) (so_far c.item-2.new.self) c.in_ok-address.address c.in_ok-address.ensures.given c.in_ok-address.ensures.after c.in_ok-item.ensures c.in_ok-item-2.ensures)
+    (slot_written c.args.place c.args.variable c.args.slot (so_far old.maker) (so_far c.reserve-address.new.self) (so_far c.item.new.self) (so_far c.item-2.new.self) c.reserve-address.result c.reserve-address.ensures.given c.reserve-address.ensures.after c.in_ok-item.ensures c.in_ok-item-2.ensures)

@@ -1,4 +1,4 @@
-use Rattle.std.proofs.Common.{refl, drop, ◌+◌, ap, sym, subst, ◌∙◌}
+use Rattle.std.proofs.Common.{refl, drop, ◌+◌, ap, sym, subst, ◌∙◌, arith, rules, List}
 use Rattle.std.specs.Prelude.{None}
 use Rattle.dae_ir.specs.declared.form.Item.TheVariants.{Break, Continue}
 use Rattle.dae_lower.specs.Lowering.{arms_continue, arms_from, branches, effect_of_some, emit, leave_unless, leave_unless_some, loop, nowhere, one, operands, prints, statements, ways, ◌≫◌}
@@ -12,9 +12,63 @@ use Rattle.dae_lower_maker.specs.Making.{condition_of}
 use Rattle.dae_program.specs.Switches.{arm_with, count_arms}
 use Rattle.dae_program.specs.Trees as tree
 use Rattle.dae_program.specs.Trees.{Done}
-use Rattle.dae_program.specs.declared.statements.Statement.{Statement}
+use Rattle.dae_lower_programs.proofs.Sound.{arm_sound, arms_sound, done_sound, few_arms, no_sound, sound_at, turn_sound, yes_sound}
+use Rattle.dae_lower_programs.specs.Sound.{AreArmsSound, AreSound}
+use Rattle.dae_program.specs.declared.statements.Arm.{Arm}
+use Rattle.dae_program.specs.declared.statements.Statement.{Statement, the_lemmas}
 use Rattle.dae_program.specs.Views.{statement_then, view, view_expressions, view_some, view_statements, arms_of}
 use Rattle.dae_lower_programs.proofs.statements.+statements.Goals as goal
+
+pub make_statements-make_statement-requires : goal.make_statements-make_statement-requires
+make_statements-make_statement-requires t c = (search (rules, the_lemmas), sound_at c.args.ss.now c.loop-s.s-index c.s-item.result c.loop-s-test.true c.s-item.is c.requires)
+
+pub make_statement-block-requires : goal.make_statement-block-requires
+make_statement-block-requires t c = (
+  search (rules, the_lemmas),
+  subst (λ (ss : List Statement). AreSound (view_statements ss)) (sym c.deref-in-If.ensures.value)
+      (yes_sound (subst AreSound (ap (λ (s : Statement). statement_then s Done) c.in-If.is ∙ view_if c.in-If.place c.in-If.e c.in-If.yes c.in-If.no Done) c.requires)),
+)
+
+pub make_statement-block-requires-in-If : goal.make_statement-block-requires-in-If
+make_statement-block-requires-in-If t c = (
+  search (rules, the_lemmas),
+  subst (λ (ss : List Statement). AreSound (view_statements ss)) (sym c.deref-in-If-2.ensures.value)
+      (no_sound (subst AreSound (ap (λ (s : Statement). statement_then s Done) c.in-If.is ∙ view_if c.in-If.place c.in-If.e c.in-If.yes c.in-If.no Done) c.requires)),
+)
+
+pub make_statement-make_statements-requires : goal.make_statement-make_statements-requires
+make_statement-make_statements-requires t c = (
+  search (rules, the_lemmas),
+  subst (λ (ss : List Statement). AreSound (view_statements ss)) (sym c.deref-in-Loop.ensures.value)
+      (turn_sound (subst AreSound (ap (λ (s : Statement). statement_then s Done) c.in-Loop.is ∙ view_loop c.in-Loop.place c.in-Loop.test c.in-Loop.body c.in-Loop.step Done) c.requires)),
+)
+
+pub make_statement-block-requires-in-Do : goal.make_statement-block-requires-in-Do
+make_statement-block-requires-in-Do t c = (
+  search (rules, the_lemmas),
+  subst (λ (ss : List Statement). AreSound (view_statements ss)) (sym c.deref-in-Do.ensures.value)
+      (done_sound (subst AreSound (ap (λ (s : Statement). statement_then s Done) c.in-Do.is ∙ view_do c.in-Do.place c.in-Do.body c.in-Do.test Done) c.requires)),
+)
+
+pub make_statement-make_switch-requires : goal.make_statement-make_switch-requires
+make_statement-make_switch-requires t c = (
+  search (rules, the_lemmas),
+  subst (λ (xs : List Arm). AreArmsSound (arms_of xs)) (sym c.deref-in-Switch.ensures.value)
+      (arms_sound (subst AreSound (ap (λ (s : Statement). statement_then s Done) c.in-Switch.is ∙ view_switch c.in-Switch.place c.in-Switch.e c.in-Switch.arms Done) c.requires)),
+)
+
+pub make_switch-begin_switch-requires : goal.make_switch-begin_switch-requires
+make_switch-begin_switch-requires t c = few_arms c.args.arms.now c.requires
+
+pub make_arms-block-requires : goal.make_arms-block-requires
+make_arms-block-requires t c = (
+  search (rules, the_lemmas),
+  subst (λ (ss : List Statement). AreSound (view_statements ss)) (sym c.deref.ensures.value)
+      (arm_sound c.args.arms.now c.loop-arm.arm-index c.arm-item.result c.loop-arm-test.true c.arm-item.is c.requires),
+)
+
+pub make_arms-overflow_add-number : goal.make_arms-overflow_add-number
+make_arms-overflow_add-number t c = let same = c.loop-arm.invariant.0 in let few = few_arms c.args.arms.now c.requires in omega (arith, same, c.loop-arm-test.true, few)
 
 pub make_statements-loop-s-init : goal.make_statements-loop-s-init
 make_statements-loop-s-init t c = first_leads (statements (links_in c.args.none c.args.links.now) (view_statements c.args.ss.now)) (state_of c.args.lowerer.now)
@@ -150,7 +204,7 @@ make_switch-returns t c =
     let arms = arms_of c.args.arms.now in
     let v = c.in_ok-switch.switch.arm in
     let turns = arms_from l p v 0 arms in
-    switch_whole l p c.args.x (arm_with None 0 arms (count_arms arms)) arms (arms_continue arms) a (state_of first) ended z v c.end_block-body.result.items
+    switch_whole l p c.args.x (arm_with None 0 arms (count_arms arms)) arms (arms_continue arms) a (state_of first) ended z v c.in_ok-switch.switch.flag c.end_block-body.result.items c.in_ok-switch.ensures.flag
     (rw (c.in_ok-switch.ensures.continues) at (c.in_ok-switch.ensures.made))
     (block_whole (λ n. turns n ≫ λ u. emit (one p Break)) (state_of first) begun done ended c.begin_block-outer.result.items c.end_block-body.result.items c.begin_block-outer.ensures.after refl c.begin_block-outer.ensures.outer
     (then_whole turns (λ u. emit (one p Break)) begun (state_of inner) done tt tt c.in_ok-make_arms.ensures (leaf_whole (emit (one p Break)) (state_of inner) done tt refl c.in_ok-item.ensures))
@@ -169,7 +223,7 @@ make_arms-loop-arm-preserved t c =
     let i = c.loop-arm.arm-index in
     let a = c.arm-item.result in
     let t = view_statements a.statements.items in (
-      c.in_ok-number.ensures ∙ ap (λ n. n + 1) c.loop-arm.invariant.0,
+      ap (λ n. n + 1) c.loop-arm.invariant.0,
       next_leads (arms_from l p v 0 (arms_of xs)) (arms_from l p v i (arms_of (drop i xs))) (arm_made l p v i t) (arms_from l p v (i + 1) (arms_of (drop (i + 1) xs))) (state_of c.args.lowerer.now) (state_of c.loop-arm.lowerer) (state_of c.do_arm.new.lowerer)
           (made_arms_at l p v i xs a c.loop-arm-test.true c.arm-item.is) c.loop-arm.invariant.1
           (arm_whole l p v c.loop-arm.number i t (state_of c.loop-arm.lowerer) (state_of c.block.new.lowerer) (state_of c.do_arm.new.lowerer) c.in_ok-body.body.items c.loop-arm.invariant.0 (rw (c.deref.ensures.value) at (c.in_ok-body.ensures)) c.in_ok-do_arm.ensures),

@@ -63,19 +63,19 @@ value-returns-in_ok-z-in-Compare t c =
 
 pub value-returns-in_ok-branch-in-And : goal.value-returns-in_ok-branch-in-And
 value-returns-in_ok-branch-in-And t c =
-    rw (c.in-And.is, ← c.deref-in-And.ensures, ← c.deref-in-And-2.ensures) (and_lowered c.in-And.place (ways (links_in c.args.none c.args.links.now) (view c.deref-in-And.result.now)).condition (ways (links_in c.args.none c.args.links.now) (view c.deref-in-And-2.result.now)) _ _ (assigned (view c.deref-in-And-2.result.now)) (state_of c.args.self.now) (state_of (record { alloc = c.args.self.now.alloc; maker = c.reserve.new.self; later = c.args.self.now.later })) _ _ _ c.in_ok-v-in-And.v _ _ _ (assigned_told (view c.deref-in-And-2.result.now)) c.in_ok-condition-in-And.ensures c.in_ok-holds-in-And.ensures c.in_ok-fails-in-And.ensures
-    c.in_ok-v-in-And.ensures.given c.in_ok-v-in-And.ensures.after refl refl c.in_ok-branch-in-And.ensures)
+    rw (c.in-And.is, ← c.deref-in-And.ensures, ← c.deref-in-And-2.ensures) (and_lowered c.in-And.place (ways (links_in c.args.none c.args.links.now) (view c.deref-in-And.result.now)).condition (ways (links_in c.args.none c.args.links.now) (view c.deref-in-And-2.result.now)) _ _ (assigned (view c.deref-in-And-2.result.now)) (state_of c.args.self.now) (state_of (record { alloc = c.args.self.now.alloc; maker = c.reserve-v.new.self; later = c.args.self.now.later })) _ _ _ c.reserve-v.result _ _ _ (assigned_told (view c.deref-in-And-2.result.now)) c.in_ok-condition-in-And.ensures c.in_ok-holds-in-And.ensures c.in_ok-fails-in-And.ensures
+    c.reserve-v.ensures.given c.reserve-v.ensures.after refl refl c.in_ok-branch-in-And.ensures)
 
 pub value-returns-in_ok-branch-in-Or : goal.value-returns-in_ok-branch-in-Or
 value-returns-in_ok-branch-in-Or t c =
-    rw (c.in-Or.is, ← c.deref-in-Or.ensures, ← c.deref-in-Or-2.ensures) (or_lowered c.in-Or.place (ways (links_in c.args.none c.args.links.now) (view c.deref-in-Or.result.now)).condition (ways (links_in c.args.none c.args.links.now) (view c.deref-in-Or-2.result.now)) _ _ (assigned (view c.deref-in-Or-2.result.now)) (state_of c.args.self.now) (state_of (record { alloc = c.args.self.now.alloc; maker = c.reserve-in-Or.new.self; later = c.args.self.now.later })) _ _ _ c.in_ok-v-in-Or.v _ _ _ (assigned_told (view c.deref-in-Or-2.result.now)) c.in_ok-condition-in-Or.ensures c.in_ok-fails-in-Or.ensures c.in_ok-holds-in-Or.ensures
-    c.in_ok-v-in-Or.ensures.given c.in_ok-v-in-Or.ensures.after refl refl c.in_ok-branch-in-Or.ensures)
+    rw (c.in-Or.is, ← c.deref-in-Or.ensures, ← c.deref-in-Or-2.ensures) (or_lowered c.in-Or.place (ways (links_in c.args.none c.args.links.now) (view c.deref-in-Or.result.now)).condition (ways (links_in c.args.none c.args.links.now) (view c.deref-in-Or-2.result.now)) _ _ (assigned (view c.deref-in-Or-2.result.now)) (state_of c.args.self.now) (state_of (record { alloc = c.args.self.now.alloc; maker = c.reserve-v-in-Or.new.self; later = c.args.self.now.later })) _ _ _ c.reserve-v-in-Or.result _ _ _ (assigned_told (view c.deref-in-Or-2.result.now)) c.in_ok-condition-in-Or.ensures c.in_ok-fails-in-Or.ensures c.in_ok-holds-in-Or.ensures
+    c.reserve-v-in-Or.ensures.given c.reserve-v-in-Or.ensures.after refl refl c.in_ok-branch-in-Or.ensures)
 
 pub value-returns-in_ok-branch-in-Conditional : goal.value-returns-in_ok-branch-in-Conditional
 value-returns-in_ok-branch-in-Conditional t c =
-    rw (c.in-Conditional.is, ← c.deref-in-Conditional.ensures, ← c.deref-in-Conditional-3.ensures, ← c.deref-in-Conditional-5.ensures) (picked_lowered c.in-Conditional.place (ways (links_in c.args.none c.args.links.now) (view c.deref-in-Conditional.result.now)) (ways (links_in c.args.none c.args.links.now) (view c.deref-in-Conditional-3.result.now)) (ways (links_in c.args.none c.args.links.now) (view c.deref-in-Conditional-5.result.now)) _ (or (assigned (view c.deref-in-Conditional-3.result.now)) (assigned (view c.deref-in-Conditional-5.result.now))) (state_of c.args.self.now) (state_of (record { alloc = c.args.self.now.alloc; maker = c.reserve-in-Conditional.new.self; later = c.args.self.now.later })) _ c.in_ok-v-in-Conditional.v
-    (chosen_lowered c.in-Conditional.place (Value c.in-Conditional.place c.in_ok-v-in-Conditional.v) (ways (links_in c.args.none c.args.links.now) (view c.deref-in-Conditional.result.now)) (ways (links_in c.args.none c.args.links.now) (view c.deref-in-Conditional-3.result.now)) (ways (links_in c.args.none c.args.links.now) (view c.deref-in-Conditional-5.result.now)) _ _ _ (or (assigned (view c.deref-in-Conditional-3.result.now)) (assigned (view c.deref-in-Conditional-5.result.now))) _ _ _ _ _ _ _ _ _ _ _ _ _ (both_told (view c.deref-in-Conditional-3.result.now) (view c.deref-in-Conditional-5.result.now)) c.in_ok-condition-in-Conditional.ensures (rw (c.deref-in-Conditional-2.ensures, ← c.deref-in-Conditional-5.ensures) at (c.in_ok-count-in-Conditional.ensures)) c.in_ok-holds-in-Conditional.ensures (rw (c.deref-in-Conditional-4.ensures, ← c.deref-in-Conditional-5.ensures) at (c.in_ok-count-in-Conditional-2.ensures)) c.in_ok-fails-in-Conditional.ensures refl c.in_ok-branch-in-Conditional.ensures)
-    c.in_ok-v-in-Conditional.ensures.given c.in_ok-v-in-Conditional.ensures.after refl)
+    rw (c.in-Conditional.is, ← c.deref-in-Conditional.ensures, ← c.deref-in-Conditional-3.ensures, ← c.deref-in-Conditional-5.ensures) (picked_lowered c.in-Conditional.place (ways (links_in c.args.none c.args.links.now) (view c.deref-in-Conditional.result.now)) (ways (links_in c.args.none c.args.links.now) (view c.deref-in-Conditional-3.result.now)) (ways (links_in c.args.none c.args.links.now) (view c.deref-in-Conditional-5.result.now)) _ (or (assigned (view c.deref-in-Conditional-3.result.now)) (assigned (view c.deref-in-Conditional-5.result.now))) (state_of c.args.self.now) (state_of (record { alloc = c.args.self.now.alloc; maker = c.reserve-v-in-Conditional.new.self; later = c.args.self.now.later })) _ c.reserve-v-in-Conditional.result
+    (chosen_lowered c.in-Conditional.place (Value c.in-Conditional.place c.reserve-v-in-Conditional.result) (ways (links_in c.args.none c.args.links.now) (view c.deref-in-Conditional.result.now)) (ways (links_in c.args.none c.args.links.now) (view c.deref-in-Conditional-3.result.now)) (ways (links_in c.args.none c.args.links.now) (view c.deref-in-Conditional-5.result.now)) _ _ _ (or (assigned (view c.deref-in-Conditional-3.result.now)) (assigned (view c.deref-in-Conditional-5.result.now))) _ _ _ _ _ _ _ _ _ _ _ _ _ (both_told (view c.deref-in-Conditional-3.result.now) (view c.deref-in-Conditional-5.result.now)) c.in_ok-condition-in-Conditional.ensures (rw (c.deref-in-Conditional-2.ensures, ← c.deref-in-Conditional-5.ensures) at (c.in_ok-count-in-Conditional.ensures)) c.in_ok-holds-in-Conditional.ensures (rw (c.deref-in-Conditional-4.ensures, ← c.deref-in-Conditional-5.ensures) at (c.in_ok-count-in-Conditional-2.ensures)) c.in_ok-fails-in-Conditional.ensures refl c.in_ok-branch-in-Conditional.ensures)
+    c.reserve-v-in-Conditional.ensures.given c.reserve-v-in-Conditional.ensures.after refl)
 
 pub value-returns-in_ok-y-in-Comma : goal.value-returns-in_ok-y-in-Comma
 value-returns-in_ok-y-in-Comma t c =
@@ -150,7 +150,7 @@ effect-returns-in_ok-item-in-Putchar t c =
 pub effect-returns-in_ok-value-in_default : goal.effect-returns-in_ok-value-in_default
 effect-returns-in_ok-value-in_default t c =
     let other = c.in_default in
-    let plain = otherwise_plain c.args.self.now.alloc c.args.e.now other.not-Variable other.not-Convert other.not-Not other.not-Compare other.not-Conditional other.not-Comma other.not-Step other.not-Putchar in
+    let plain = otherwise_plain c.args.e.now other.not-Variable other.not-Convert other.not-Not other.not-Compare other.not-Conditional other.not-Comma other.not-Step other.not-Putchar in
     plain_lowered (links_in c.args.none c.args.links.now) (view c.args.e.now) _ _ _ _ plain c.in_ok-value-in_default.ensures
 
 pub condition-returns-in_ok-condition-in-Not : goal.condition-returns-in_ok-condition-in-Not
@@ -169,7 +169,7 @@ condition-returns-in_ok-condition-in-Comma t c =
 pub condition-returns-in_ok-x-in_default : goal.condition-returns-in_ok-x-in_default
 condition-returns-in_ok-x-in_default t c =
     let other = c.in_default in
-    let tested = otherwise_tested c.args.self.now.alloc c.args.e.now other.not-Not other.not-Compare other.not-Comma in
+    let tested = otherwise_tested c.args.e.now other.not-Not other.not-Compare other.not-Comma in
     rw (c.nonzero.ensures) (tested_lowered (links_in c.args.none c.args.links.now) (view c.args.e.now) _ _ _ _ tested c.in_ok-x-in_default.ensures)
 
 pub spot-returns-in_ok-change-in-Variable : goal.spot-returns-in_ok-change-in-Variable
