@@ -1,6 +1,5 @@
 -- Variables that are left to what is written, which sets them.
 use Rattle.std.proofs.Common.{◌≡◌, ◌⊎◌, ℕ, ◌+◌, ◌-◌, ◌^◌, ◌<◌, ◌≤◌, inl, inr, ap, ◌∙◌, subst, arith}
-use Rattle.dae_ir.specs.Form.{Form}
 use Rattle.dae_lower.specs.Lowering.{Made}
 use Rattle.dae_lower_maker.proofs.Laws.{after_fits, after_full, after_grows, after_most, below_or_last, late_there}
 use Rattle.dae_lower_maker.specs.Making.{Written, Writes, Wrote}

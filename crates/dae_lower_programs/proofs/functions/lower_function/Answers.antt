@@ -17,8 +17,8 @@ lower_with-requires-clause-numbers c =
     subst (λ (main : Bool). HasNumbersWith c.args.none links main f) (sym c.invocation_of-invocation.ensures)
     (subst (λ (none : ℕ). HasNumbersWith none links (nat_eq c.args.number p.main) f) (sym c.requires.none) (numbers_there p links c.args.number f here c.requires.numbers))
 
-pub lower_with-requires-clause-numbers-in-None : goal.lower_with-requires-clause-numbers-in-None
-lower_with-requires-clause-numbers-in-None c =
+pub lower_with-requires-in-None-clause-numbers : goal.lower_with-requires-in-None-clause-numbers
+lower_with-requires-in-None-clause-numbers c =
     let p = c.args.program.now in
     let f = c.args.f.now in
     let nothing : Links = record { addresses = c.new.result; functions = c.new-in-None.result } in

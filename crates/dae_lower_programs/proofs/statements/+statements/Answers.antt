@@ -12,7 +12,7 @@ use Rattle.dae_lower_maker.specs.Making.{condition_of}
 use Rattle.dae_program.specs.Switches.{arm_with, count_arms}
 use Rattle.dae_program.specs.Trees as tree
 use Rattle.dae_program.specs.Trees.{Done}
-use Rattle.dae_lower_programs.proofs.Sound.{arm_sound, arms_sound, done_sound, few_arms, no_sound, sound_at, turn_sound, yes_sound}
+use Rattle.dae_lower_programs.proofs.Sound.{arm_sound, arms_sound, done_sound, few_arms, no_below, no_sound, sound_at, turn_sound, yes_sound}
 use Rattle.dae_lower_programs.specs.Sound.{AreArmsSound, AreSound}
 use Rattle.dae_program.specs.declared.statements.Arm.{Arm}
 use Rattle.dae_program.specs.declared.statements.Statement.{Statement, the_lemmas}
@@ -25,14 +25,14 @@ make_statements-make_statement-requires t c = (search (rules, the_lemmas), sound
 pub make_statement-block-requires : goal.make_statement-block-requires
 make_statement-block-requires t c = (
   search (rules, the_lemmas),
-  subst (λ (ss : List Statement). AreSound (view_statements ss)) (sym c.deref-in-If.ensures.value)
+  subst (λ (ss : List Statement). AreSound (view_statements ss)) (sym c.deref-in-If-2.ensures.value)
       (yes_sound (subst AreSound (ap (λ (s : Statement). statement_then s Done) c.in-If.is ∙ view_if c.in-If.place c.in-If.e c.in-If.yes c.in-If.no Done) c.requires)),
 )
 
 pub make_statement-block-requires-in-If : goal.make_statement-block-requires-in-If
 make_statement-block-requires-in-If t c = (
-  search (rules, the_lemmas),
-  subst (λ (ss : List Statement). AreSound (view_statements ss)) (sym c.deref-in-If-2.ensures.value)
+  let below = no_below c.in-If.place c.in-If.e c.in-If.yes c.in-If.no c.deref-in-If-3.result.now c.args.s.now c.in-If.is c.deref-in-If-3.ensures.value in search (rules, below, c.decreases),
+  subst (λ (ss : List Statement). AreSound (view_statements ss)) (sym c.deref-in-If-3.ensures.value)
       (no_sound (subst AreSound (ap (λ (s : Statement). statement_then s Done) c.in-If.is ∙ view_if c.in-If.place c.in-If.e c.in-If.yes c.in-If.no Done) c.requires)),
 )
 
@@ -53,7 +53,7 @@ make_statement-block-requires-in-Do t c = (
 pub make_statement-make_switch-requires : goal.make_statement-make_switch-requires
 make_statement-make_switch-requires t c = (
   search (rules, the_lemmas),
-  subst (λ (xs : List Arm). AreArmsSound (arms_of xs)) (sym c.deref-in-Switch.ensures.value)
+  subst (λ (xs : List Arm). AreArmsSound (arms_of xs)) (sym c.deref-in-Switch-2.ensures.value)
       (arms_sound (subst AreSound (ap (λ (s : Statement). statement_then s Done) c.in-Switch.is ∙ view_switch c.in-Switch.place c.in-Switch.e c.in-Switch.arms Done) c.requires)),
 )
 
