@@ -11,10 +11,11 @@ ghost use Rattle.dae_select_walks.specs.declared.Home.TheVariants.{Register as I
 ghost use Rattle.dae_ir.specs.declared.form.Value.TheVariants.{Binary as IsBinary, Holds as IsHolds};
 ghost use Rattle.dae_select.specs.Growing.{standing_between, step_before, IsTakenBy};
 ghost use Rattle.dae_select_values.specs.Tables.{AreNear, home_by};
+ghost use Rattle.dae_select.specs.Taken.{beside_left, beside_right, number_beside};
 
 use dae_encode::Inst;
 use dae_ir::{Action, Operand, Step, Test, Value};
-use dae_meaning::Operator;
+use dae_meaning::{Comparison, Operator};
 use dae_select_live::LiveSet;
 use dae_select_values::{
     HomeTable, as_immediate, compare, compare_number, exchanged, extend, fetch, home_of, immediate,
@@ -177,8 +178,43 @@ struct Taken {
     target: u8,
 }
 
+/// The operation on a register and an operand to its right in one instruction, where there is one.
+fn beside_right(operator: Operator, target: u8, register: u8, operand: Operand) -> Option<Inst>
+    ensures { result ≡ beside_right operator target register operand }
+{
+    match operand {
+        Operand::Number(number) => immediate(operator, target, register, number),
+        Operand::Variable(_) => None,
+    }
+}
+
+/// The same with the operand to its left.
+fn beside_left(operator: Operator, target: u8, register: u8, operand: Operand) -> Option<Inst>
+    ensures { result ≡ beside_left operator target register operand }
+{
+    match operand {
+        Operand::Number(number) => exchanged(operator, target, register, number),
+        Operand::Variable(_) => None,
+    }
+}
+
+/// The number that a comparison has for its right operand as an immediate.
+fn number_beside(homes: HomeTable, comparison: Comparison, operand: Operand) -> Option<u32>
+    ensures { result ≡ number_beside (home_by homes.entry) comparison operand }
+{
+    match operand {
+        Operand::Number(number) => {
+            if as_immediate(homes, comparison, number) {
+                Some(number)
+            } else {
+                None
+            }
+        }
+        Operand::Variable(_) => None,
+    }
+}
+
 /// An operation on a word that is taken and something else.
-#[tactic(auto, using(crate::proofs::Untaken::key_far))]
 fn taken_binary(
     code: &mut Vec<Inst>,
     homes: HomeTable,
@@ -196,30 +232,27 @@ fn taken_binary(
     let queue = taken.queue;
     let target = taken.target;
     if is_variable(left, taken.variable) {
-        let inst = match right {
-            Operand::Number(number) => immediate(operator, target, queue, number),
-            Operand::Variable(_) => None,
-        };
-        if let Some(inst) = inst {
-            return code.extend_from_slice(&[inst]);
+        match beside_right(operator, target, queue, right) {
+            Some(inst) => code.extend_from_slice(&[inst]),
+            None => {
+                fetch(code, homes, 6, right)?;
+                let right = source(homes, 6, right);
+                code.extend_from_slice(&[operation(operator, target, queue, right)])
+            }
         }
-        fetch(code, homes, 6, right)?;
-        code.extend_from_slice(&[operation(operator, target, queue, source(homes, 6, right))])
     } else {
-        let inst = match left {
-            Operand::Number(number) => exchanged(operator, target, queue, number),
-            Operand::Variable(_) => None,
-        };
-        if let Some(inst) = inst {
-            return code.extend_from_slice(&[inst]);
+        match beside_left(operator, target, queue, left) {
+            Some(inst) => code.extend_from_slice(&[inst]),
+            None => {
+                fetch(code, homes, 5, left)?;
+                let left = source(homes, 5, left);
+                code.extend_from_slice(&[operation(operator, target, left, queue)])
+            }
         }
-        fetch(code, homes, 5, left)?;
-        code.extend_from_slice(&[operation(operator, target, source(homes, 5, left), queue)])
     }
 }
 
 /// A test of a word that is taken and something else.
-#[tactic(auto, using(crate::proofs::Untaken::key_far))]
 fn taken_test(
     code: &mut Vec<Inst>,
     homes: HomeTable,
@@ -235,18 +268,14 @@ fn taken_test(
     let queue = taken.queue;
     let target = taken.target;
     if is_variable(test.left, taken.variable) {
-        let number = match test.right {
-            Operand::Number(number) => {
-                as_immediate(homes, test.comparison, number).then_some(number)
+        match number_beside(homes, test.comparison, test.right) {
+            Some(number) => compare_number(code, test.comparison, target, queue, number),
+            None => {
+                fetch(code, homes, 6, test.right)?;
+                let right = source(homes, 6, test.right);
+                compare(code, test.comparison, target, queue, right)
             }
-            Operand::Variable(_) => None,
-        };
-        if let Some(number) = number {
-            return compare_number(code, test.comparison, target, queue, number);
         }
-        fetch(code, homes, 6, test.right)?;
-        let right = source(homes, 6, test.right);
-        compare(code, test.comparison, target, queue, right)
     } else {
         fetch(code, homes, 5, test.left)?;
         let left = source(homes, 5, test.left);
