@@ -137,14 +137,14 @@ module _ (p q : Program) (frames : (g : ℕ) → q.frame g ≡ p.frame g) (limit
       within_ends (misplaced width (value x e) (length w.memory)) facts o (old k) (new (elided memory chosen facts k)) e w (with_stored width (value x e) (value y e) w)
       h (stored_length width (value x e) (value y e) w.memory ∙ size) (same_run k facts o go)
   same_run (Do place (Print spelling x) k) facts o go e w h size = same_run k facts o go e (with_printed spelling (value x e) w) h size
-  same_run (Do place (Expect (Good width (Variable v))) k) facts o go e w h size = by (is_known memory chosen facts width v) refl where
+  same_run (Do place (Expect (Good width (Variable v))) k) facts o go e w h size = by (same_run k known o go) (is_known memory chosen facts width v) refl where
     known : Facts
     known = facts_behind memory (Probe (Good width (Variable v))) facts
 
-    by : (b : Bool) → is_known memory chosen facts width v ≡ b
+    by : Goes known o (old k) (new (elided memory chosen known k)) → (b : Bool) → is_known memory chosen facts width v ≡ b
         → Ends o (old (Do place (Expect (Good width (Variable v))) k) e w) (new (Do place (if b then itself v else Expect (Good width (Variable v))) (elided memory chosen known k)) e w)
-    by true is = leaves width v facts o (old k) (new (elided memory chosen known k)) e w (and_parts (chosen v && nat_lt 0 v) (is_good memory width (bounds_in facts v)) is).1 h size (same_run k known o go)
-    by false is = stays width v facts o (old k) (new (elided memory chosen known k)) e w h size (same_run k known o go)
+    by later true is = leaves width v facts o (old k) (new (elided memory chosen known k)) e w (and_parts (chosen v && nat_lt 0 v) (is_good memory width (bounds_in facts v)) is).1 h size later
+    by later false is = stays width v facts o (old k) (new (elided memory chosen known k)) e w h size later
   same_run (Do place (Expect (Good width (Number n))) k) facts o go e w h size =
       checked_ends (misplaced width n (length w.memory)) facts o (old k) (new (elided memory chosen facts k)) e w (λ none. h) size (same_run k facts o go)
   same_run (Do place (Expect (Zero x)) k) facts o go e w h size =
@@ -160,19 +160,18 @@ module _ (p q : Program) (frames : (g : ℕ) → q.frame g ≡ p.frame g) (limit
   same_run (Do place (Call v g xs) k) facts o go e w h size = calls_end v g xs facts o (old k) (new (elided memory chosen (with_bounds v any facts) k)) e w h size (same_run k (with_bounds v any facts) o go)
   same_run (Do place (Return x) k) facts o go e w h size = (refl, tt)
   same_run (Do place (Halt x) k) facts o go e w h size = (refl, tt)
-  same_run (If place t a b k) facts o go e w h size = by (holds t e) refl where
+  same_run (If place t a b k) facts o go e w h size =
+      by (same_run a (facts_in_first (Silent t) facts) (outs past o.leaves o.skips) go.0) (same_run b (facts_in_second (Silent t) facts) (outs past o.leaves o.skips) go.1) (same_run k past o go.2) (holds t e) refl where
     past : Facts
     past = facts_past_if (Silent t) (as_actions a) (as_actions b) facts
 
-    by : (c : Bool) → holds t e ≡ c
+    by : Goes (facts_in_first (Silent t) facts) (outs past o.leaves o.skips) (old a) (new (elided memory chosen (facts_in_first (Silent t) facts) a))
+        → Goes (facts_in_second (Silent t) facts) (outs past o.leaves o.skips) (old b) (new (elided memory chosen (facts_in_second (Silent t) facts) b))
+        → Goes past o (old k) (new (elided memory chosen past k)) → (c : Bool) → holds t e ≡ c
         → Ends o ((if c then old a e (ticked w) else old b e (ticked w)) ▷ old k)
         ((if c then new (elided memory chosen (facts_in_first (Silent t) facts) a) e (ticked w) else new (elided memory chosen (facts_in_second (Silent t) facts) b) e (ticked w)) ▷ new (elided memory chosen past k))
-    by true is =
-        then_ends o past _ _ (old k) (new (elided memory chosen past k))
-        (same_run a (facts_in_first (Silent t) facts) (outs past o.leaves o.skips) go.0 e (ticked w) (branch_lies (Silent t) true facts e h is) size) (same_run k past o go.2)
-    by false is =
-        then_ends o past _ _ (old k) (new (elided memory chosen past k))
-        (same_run b (facts_in_second (Silent t) facts) (outs past o.leaves o.skips) go.1 e (ticked w) (branch_lies (Silent t) false facts e h is) size) (same_run k past o go.2)
+    by first second later true is = then_ends o past _ _ (old k) (new (elided memory chosen past k)) (first e (ticked w) (branch_lies (Silent t) true facts e h is) size) later
+    by first second later false is = then_ends o past _ _ (old k) (new (elided memory chosen past k)) (second e (ticked w) (branch_lies (Silent t) false facts e h is) size) later
   same_run (Loop place b s k) facts o go e w h size =
       let turn : Facts = facts_at_turn memory (as_actions b) (as_actions s) facts in
       let step : Facts = facts_at_step memory (as_actions b) (as_actions s) facts in

@@ -21,10 +21,10 @@ use Rattle.dae_elide.specs.Walked.{IsLike, IsElided}
 
 -- ---- steps like statements
 
-pub if_like : (place : Place) (t : Test) (yes no : Vec Statement Global) (first second : Vec Step Global) → actions_of first.items ≡ as_actions (form_of yes.items) → actions_of second.items ≡ as_actions (form_of no.items)
-    → IsLike (statement.If place t yes no) (step.If (mark place 0) (Silent t) first second)
-if_like place t yes no first second e h k =
-    ap as_actions (before_if place t yes no k) ∙ sym (onto_if (mark place 0) (Silent t) first second (as_actions k) ∙ rw (e, h) refl)
+pub if_like : (place : Place) (t : Test) (then_list else_list : Vec Statement Global) (first second : Vec Step Global) → actions_of first.items ≡ as_actions (form_of then_list.items) → actions_of second.items ≡ as_actions (form_of else_list.items)
+    → IsLike (statement.If place t then_list else_list) (step.If (mark place 0) (Silent t) first second)
+if_like place t then_list else_list first second e h k =
+    ap as_actions (before_if place t then_list else_list k) ∙ sym (onto_if (mark place 0) (Silent t) first second (as_actions k) ∙ rw (e, h) refl)
 
 pub loop_like : (place : Place) (body again : Vec Statement Global) (first second : Vec Step Global) → actions_of first.items ≡ as_actions (form_of body.items) → actions_of second.items ≡ as_actions (form_of again.items)
     → IsLike (statement.Loop place body again) (step.Loop (mark place 0) first second)
@@ -49,13 +49,13 @@ like_end ss i steps le so_far = sym (ap (λ (c : Form). onto steps (as_actions c
 
 module _ (memory : ℕ) (chosen : VariableSet) (facts : Facts) where
   -- the lists of steps are like those of statements
-  pub if_elided : (place : Place) (t : Test) (yes no first second : Vec Statement Global) (p q : List Step) (in_first in_second behind : Facts)
-      → actions_of p ≡ as_actions (form_of yes.items) → actions_of q ≡ as_actions (form_of no.items)
+  pub if_elided : (place : Place) (t : Test) (then_list else_list first second : Vec Statement Global) (p q : List Step) (in_first in_second behind : Facts)
+      → actions_of p ≡ as_actions (form_of then_list.items) → actions_of q ≡ as_actions (form_of else_list.items)
       → in_first ≡ facts_in_first (Silent t) facts → in_second ≡ facts_in_second (Silent t) facts → behind ≡ facts_past_if (Silent t) (actions_of p) (actions_of q) facts
-      → form_of first.items ≡ elided memory chosen in_first (form_of yes.items) → form_of second.items ≡ elided memory chosen in_second (form_of no.items)
-      → IsElided memory chosen facts (statement.If place t yes no) (statement.If place t first second) behind
-  if_elided place t yes no first second p q in_first in_second behind e h one two past f g k =
-      ap (elided memory chosen facts) (before_if place t yes no k)
+      → form_of first.items ≡ elided memory chosen in_first (form_of then_list.items) → form_of second.items ≡ elided memory chosen in_second (form_of else_list.items)
+      → IsElided memory chosen facts (statement.If place t then_list else_list) (statement.If place t first second) behind
+  if_elided place t then_list else_list first second p q in_first in_second behind e h one two past f g k =
+      ap (elided memory chosen facts) (before_if place t then_list else_list k)
       ∙ sym (before_if place t first second (elided memory chosen behind k) ∙ rw (f, g, one, two, past, e, h) refl)
 
   pub loop_elided : (place : Place) (body again first second : Vec Statement Global) (p q : List Step) (at_turn at_step behind : Facts)

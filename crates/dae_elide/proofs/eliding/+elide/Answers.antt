@@ -51,10 +51,10 @@ elide_statement-returns-in_ok-second-in-Loop t c =
     let behind = facts_by c.in_ok-past-in-Loop.past in
     let first = c.in_ok-first-in-Loop.first in
     let second = c.in_ok-second-in-Loop.second in
-    let p = c.as_slice-in-Loop.result.now in
-    let q = c.as_slice-in-Loop-2.result.now in
-    let one : actions_of p ≡ as_actions (form_of w.body.items) = ap (λ (xs : List Step). actions_of xs) c.as_slice-in-Loop.ensures.value ∙ c.in_ok-turn-in-Loop.ensures ∙ ap (λ (xs : List Statement). as_actions (form_of xs)) c.deref-in-Loop.ensures.value in
-    let other : actions_of q ≡ as_actions (form_of w.step.items) = ap (λ (xs : List Step). actions_of xs) c.as_slice-in-Loop-2.ensures.value ∙ c.in_ok-again-in-Loop.ensures ∙ ap (λ (xs : List Statement). as_actions (form_of xs)) c.deref-in-Loop-2.ensures.value in
+    let p = c.as_slice-turn.result.now in
+    let q = c.as_slice-again.result.now in
+    let one : actions_of p ≡ as_actions (form_of w.body.items) = ap (λ (xs : List Step). actions_of xs) c.as_slice-turn.ensures.value ∙ c.in_ok-turn-in-Loop.ensures ∙ ap (λ (xs : List Statement). as_actions (form_of xs)) c.deref-in-Loop.ensures.value in
+    let other : actions_of q ≡ as_actions (form_of w.step.items) = ap (λ (xs : List Step). actions_of xs) c.as_slice-again.ensures.value ∙ c.in_ok-again-in-Loop.ensures ∙ ap (λ (xs : List Statement). as_actions (form_of xs)) c.deref-in-Loop-2.ensures.value in
     let f : form_of first.items ≡ elided m chosen at_turn (form_of w.body.items) = c.in_ok-first-in-Loop.ensures ∙ ap (λ (xs : List Statement). elided m chosen at_turn (form_of xs)) c.deref-in-Loop-3.ensures.value in
     let g : form_of second.items ≡ elided m chosen at_step (form_of w.step.items) = c.in_ok-second-in-Loop.ensures ∙ ap (λ (xs : List Statement). elided m chosen at_step (form_of xs)) c.deref-in-Loop-4.ensures.value in
     subst (λ (s : Statement). IsElided m chosen facts s (statement.Loop w.place first second) behind) (sym w.is)
