@@ -22,7 +22,7 @@ use Rattle.dae_sizes.specs.Promise.{DefinitionsAreShort, FunctionsAreWithin}
 
 early : (v : ℕ) → v + 2 < 2 ^ 32 - 1 → late v ≡ 0
 early v lt = by (nat_le (2 ^ 32 - 1) (v + 2)) refl where
-  by : (b : Bool) → nat_le (2 ^ 32 - 1) (v + 2) ≡ b → (if b then 1 else 0) ≡ 0
+  by : (b : Bool) → nat_le (2 ^ 32 - 1) (v + 2) ≡ b → ◌≡◌ {A = ℕ} (if b then 1 else 0) 0
   by true e = let le = leb-true (2 ^ 32 - 1) (v + 2) e in absurd (omega (arith, lt, le))
   by false e = refl
 
