@@ -59,7 +59,7 @@ module _ {S : Type 0} where
 -- ---- what is told of what is used
 
 pub told : {A : Type 0} (b u : Bool) (x y : A) → b ≡ u → b ≡ true → x ≡ y → Some x ≡ (if u then Some y else None)
-told b u x y same yes e = rw (sym same ∙ yes) (ap Some e)
+told b u x y same held e = rw (sym same ∙ held) (ap Some e)
 
 pub untold : {A : Type 0} (b u : Bool) (y : A) → b ≡ u → b ≡ false → None ≡ (if u then Some y else None)
-untold b u y same no = rw (sym same ∙ no) refl
+untold b u y same lacked = rw (sym same ∙ lacked) refl
