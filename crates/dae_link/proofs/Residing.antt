@@ -38,11 +38,11 @@ residents_few r (n ∷ ns) = let one = number_some r n in let rest = residents_f
 
 pub resident_is_home : (count r : ℕ) (numbers : List ℕ) (n : ℕ) → length numbers + 17 ≤ r → r < 28 → IsHome count (resident_home r numbers n)
 resident_is_home count r [] n l h = refl
-resident_is_home count r (x ∷ xs) n l h = by (nat_eq n x)
+resident_is_home count r (x ∷ xs) n l h = by (resident_is_home count (r - 1) xs n (omega arith) (omega arith)) (nat_eq n x)
   where
-    by : (b : Bool) → IsHome count (if b then Register r else resident_home (r - 1) xs n)
-    by true = let low : 17 < r = omega arith in grind (arith, nat_tests)
-    by false = resident_is_home count (r - 1) xs n (omega arith) (omega arith)
+    by : IsHome count (resident_home (r - 1) xs n) → (b : Bool) → IsHome count (if b then Register r else resident_home (r - 1) xs n)
+    by below true = let low : 17 < r = omega arith in grind (arith, nat_tests)
+    by below false = below
 
 pub among_is_home : (count : ℕ) (homes : List Home) (numbers : List ℕ) → length numbers ≤ 3 → ((v : ℕ) → IsHome count (home_in homes v)) → (v : ℕ) → IsHome count (home_among homes numbers v)
 unfolding home_among

@@ -28,6 +28,9 @@ use Rattle.dae_link.specs.Sizes.{most_of_functions, most_words}
 pub opening_low : (plan : Plan) (main frames : ℕ) → length (residents_code 27 plan.residents) ≤ 3 → length (opening_code plan main frames) ≤ 11
 opening_low plan main frames brief = let s = opening_short plan main frames in let l = length-append (start_code plan main frames) (finish_code plan.by_a) in omega arith
 
+pub start_low : (plan : Plan) (main frames : ℕ) → length (residents_code 27 plan.residents) ≤ 3 → length (start_code plan main frames) ≤ 11
+start_low plan main frames brief = let s = opening_low plan main frames brief in let l = length-append (start_code plan main frames) (finish_code plan.by_a) in omega arith
+
 module _ (plan : Plan) (variables : ℕ → ℕ) (f : ℕ) where
   function_length : (code : Actions) → length (function_code plan variables f code) ≤ most_words_in code + 22
   function_length code =

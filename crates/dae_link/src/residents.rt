@@ -51,7 +51,8 @@ fn count(counts: &mut Vec<Counted>, number: u32, saves: u32) -> Result<(), Alloc
         };
         Ok(())
     } else if counts.len() < MOST_COUNTED {
-        counts.push(Counted { number, saves })
+        counts.push(Counted { number, saves })?;
+        Ok(())
     } else {
         Ok(())
     }

@@ -33,8 +33,10 @@ pub struct SideCode {
 }
 
 /// The word that main returns to.
+#[tactic(auto, using(crate::proofs::Sizes::start_low))]
 fn finish_of(alloc: Global, layouts: &Layouts, main: u32, frames: u32) -> Result<u32, AllocError>
-    requires { AreSmall layouts.now }
+    requires small { AreSmall layouts.now }
+    requires brief { length (residents_code 27 layouts.now.residents) ≤ 3 }
     ensures { IfOk result (λ word. word ≡ length (start_code (plan_of layouts.now) main frames)) }
 {
     Ok(start_code(alloc, layouts, main, frames)?.len() as u32)

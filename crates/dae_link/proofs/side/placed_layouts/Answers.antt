@@ -3,8 +3,11 @@ use Rattle.dae_link.proofs.Looked.{zip_long}
 use Rattle.dae_link.proofs.Sided.{small_unplaced}
 use Rattle.dae_link.proofs.side.placed_layouts.Goals as goal
 
-pub finish_of-requires : goal.finish_of-requires
-finish_of-requires c = small_unplaced c.args.stream.now c.args.layouts.now c.requires.unplaced
+pub finish_of-requires-clause-small : goal.finish_of-requires-clause-small
+finish_of-requires-clause-small c = small_unplaced c.args.stream.now c.args.layouts.now c.requires.unplaced
+
+pub finish_of-requires-clause-brief : goal.finish_of-requires-clause-brief
+finish_of-requires-clause-brief c = c.requires.unplaced.residents.brief
 
 pub first_of-requires-clause-small : goal.first_of-requires-clause-small
 first_of-requires-clause-small c = small_unplaced c.args.stream.now c.args.layouts.now c.requires.unplaced

@@ -20,11 +20,11 @@ encode_all-requires c =
 pub returns-then-len-clause-err : goal.returns-then-len-clause-err
 returns-then-len-clause-err c = λ same. (let t = c.if-len.true in let l = c.len.ensures in let s = functions_some c.args.stream.now.functions in omega arith)
 
-pub returns-then-are_numberable-clause-err : goal.returns-then-are_numberable-clause-err
-returns-then-are_numberable-clause-err c = λ same. too_many_places c.args.stream.now (sym c.are_numberable.ensures ∙ c.if-are_numberable.true)
+pub returns-then-not-are_numberable-clause-err : goal.returns-then-not-are_numberable-clause-err
+returns-then-not-are_numberable-clause-err c = λ same. too_many_places c.args.stream.now (sym c.are_numberable.ensures ∙ c.if-not-are_numberable.true)
 
 pub unplaced_layouts-requires : goal.unplaced_layouts-requires
-unplaced_layouts-requires c = sym c.are_numberable.ensures ∙ c.if-are_numberable.false
+unplaced_layouts-requires c = sym c.are_numberable.ensures ∙ c.if-not-are_numberable.false
 
 pub returns-clause-code : goal.returns-clause-code
 returns-clause-code c =
