@@ -162,16 +162,16 @@ module _ (p q : Program) (frames : (g : ℕ) → q.frame g ≡ p.frame g) (limit
   same_run (Do place (Halt x) k) facts o go e w h size = (refl, tt)
   same_run (If place t a b k) facts o go e w h size =
       by (same_run a (facts_in_first (Silent t) facts) (outs past o.leaves o.skips) go.0) (same_run b (facts_in_second (Silent t) facts) (outs past o.leaves o.skips) go.1) (same_run k past o go.2) (holds t e) refl where
-    past : Facts
-    past = facts_past_if (Silent t) (as_actions a) (as_actions b) facts
+        past : Facts
+        past = facts_past_if (Silent t) (as_actions a) (as_actions b) facts
 
-    by : Goes (facts_in_first (Silent t) facts) (outs past o.leaves o.skips) (old a) (new (elided memory chosen (facts_in_first (Silent t) facts) a))
-        → Goes (facts_in_second (Silent t) facts) (outs past o.leaves o.skips) (old b) (new (elided memory chosen (facts_in_second (Silent t) facts) b))
-        → Goes past o (old k) (new (elided memory chosen past k)) → (c : Bool) → holds t e ≡ c
-        → Ends o ((if c then old a e (ticked w) else old b e (ticked w)) ▷ old k)
-        ((if c then new (elided memory chosen (facts_in_first (Silent t) facts) a) e (ticked w) else new (elided memory chosen (facts_in_second (Silent t) facts) b) e (ticked w)) ▷ new (elided memory chosen past k))
-    by first second later true is = then_ends o past _ _ (old k) (new (elided memory chosen past k)) (first e (ticked w) (branch_lies (Silent t) true facts e h is) size) later
-    by first second later false is = then_ends o past _ _ (old k) (new (elided memory chosen past k)) (second e (ticked w) (branch_lies (Silent t) false facts e h is) size) later
+        by : Goes (facts_in_first (Silent t) facts) (outs past o.leaves o.skips) (old a) (new (elided memory chosen (facts_in_first (Silent t) facts) a))
+            → Goes (facts_in_second (Silent t) facts) (outs past o.leaves o.skips) (old b) (new (elided memory chosen (facts_in_second (Silent t) facts) b))
+            → Goes past o (old k) (new (elided memory chosen past k)) → (c : Bool) → holds t e ≡ c
+            → Ends o ((if c then old a e (ticked w) else old b e (ticked w)) ▷ old k)
+            ((if c then new (elided memory chosen (facts_in_first (Silent t) facts) a) e (ticked w) else new (elided memory chosen (facts_in_second (Silent t) facts) b) e (ticked w)) ▷ new (elided memory chosen past k))
+        by first second later true is = then_ends o past _ _ (old k) (new (elided memory chosen past k)) (first e (ticked w) (branch_lies (Silent t) true facts e h is) size) later
+        by first second later false is = then_ends o past _ _ (old k) (new (elided memory chosen past k)) (second e (ticked w) (branch_lies (Silent t) false facts e h is) size) later
   same_run (Loop place b s k) facts o go e w h size =
       let turn : Facts = facts_at_turn memory (as_actions b) (as_actions s) facts in
       let step : Facts = facts_at_step memory (as_actions b) (as_actions s) facts in
