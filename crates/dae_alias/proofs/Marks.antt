@@ -244,6 +244,14 @@ pub record MarkedTo (ss : List Statement) (start : List Bool) (i : ℕ) (w : Wal
   pub count : w.loads + loads_in (form_of (drop i ss)) ≡ length start + loads_in (form_of ss)
   pub at : IsAt w marks
 
+-- before the first one, where a stretch begins
+pub marked_first : (ss : List Statement) (start : List Bool) (w : Walk) → known_in w ≡ nothing → held_by w ≡ [] → w.loads ≡ length start → MarkedTo ss start 0 w start
+marked_first ss start w known held count = record {
+  told = λ n. rw (known, held, count) refl;
+  count = omega (arith, count);
+  at = record { count = sym count; met = rw held tt };
+}
+
 pub marked_next : (ss : List Statement) (start : List Bool) (i : ℕ) (s : Statement) (old new : Walk) (marks marks' : List Bool) → i < length ss → s ≡ get_or ss i s
     → MarkedTo ss start i old marks → Marks s old new marks marks' → MarkedTo ss start (i + 1) new marks'
 marked_next ss start i s old new marks marks' lt is so_far m =

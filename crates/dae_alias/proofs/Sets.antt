@@ -86,3 +86,6 @@ further_seldom s t i few once v = let a = few v in let b = once v in omega (arit
 
 pub still_seldom : (s : Known) (i n : ℕ) → ((v : ℕ) → s.times v ≤ i) → i < n → n < 2 ^ 64 → IsSetSeldom s
 still_seldom s i n few lt small v = let a = few v in omega (arith, a, lt, small)
+
+pub begun_seldom : (s : Known) (i : ℕ) → s ≡ nothing → (v : ℕ) → s.times v ≤ i
+begun_seldom s i is v = let none = ap (λ (k : Known). k.times v) is in omega (arith, none)

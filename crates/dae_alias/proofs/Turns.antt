@@ -75,6 +75,13 @@ pub record Turned (h : Holders) (l : ℕ) (ss : List Statement) (i : ℕ) (w : W
   pub code : onto out (reused_from h w (form_of (drop i ss))) ≡ reused h nothing [] l (form_of ss)
   pub count : w.loads + loads_in (form_of (drop i ss)) ≡ l + loads_in (form_of ss)
 
+-- before the first one, where a stretch begins
+pub turned_first : (h : Holders) (l : ℕ) (ss : List Statement) (w : Walk) (out : List Statement) → known_in w ≡ nothing → held_by w ≡ [] → w.loads ≡ l → out ≡ [] → Turned h l ss 0 w out
+turned_first h l ss w out known held count none = record {
+  code = ap (λ (xs : List Statement). onto xs (reused_from h w (form_of ss))) none ∙ from_same h w nothing [] l (form_of ss) known held count;
+  count = omega (arith, count);
+}
+
 pub turned_next : (h : Holders) (l : ℕ) (ss : List Statement) (i : ℕ) (s : Statement) (old new : Walk) (out out' : List Statement) → i < length ss → s ≡ get_or ss i s → Turned h l ss i old out → Turns h s old new out out' → Turned h l ss (i + 1) new out'
 turned_next h l ss i s old new out out' lt is so_far t =
     let split : form_of (drop i ss) ≡ before s (form_of (drop (i + 1) ss)) = ap form_of (drop_one ss i s lt) ∙ ap (λ (z : Statement). before z (form_of (drop (i + 1) ss))) (sym is) in
@@ -111,9 +118,9 @@ room_for_turn h l ss i s w out lt is so_far room =
     let split : form_of (drop i ss) ≡ before s (form_of (drop (i + 1) ss)) = ap form_of (drop_one ss i s lt) ∙ ap (λ (z : Statement). before z (form_of (drop (i + 1) ss))) (sym is) in
     let b = so_far.count in let c = ap loads_in split in let d = loads_behind s (form_of (drop (i + 1) ss)) in omega (arith, room, b, c, d)
 
-pub loads_of_if : (place : Place) (test : Test) (yes no' : Vec Statement Global) → loads_in (before (statement.If place test yes no') Done) ≡ loads_in (form_of yes.items) + loads_in (form_of no'.items)
-loads_of_if place test yes no' =
-    let e : loads_in (before (statement.If place test yes no') Done) ≡ loads_in (If place test (form_of yes.items) (form_of no'.items) Done) = ap loads_in (before_if place test yes no' Done) in omega (arith, e)
+pub loads_of_if : (place : Place) (test : Test) (taken other : Vec Statement Global) → loads_in (before (statement.If place test taken other) Done) ≡ loads_in (form_of taken.items) + loads_in (form_of other.items)
+loads_of_if place test taken other =
+    let e : loads_in (before (statement.If place test taken other) Done) ≡ loads_in (If place test (form_of taken.items) (form_of other.items) Done) = ap loads_in (before_if place test taken other Done) in omega (arith, e)
 
 pub loads_of_loop : (place : Place) (body step : Vec Statement Global) → loads_in (before (statement.Loop place body step) Done) ≡ loads_in (form_of body.items) + loads_in (form_of step.items)
 loads_of_loop place body step =

@@ -1,6 +1,9 @@
 -- Whole functions and forms whose loads are reused.
-use Rattle.std.proofs.Common.{◌≡◌, ℕ, ◌+◌, Bool, false, ◌&&◌, List, [], ◌∷◌, ◌++◌, Option, refl, ap, sym, ◌∙◌, arith}
+use Rattle.std.proofs.Common.{◌≡◌, ℕ, ◌+◌, Bool, false, ◌&&◌, List, [], ◌∷◌, ◌++◌, Option, Some, refl, ap, sym, ◌∙◌, arith}
+use Rattle.std.proofs.lemmas.Option.{MatchOption-at_some}
 use Rattle.std.specs.List.{list_all}
+use Rattle.std.specs.Vec.Iter.{into_iter_items, into_iter_steps}
+use Rattle.std.specs.declared.vec.IntoIter.{IntoIter}
 use Rattle.dae_base.proofs.Laws.{and_false}
 use Rattle.dae_ir.specs.Form.{form_of}
 use Rattle.dae_ir.specs.declared.form.Statement.{Statement}
@@ -43,6 +46,9 @@ reused_push (x ∷ xs) [] f g a r = absurd a
 reused_push (x ∷ xs) (y ∷ ys) f g a r = (a.0, reused_push xs ys f g a.1 r)
 
 -- ---- a function with too many variables among those that are left
+
+pub next_of : {X Z : Type 0} (s t : IntoIter X Z) (r : Option X) (x : X) → r ≡ Some x → into_iter_steps s r t → into_iter_items s ≡ x ∷ into_iter_items t
+next_of s t r x is steps = let p = MatchOption-at_some _ _ x is steps in p.0
 
 pub many_first : (fs gs : List Function) (f : Function) → fs ≡ f ∷ gs → is_reusable f ≡ false → list_all is_reusable fs ≡ false
 many_first fs gs f is none = ap (λ (xs : List Function). list_all is_reusable xs) is ∙ ap (λ (b : Bool). b && list_all is_reusable gs) none

@@ -3,8 +3,8 @@ use Rattle.dae_ir.specs.declared.form.Statement.{Statement, the_lemmas}
 use Rattle.dae_alias.specs.declared.walking.Walk.{Walk}
 use Rattle.dae_alias.specs.Marking.{Marks, MarksAll}
 use Rattle.dae_alias.specs.Meeting.{known_in}
-use Rattle.dae_alias.proofs.Marks.{marked_all, marked_next, if_marks, loop_marks}
-use Rattle.dae_alias.proofs.Sets.{further_seldom, still_seldom}
+use Rattle.dae_alias.proofs.Marks.{marked_all, marked_first, marked_next, if_marks, loop_marks}
+use Rattle.dae_alias.proofs.Sets.{begun_seldom, further_seldom, still_seldom}
 use Rattle.dae_alias.proofs.marking.+mark.Goals as goal
 
 pub mark_statement-returns-in_ok-mark_item-in-Simple :
@@ -30,6 +30,14 @@ mark_statement-returns-in_ok-mark_statements-in-If-2 t c =
           (loop_marks old new c.args.marks.now.items c.mark_statements.new.marks.items c.mark_statements-in-If.new.marks.items w.first w.second first second c.requires.at c.begin_again.ensures.known c.begin_again.ensures.held count i.0)
     ]
 
+pub mark_statements-loop-statement-init : goal.mark_statements-loop-statement-init
+mark_statements-loop-statement-init t c =
+    let start = c.start-walk.ensures in let o = c.args.marks.now.ok in let n = c.len.ensures in let l = start.loads in
+    record {
+      marked = marked_first c.args.statements.now c.args.marks.now.items c.start-walk.result start.known start.held (omega (arith, n, o, l));
+      seldom = begun_seldom (known_in c.start-walk.result) 0 start.known;
+    }
+
 pub mark_statements-loop-statement-preserved : goal.mark_statements-loop-statement-preserved
 mark_statements-loop-statement-preserved t c =
     let so_far = c.loop-statement.invariant in let one = c.in_ok-mark_statement.ensures in
@@ -43,10 +51,10 @@ pub mark_statements-mark_statement-requires : goal.mark_statements-mark_statemen
 mark_statements-mark_statement-requires t c =
     let so_far = c.loop-statement.invariant in let marked = so_far.marked in (
       search (rules, the_lemmas),
-      record {
-        at = marked.at;
-        seldom = still_seldom (known_in c.loop-statement.walk) c.loop-statement.statement-index (length c.args.statements.now) so_far.seldom c.loop-statement-test.true (omega arith);
-      },
+      (
+        marked.at,
+        still_seldom (known_in c.loop-statement.walk) c.loop-statement.statement-index (length c.args.statements.now) so_far.seldom c.loop-statement-test.true (omega arith),
+      ),
     )
 
 pub mark_statements-returns : goal.mark_statements-returns

@@ -7,15 +7,15 @@ use Rattle.dae_alias.specs.Tables.{IsTable}
 use Rattle.dae_alias.proofs.Whole.{reused_function}
 use Rattle.dae_alias.proofs.reusing.reuse_in_function.Goals as goal
 
-pub returns-then-len-clause-many : goal.returns-then-len-clause-many
-returns-then-len-clause-many c = λ same.
+pub returns-then-len-function-clause-many : goal.returns-then-len-function-clause-many
+returns-then-len-function-clause-many c = λ same.
     let marked = subst (λ (xs : List Statement). AreRepeated xs c.in_ok-marks.marks.items) c.as_slice.ensures c.in_ok-marks.ensures in
-    let loads = marked.loads in let l = c.len.ensures in let o = c.in_ok-marks.marks.ok in let many = c.if-len.true in
+    let loads = marked.loads in let l = c.len.ensures in let o = c.in_ok-marks.marks.ok in let many = c.if-len-function.true in
     grind (arith, nat_tests)
 
 pub number_marked-requires : goal.number_marked-requires
 number_marked-requires c =
-    let l = c.len.ensures in let o = c.in_ok-marks.marks.ok in let few = c.if-len.false in
+    let l = c.len.ensures in let o = c.in_ok-marks.marks.ok in let few = c.if-len-function.false in
     rw c.deref.ensures.value (omega arith)
 
 pub turn_statements-requires : goal.turn_statements-requires

@@ -6,7 +6,7 @@ use Rattle.dae_alias.proofs.tables.number_marked.Goals.{then-mark+in_ok-push, el
 pub overflow_add-variables : goal.overflow_add-variables
 overflow_add-variables c =
     let so_far = c.loop-mark.invariant in
-    room_for_one c.args.first c.args.marks.now c.loop-mark.mark-index c.loop-mark.variables c.loop-mark-test.true so_far.variables_are c.requires
+    let room = room_for_one c.args.first c.args.marks.now c.loop-mark.mark-index c.loop-mark.variables c.loop-mark-test.true so_far.variables_are c.requires in omega (arith, room)
 
 pub loop-mark-preserved : goal.loop-mark-preserved
 loop-mark-preserved c =
