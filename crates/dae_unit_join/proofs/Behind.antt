@@ -22,3 +22,7 @@ further_file fs f n old new number so_far more few =
     let exact : n ≡ 0 + length fs = omega (arith, number, few, l) in
     more ∙ ap (λ (xs : List Function). functions_in xs n f.functions) (so_far (omega (arith, few, l))) ∙ ap (λ (k : ℕ). functions_in (functions_from [] 0 fs) k f.functions) exact
     ∙ sym (files_behind [] 0 fs f)
+
+-- the number that one more file has, where it stops at the last word
+pub further_number : (fs : List FileParts) (f : FileParts) (n m : ℕ) → n ≡ min (length fs) (2 ^ 32 - 1) → m ≡ min (n + 1) (2 ^ 32 - 1) → m ≡ min (length (fs ++ f ∷ [])) (2 ^ 32 - 1)
+further_number fs f n m number next = let l = length-append fs (f ∷ []) in omega (arith, number, next, l)

@@ -242,7 +242,6 @@ fn push_functions(
 }
 
 /// The functions of the program, in the order of the files and of the text.
-#[tactic(auto, using(crate::proofs::Behind::further_file))]
 pub fn functions_of(alloc: Global, files: Vec<TypedFile>) -> Result<Vec<Function>, AllocError>
     requires { length files.items < 2 ^ 32 }
     ensures { IfOk result (λ functions. functions.items ≡ functions_from [] 0 files.items) }
