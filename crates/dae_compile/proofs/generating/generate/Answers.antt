@@ -7,11 +7,11 @@ use Rattle.dae_compile.proofs.Calls.{short_code, too_long}
 use Rattle.dae_compile.proofs.Counting.{uncounted}
 use Rattle.dae_compile.proofs.generating.generate.Goals as goal
 
-pub returns-then-can_count-clause-err : goal.returns-then-can_count-clause-err
-returns-then-can_count-clause-err c = λ code. uncounted c.args.ir.now (sym c.can_count.ensures ∙ c.if-can_count.true)
+pub returns-then-not-can_count-clause-err : goal.returns-then-not-can_count-clause-err
+returns-then-not-can_count-clause-err c = λ code. uncounted c.args.ir.now (sym c.can_count.ensures ∙ c.if-not-can_count.true)
 
 pub count-requires : goal.count-requires
-count-requires c = sym c.can_count.ensures ∙ c.if-can_count.false
+count-requires c = sym c.can_count.ensures ∙ c.if-not-can_count.false
 
 pub returns-clause-compiled : goal.returns-clause-compiled
 returns-clause-compiled c =
