@@ -180,4 +180,4 @@ module _ (p : Plan) (entry start : ℕ → ℕ) (finish : ℕ) (variables : ℕ 
         (code_long Settled (facts_at_turn p.memory (If mark' b y n u) step known) (If mark' b y n u) ways') (code_long Settled (facts_at_step p.memory (If mark' b y n u) step known) step ways'' (jump_words short) 0 (jump_words short) 0) more)
 
   pub function_long : (code : Actions) → length (function_code q variables f code) ≡ length (function_code p variables f code)
-  function_long code = both_long (entry_code p variables f (live code nowhere)) (entry_code p variables f (live code nowhere)) _ _ refl (both_long _ _ _ _ (code_long (is_short code) Settled unknown code nowhere 0 0 0 0) refl)
+  function_long code = both_long (entry_code p variables f (live code nowhere)) (entry_code p variables f (live code nowhere)) _ _ refl (code_long (is_short code) Settled unknown code nowhere 0 0 0 0)

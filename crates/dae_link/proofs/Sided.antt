@@ -1,7 +1,7 @@
 -- The code of a stream is a side of an image.
 use Rattle.std.proofs.Common.{◌≡◌, ℕ, ◌+◌, ◌-◌, ◌*◌, ◌≤◌, ◌<◌, ◌^◌, List, ◌∷◌, ◌++◌, length, map, refl, ap, sym, ◌∙◌, subst, arith, append_assoc, length-append, []}
 use Rattle.std.proofs.lemmas.List.{length-map, map-append}
-use Rattle.std.specs.Prelude.{Some, slice_get, if◌then◌else◌, pos}
+use Rattle.std.specs.Prelude.{slice_get, if◌then◌else◌, pos}
 use Rattle.std.specs.List.{AllByRecursion}
 use Rattle.std.proofs.Math.Path.{fun_ext}
 use Rattle.dae_base.specs.declared.Side.{Side}
@@ -13,7 +13,6 @@ use Rattle.dae_machine.specs.Machine.{Setup, code}
 use Rattle.dae_ir.specs.Form.{Program}
 use Rattle.dae_ir.specs.Programs.{side}
 use Rattle.dae_ir.specs.Streams.{Actions, actions_of}
-use Rattle.dae_ir.specs.declared.form.Operand.TheVariants.{Number}
 use Rattle.dae_ir.specs.declared.stream.Stream.{Stream}
 use Rattle.dae_ir.specs.declared.stream.StreamFunction.{StreamFunction}
 use Rattle.dae_select_walks.specs.Homes.{IsHome, frame_words, home_among}
@@ -23,7 +22,7 @@ use Rattle.dae_select_walks.specs.Facts.{unknown}
 use Rattle.dae_select_walks.specs.Agrees.{Plan}
 use Rattle.dae_select_walks.proofs.LawsOfWalks.{number_home}
 use Rattle.dae_select_walks.specs.declared.Home.{Home}
-use Rattle.dae_select_blocks.specs.Blocks.{leave_code, number_code, residents_code, enter_code}
+use Rattle.dae_select_blocks.specs.Blocks.{number_code, residents_code, enter_code}
 use Rattle.dae_select_walks.specs.declared.Standing.TheVariants.{Settled}
 use Rattle.dae_select_blocks.specs.Code.{entry_code, code_of, function_code, start_code, finish_code}
 use Rattle.dae_select_blocks.specs.Sizes.{is_short}
@@ -245,7 +244,7 @@ module _ (stream : Stream) (old : Layouts) (unplaced : AreUnplaced stream old) w
       starts g lt = start_behind P variables fs old.functions first 0 g g long lt (omega arith)
 
       abbrev own_code : ℕ → List Inst
-      own_code g = code_of (is_short (body g)) Q variables g Settled unknown (body g) nowhere 0 0 ++ leave_code (Q.home g) (Some (Number 0))
+      own_code g = code_of (is_short (body g)) Q variables g Settled unknown (body g) nowhere 0 0
 
       end_low : (g : ℕ) → g < length fs → Q.start g + length (own_code g) ≤ 2 ^ 25
       end_low g lt =

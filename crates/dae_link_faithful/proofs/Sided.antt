@@ -44,7 +44,7 @@ use Rattle.dae_select_walks.specs.Live.{Ways, none, in_operand, live, behind, bo
 use Rattle.dae_select_walks.specs.Facts.{Facts, unknown, only_leaves, operand_bounds, is_aligned, is_good, tells_within, facts_behind, facts_in_first, facts_in_second, facts_past_if, facts_at_turn, facts_at_step, facts_past_loop, need_of}
 use Rattle.dae_select_walks.specs.declared.Need.TheVariants.{All, Ends, Nothing}
 use Rattle.dae_select_walks.specs.Agrees.{Plan}
-use Rattle.dae_select_blocks.specs.Blocks.{number_code, register_or, source, operation_code, immediate_code, exchanged_code, behind_or, combine_registers, binary_code, value_code, fetch, move_code, keep, test_code, call_number, issue_code, address_code, take_code, fail_code, over, align_code, bounds_code, room_code, check_code, hear_code, jump_over, jump_back, leave_code, jump_words, branch_inst, opposite, one_way, goes_by, goes_code, frames_room_code, lower, is_immediate, tell_number_code, against_zero, immediate_of, extend_code, compare_code, compare_number_code, compare_registers, compare_operands, back_offset, goes_back, as_immediate}
+use Rattle.dae_select_blocks.specs.Blocks.{number_code, register_or, source, operation_code, immediate_code, exchanged_code, behind_or, combine_registers, binary_code, value_code, fetch, move_code, keep, test_code, call_number, issue_code, address_code, take_code, fail_code, over, align_code, bounds_code, room_code, check_code, hear_code, jump_over, jump_back, jump_words, branch_inst, opposite, one_way, goes_by, goes_code, frames_room_code, lower, is_immediate, tell_number_code, against_zero, immediate_of, extend_code, compare_code, compare_number_code, compare_registers, compare_operands, back_offset, goes_back, as_immediate}
 use Rattle.dae_select_walks.specs.Compiled.{is_told}
 use Rattle.dae_select_blocks.specs.Code.{leaves_first, is_near, has_bottom, told_by, branch_by, ahead_by, before_branch, back_branch, either_one, reads_once, with_home, early_code, late_code, standing_behind, placed_code, needed_code, block_code, action_code, branch_code, code_of, entry_code, function_code, finish_code, start_code, does_nothing, past_code, written_last}
 use Rattle.dae_link_faithful.specs.Uses.{queue_in, action_queue, branch_queue, IsOfSide, AreOfSide, IsUntouched, LeavesAlone}
@@ -662,11 +662,9 @@ module _ (plan : Plan) (variables : ℕ → ℕ) (good : (f v : ℕ) → IsHome 
       function_both code is =
           let enters = entry_code plan variables f (live code nowhere) in
           let does = code_of (is_short code) plan variables f Settled unknown code nowhere 0 0 in
-          let leaves = leave_code (plan.home f) (Some (Number 0)) in
           let both = code_both (is_short code) Settled unknown code nowhere 0 0 tt is in (
-            (λ alone. both.0 (alone_split by_a' q does leaves (alone_split by_a' q enters (does ++ leaves) alone).1).0),
-            (λ free. alone_append by_a' q enters (does ++ leaves) (silent enters (entry_plain plan variables good f (live code nowhere)))
-                (alone_append by_a' q does leaves (both.1 free) (silent leaves (leave_plain (variables f) (plan.home f) (good f) (Some (Number 0)))))),
+            (λ alone. both.0 (alone_split by_a' q enters does alone).1),
+            (λ free. alone_append by_a' q enters does (silent enters (entry_plain plan variables good f (live code nowhere))) (both.1 free)),
           )
 
 pub function_uses : (plan : Plan) (variables : ℕ → ℕ) → ((f v : ℕ) → IsHome (variables f) (plan.home f v)) → (f : ℕ) (code : Actions) → AreOfSide plan.by_a code → (q : Queue) → LeavesAlone plan.by_a q (function_code plan variables f code) ↔ IsUntouched plan.by_a q code

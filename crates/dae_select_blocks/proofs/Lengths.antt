@@ -2,7 +2,6 @@
 use Rattle.std.specs.List.{AllByRecursion}
 use Rattle.std.proofs.Common.{◌≡◌, refl, ℕ, zero, suc, ◌+◌, ◌-◌, ◌*◌, ◌%◌, ◌^◌, ◌≤◌, Bool, true, false, ◌&&◌, List, [], ◌∷◌, ◌++◌, Option, Some, None, length, arith, length-append}
 use Rattle.std.specs.Prelude.{nat_lt, nat_eq, if◌then◌else◌, pos, negsuc}
-use Rattle.std.proofs.lemmas.Bool.Decides.{nat_tests}
 use Rattle.dae_base.specs.declared.Width.{Width}
 use Rattle.dae_base.specs.declared.Width.TheVariants.{B1, B2, B4}
 use Rattle.dae_base.specs.declared.LoadKind.{LoadKind}
@@ -379,14 +378,6 @@ resumed_short plan variables f v live =
 pub leave_short : (home : ℕ → Home) (y : Option Operand) → length (leave_code home y) ≤ 6
 leave_short home None = omega arith
 leave_short home (Some x) = moved_short home 6 2 x (Lw 1 2 (pos 0) ∷ (Jalr 0 1 (pos 0) ∷ [])) (omega arith)
-
--- behind its end a function returns 0
-zero_immediate : is_immediate 0 ≡ true
-unfolding is_immediate
-zero_immediate = grind (arith, nat_tests)
-
-pub leaves_zero : (home : ℕ → Home) → length (leave_code home (Some (Number 0))) ≤ 3
-leaves_zero home = rw zero_immediate (omega arith)
 
 addresses_short : (n : ℕ) → length (number_code 4 n ++ Addi 10 0 (pos 1) ∷ []) ≤ 3
 addresses_short n = let l = number_short 4 n in let both = length-append (number_code 4 n) (Addi 10 0 (pos 1) ∷ []) in omega arith

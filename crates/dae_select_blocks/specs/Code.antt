@@ -6,7 +6,7 @@ use Rattle.dae_encode.specs.declared.Inst.TheVariants.{Sw, Addi, Ecall}
 use Rattle.dae_ir.specs.Code.{Done, Do, If, Loop}
 use Rattle.dae_ir.specs.Classes.{VariableSet}
 use Rattle.dae_ir.specs.Streams.{Actions}
-use Rattle.dae_ir.specs.declared.form.Operand.TheVariants.{Variable, Number}
+use Rattle.dae_ir.specs.declared.form.Operand.TheVariants.{Variable}
 use Rattle.dae_ir.specs.declared.form.Value.{Value}
 use Rattle.dae_ir.specs.declared.form.Value.TheVariants.{Same, Binary, Extended, Holds, FrameAddress}
 use Rattle.dae_ir.specs.declared.form.Test.{Test}
@@ -284,14 +284,14 @@ abbrev mutual
 
 -- ---- functions
 
--- a function keeps the address to return to, and gets the parameters that it reads into their registers. Behind its end it
--- returns 0
+-- a function keeps the address to return to, and gets the parameters that it reads into their registers
 abbrev pub entry_code : Plan → (ℕ → ℕ) → ℕ → VariableSet → List Inst
 entry_code plan variables f live = Sw 2 1 (pos 0) ∷ restore_code (registers_in (plan.home f) (variables f) live)
 
+-- its actions return or halt, so nothing stands behind them
 abbrev pub function_code : Plan → (ℕ → ℕ) → ℕ → Actions → List Inst
 function_code plan variables f code =
-    entry_code plan variables f (live code nowhere) ++ (code_of (is_short code) plan variables f Settled unknown code nowhere 0 0 ++ leave_code (plan.home f) (Some (Number 0)))
+    entry_code plan variables f (live code nowhere) ++ code_of (is_short code) plan variables f Settled unknown code nowhere 0 0
 
 -- where main returns to: A halts, and E halts with the result
 abbrev pub finish_code : Bool → List Inst
