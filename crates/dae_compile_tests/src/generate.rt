@@ -343,16 +343,16 @@ fn has_marks(alloc: Global, ir: &Ir, marks: &[LineMark]) -> Result<bool, Fail> {
     }
 }
 
-// A mark at the first word of the first action of each line. Before the actions of main there are eight words of A, and seven of
+// A mark at the first word of the first action of each line. Before the actions of main there are seven words of A, and six of
 // E; a byte is printed by three words.
 #[test]
 fn marks_of_lines(rt: HostRuntime) -> Result<(), Fail> {
     let alloc = rt.alloc();
     let marks = [
-        mark(Side::A, 8, 5),
-        mark(Side::E, 7, 2),
-        mark(Side::E, 10, 3),
-        mark(Side::E, 16, 5),
+        mark(Side::A, 7, 5),
+        mark(Side::E, 6, 2),
+        mark(Side::E, 9, 3),
+        mark(Side::E, 15, 5),
     ];
     let form = forms::letters_on_lines(alloc)?;
     assert!(rt; has_marks(alloc, &form, marks.as_slice())?);

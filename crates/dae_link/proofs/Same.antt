@@ -43,6 +43,7 @@ at_words p entry start finish = record {
   start = start;
   words = p.words;
   frame = p.frame;
+  leaf = p.leaf;
   finish = finish;
   largest = p.largest;
   private = p.private;

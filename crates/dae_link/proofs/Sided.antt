@@ -1,5 +1,5 @@
 -- The code of a stream is a side of an image.
-use Rattle.std.proofs.Common.{◌≡◌, ℕ, ◌+◌, ◌-◌, ◌*◌, ◌≤◌, ◌<◌, ◌^◌, List, ◌∷◌, ◌++◌, length, map, refl, ap, sym, ◌∙◌, subst, arith, append_assoc, length-append, []}
+use Rattle.std.proofs.Common.{◌≡◌, ℕ, ◌+◌, ◌-◌, ◌*◌, ◌≤◌, ◌<◌, ◌^◌, List, ◌∷◌, ◌++◌, length, map, refl, ap, sym, ◌∙◌, subst, arith, append_assoc, length-append, [], Bool}
 use Rattle.std.proofs.lemmas.List.{length-map, map-append}
 use Rattle.std.specs.Prelude.{slice_get, if◌then◌else◌, pos}
 use Rattle.std.specs.List.{AllByRecursion}
@@ -32,7 +32,7 @@ use Rattle.dae_select_blocks.specs.Laws.{opened_with}
 use Rattle.dae_select_blocks.proofs.LawsOfBlocks.{words_are_code, fit_append, function_fits, start_fits, finish_fits, code_take, code_drop, opening_short}
 use Rattle.dae_select_values.specs.Tables.{IsNear}
 use Rattle.dae_select_values.specs.Sides.{is_a}
-use Rattle.dae_select_calls.specs.Layouts.{homes_at, variables_at, entry_at, start_at, frame_at, plan_of, variables_of, AreSmall}
+use Rattle.dae_select_calls.specs.Layouts.{homes_at, variables_at, entry_at, start_at, frame_at, leaf_at, plan_of, variables_of, AreSmall}
 use Rattle.dae_select_calls.specs.declared.layouts.FunctionLayout.{FunctionLayout}
 use Rattle.dae_select_calls.specs.declared.layouts.Layouts.{Layouts}
 use Rattle.dae_link_faithful.specs.Made.{IsSide, HasCode, HasStart, setting_of}
@@ -44,7 +44,7 @@ use Rattle.dae_link.proofs.Same.{both_long, at_words, function_long}
 use Rattle.dae_link.proofs.Standing.{placed_long, placed_same, start_behind, functions_long, ends_within, entries_within, stands_there}
 use Rattle.dae_link.proofs.Sizes.{functions_length}
 use Rattle.dae_link.proofs.Residing.{residents_few, residents_within, residents_apart, among_is_home}
-use Rattle.dae_link.proofs.Looked.{zip_long, layout_at, IsLayoutAt, each_home, is_near, is_few, is_first, same_frame, frame_within, right_at, reads_at, apart_at}
+use Rattle.dae_link.proofs.Looked.{zip_long, layout_at, IsLayoutAt, each_home, is_near, is_few, is_first, same_frame, frame_within, right_at, reads_at, apart_at, calls_at}
 
 pub same_side : (s : Side) → side (is_a s) ≡ s
 same_side A = refl
@@ -106,8 +106,8 @@ module _ (stream : Stream) (old : Layouts) (unplaced : AreUnplaced stream old) w
   abbrev Q : Plan
   Q = at_words P (λ g. entry_at (slice_get news g)) (λ g. start_at (slice_get news g)) (length (start_code P stream.main stream.frames))
 
-  abbrev with_parts : ℕ → (ℕ → ℕ → Home) → (ℕ → ℕ) → (ℕ → ℕ) → Plan
-  with_parts n home words frame = record {
+  abbrev with_parts : ℕ → (ℕ → ℕ → Home) → (ℕ → ℕ) → (ℕ → ℕ) → (ℕ → Bool) → Plan
+  with_parts n home words frame leaf = record {
     by_a = P.by_a;
     functions = n;
     home = home;
@@ -115,6 +115,7 @@ module _ (stream : Stream) (old : Layouts) (unplaced : AreUnplaced stream old) w
     start = Q.start;
     words = words;
     frame = frame;
+    leaf = leaf;
     finish = Q.finish;
     largest = P.largest;
     private = P.private;
@@ -130,8 +131,10 @@ module _ (stream : Stream) (old : Layouts) (unplaced : AreUnplaced stream old) w
       let home : new.home ≡ P.home = fun_ext (λ g. ap (λ (hs : List Home). home_among hs old.residents) (placed_same P variables homes_at (λ l entry start. refl) fs old.functions first 0 g long)) in
       let words : new.words ≡ P.words = fun_ext (λ g. ap frame_words (placed_same P variables variables_at (λ l entry start. refl) fs old.functions first 0 g long)) in
       let frame : new.frame ≡ P.frame = fun_ext (λ g. placed_same P variables frame_at (λ l entry start. refl) fs old.functions first 0 g long) in
-      ap (λ (k : ℕ). with_parts k new.home new.words new.frame) n ∙ ap (λ (h : ℕ → ℕ → Home). with_parts P.functions h new.words new.frame) home
-      ∙ ap (λ (w : ℕ → ℕ). with_parts P.functions P.home w new.frame) words ∙ ap (λ (r : ℕ → ℕ). with_parts P.functions P.home P.words r) frame
+      let leaf : new.leaf ≡ P.leaf = fun_ext (λ g. placed_same P variables leaf_at (λ l entry start. refl) fs old.functions first 0 g long) in
+      ap (λ (k : ℕ). with_parts k new.home new.words new.frame new.leaf) n ∙ ap (λ (h : ℕ → ℕ → Home). with_parts P.functions h new.words new.frame new.leaf) home
+      ∙ ap (λ (w : ℕ → ℕ). with_parts P.functions P.home w new.frame new.leaf) words ∙ ap (λ (r : ℕ → ℕ). with_parts P.functions P.home P.words r new.leaf) frame
+      ∙ ap (λ (b : ℕ → Bool). with_parts P.functions P.home P.words P.frame b) leaf
 
   pub variables_are : variables_of (at_places stream old) ≡ variables
   variables_are = fun_ext (λ g. placed_same P variables variables_at (λ l entry start. refl) fs old.functions first 0 g long)
@@ -285,6 +288,7 @@ module _ (stream : Stream) (old : Layouts) (unplaced : AreUnplaced stream old) w
           let inside : f < length fs = subst (λ (n : ℕ). f < n) long lt in
           record {
             right = right_at old.residents (slice_get fs f) (slice_get old.functions f) (at f);
+            leaf = calls_at (slice_get fs f) (slice_get old.functions f) (at f);
             there = subst (λ (n : ℕ). CodeAt words n (own_code f)) (sym (starts f inside)) (code_drop words (Q.entry f) (entry_code Q variables f (live (body f) nowhere)) (own_code f) (there f inside));
             small = (let e = end_low f inside in omega arith);
           }

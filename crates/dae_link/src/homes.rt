@@ -2,6 +2,8 @@
 
 ghost use Rattle.std.specs.Prelude.{◌≡◌, true, ◌≢◌, ℕ, ◌-◌, ◌*◌, ◌≤◌, ◌<◌, ◌^◌, ◌∷◌, [], length, IfOk, IfErr};
 ghost use Rattle.std.specs.List.{AllByRecursion, AllZip, list_all};
+ghost use Rattle.dae_ir.specs.Streams.{actions_of};
+ghost use Rattle.dae_select_blocks.specs.Sizes.{is_leaf};
 ghost use Rattle.dae_select_calls.specs.Layouts.{AreSmall};
 ghost use Rattle.dae_link.specs.Settled.{IsLayoutOf, IsFrameWithin, AreTooMany, IsTooDeep, AreUnplaced, is_numberable};
 ghost use Rattle.dae_link.specs.declared.error.CodeError.TheVariants as errors;
@@ -12,6 +14,7 @@ use crate::{MOST_FRAME, MOST_PRIVATE};
 use dae_base::Items;
 use dae_ir::{Stream, StreamFunction};
 use dae_regalloc::{allocate, can_number};
+use dae_select::is_leaf;
 use dae_select_calls::{FunctionLayout, Layouts};
 use std::alloc::Global;
 
@@ -47,6 +50,13 @@ pub fn are_numberable(stream: &Stream) -> bool
     true
 }
 
+/// Whether a function is a leaf.
+fn is_leaf_function(function: &StreamFunction) -> bool
+    ensures { result ≡ is_leaf (actions_of function.now.body) }
+{
+    is_leaf(function.body.as_slice())
+}
+
 /// The homes of a function's variables, at first at word 0.
 fn layout_of(alloc: Global, function: &StreamFunction) -> Result<FunctionLayout, CodeError>
     requires { is_numberable function.now ≡ true }
@@ -59,6 +69,7 @@ fn layout_of(alloc: Global, function: &StreamFunction) -> Result<FunctionLayout,
         variables: count_of(homes.len())?,
         homes: Items::from_vec(homes),
         frame: function.frame,
+        leaf: is_leaf_function(function),
         entry: 0,
         start: 0,
     })

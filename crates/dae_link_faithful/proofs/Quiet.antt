@@ -10,7 +10,7 @@ use Rattle.dae_base.specs.declared.LoadKind.TheVariants.{I8, U8, I16, U16, I32}
 use Rattle.dae_encode.specs.Instructions.{effect, form_of}
 use Rattle.dae_encode.specs.declared.Form.TheVariants.{Computes}
 use Rattle.dae_encode.specs.declared.Inst.{Inst}
-use Rattle.dae_encode.specs.declared.Inst.TheVariants.{Lui, Addi, Slti, Sltiu, Xori, Ori, Andi, Slli, Srli, Srai, Add, Sub, Slt, Sltu}
+use Rattle.dae_encode.specs.declared.Inst.TheVariants.{Lui, Addi, Slti, Sltiu, Xori, Ori, Andi, Slli, Srli, Srai, Add, Sub, Slt, Sltu, Jalr}
 use Rattle.dae_ir.specs.Classes.{VariableSet}
 use Rattle.dae_ir.specs.declared.form.Operand.{Operand}
 use Rattle.dae_ir.specs.declared.form.Operand.TheVariants.{Variable, Number}
@@ -26,7 +26,7 @@ use Rattle.dae_select_walks.specs.Homes.{IsHome, is_home_register, slot_at, kept
 use Rattle.dae_select_walks.specs.Agrees.{Plan}
 use Rattle.dae_select_walks.specs.declared.Home.{Home}
 use Rattle.dae_select_walks.specs.declared.Home.TheVariants.{Register, Slot}
-use Rattle.dae_select_blocks.specs.Blocks.{upper, lower, is_immediate, more_code, less_code, number_code, load_code, store_code, register_or, source, fetch_home, fetch, move_code, keep, operation_code, exponent, power_code, immediate_code, commutes, exchanged_code, behind_or, combine_registers, binary_code, extend_code, compare_code, compare_number_code, tell_number_code, compare_registers, compare_operands, test_code, value_code, system_code, stop_code, jump_by, enter_code, arguments_code, waits_at, save_code, restore_code, deeper_code, back_code, result_code, leave_code, jump_words, jump_over, jump_back, branch_inst, opposite, goes_by, goes_code, number_or, fetch_number, as_immediate, residents_code}
+use Rattle.dae_select_blocks.specs.Blocks.{upper, lower, is_immediate, more_code, less_code, number_code, load_code, store_code, register_or, source, fetch_home, fetch, move_code, keep, operation_code, exponent, power_code, immediate_code, commutes, exchanged_code, behind_or, combine_registers, binary_code, extend_code, compare_code, compare_number_code, tell_number_code, compare_registers, compare_operands, test_code, value_code, system_code, stop_code, jump_by, enter_code, arguments_code, waits_at, save_code, restore_code, deeper_code, back_code, result_code, leave_code, jump_words, jump_over, jump_back, branch_inst, opposite, goes_by, goes_code, number_or, fetch_number, as_immediate, residents_code, store_link, load_link}
 use Rattle.dae_select_blocks.specs.Code.{call_code, entry_code, start_code, finish_code, past_code}
 use Rattle.dae_select_blocks.proofs.LawsOfBlocks.{AreBelowQueues, live_registers, number_below}
 use Rattle.dae_link_faithful.proofs.Access.{IsPlain}
@@ -322,9 +322,13 @@ module _ (n : ℕ) (home : ℕ → Home) (good : (v : ℕ) → IsHome n (home v)
   stop_plain false None = system_plain 0 (Number 0)
   stop_plain false (Some x) = system_plain 0 x
 
-  pub leave_plain : (y : Option Operand) → AllPlain (leave_code home y)
-  leave_plain None = ((omega arith, omega arith), ((omega arith, omega arith, omega arith), tt))
-  leave_plain (Some x) = plain_append _ _ (move_plain 6 x (omega arith)) ((omega arith, omega arith), ((omega arith, omega arith, omega arith), tt))
+  return_plain : (leaf : Bool) → AllPlain (load_link leaf ++ Jalr 0 1 (pos 0) ∷ [])
+  return_plain true = ((omega arith, omega arith, omega arith), tt)
+  return_plain false = ((omega arith, omega arith), ((omega arith, omega arith, omega arith), tt))
+
+  pub leave_plain : (leaf : Bool) (y : Option Operand) → AllPlain (leave_code leaf home y)
+  leave_plain leaf None = return_plain leaf
+  leave_plain leaf (Some x) = plain_append (move_code home 6 x) (load_link leaf ++ Jalr 0 1 (pos 0) ∷ []) (move_plain 6 x (omega arith)) (return_plain leaf)
 
   result_plain : (v : Option ℕ) → AllPlain (result_code home v)
   result_plain None = tt
@@ -373,8 +377,13 @@ module _ (plan : Plan) (variables : ℕ → ℕ) (good : (f v : ℕ) → IsHome 
       plain_append _ _ (arguments_plain f g xs) (plain_append _ _ (save_plain _ rs) (plain_append (deeper_code plan f) _ (deeper_plain f) (plain_append (enter_code (plan.entry g)) _ (enter_plain (plan.entry g))
       (plain_append (back_code plan f) _ (back_plain f) (plain_append _ _ (restore_plain _ rs) (result_plain (variables f) (plan.home f) (good f) v))))))
 
+  link_plain : (leaf : Bool) → AllPlain (store_link leaf)
+  link_plain true = tt
+  link_plain false = ((omega arith, omega arith), tt)
+
   pub entry_plain : (f : ℕ) (live : VariableSet) → AllPlain (entry_code plan variables f live)
-  entry_plain f live = ((omega arith, omega arith), restore_plain _ (live_registers plan (variables f) f live))
+  entry_plain f live =
+      plain_append (store_link (plan.leaf f)) (restore_code (registers_in (plan.home f) (variables f) live)) (link_plain (plan.leaf f)) (restore_plain (registers_in (plan.home f) (variables f) live) (live_registers plan (variables f) f live))
 
 pub finish_plain : (by_a : Bool) → AllPlain (finish_code by_a)
 finish_plain true = (tt, tt)

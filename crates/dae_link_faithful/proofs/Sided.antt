@@ -259,7 +259,7 @@ module _ (plan : Plan) (variables : ℕ → ℕ) (good : (f v : ℕ) → IsHome 
     action_uses short Break live leaves skips is = no_queue by_a' _ (over_plain short leaves)
     action_uses short Continue live leaves skips is = no_queue by_a' _ (over_plain short skips)
     action_uses short (Call v g xs) live leaves skips is = no_queue by_a' _ (call_plain plan variables good f v g xs _)
-    action_uses short (Return x) live leaves skips is = no_queue by_a' _ (leave_plain (variables f) (plan.home f) (good f) x)
+    action_uses short (Return x) live leaves skips is = no_queue by_a' _ (leave_plain (variables f) (plan.home f) (good f) (plan.leaf f) x)
 
     -- ---- pairs
 

@@ -19,10 +19,11 @@ use Rattle.dae_ir.specs.declared.stream.Last.{Last}
 use Rattle.dae_ir.specs.declared.stream.Last.TheVariants.{Nothing, Stores, Prints, Decides}
 use Rattle.dae_ir.specs.declared.stream.Mark.{Mark}
 use Rattle.dae_ir.specs.declared.stream.Action.{Action}
-use Rattle.dae_ir.specs.declared.stream.Action.TheVariants.{Tell, Hear}
+use Rattle.dae_ir.specs.declared.stream.Action.TheVariants.{Tell, Hear, Call}
 use Rattle.dae_select_walks.specs.Homes.{AreApart}
 use Rattle.dae_link_faithful.proofs.Usable.{AllNumbers}
 use Rattle.dae_select_walks.specs.Agrees.{Plan}
+use Rattle.dae_select_blocks.specs.Sizes.{one_call, calls_in}
 use Rattle.dae_select_blocks.specs.Wanted.{IsNumber, AreNumbers, IsWantedCheck, IsWantedStop, IsWantedResult, AreGiven, gives, IsWanted, IsWantedBranch}
 
 numbers_given : (callee : VariableSet) (k : ℕ) (xs : List Operand) → AllNumbers xs → AreGiven (arguments_in callee k xs)
@@ -37,12 +38,29 @@ both : (a b : Bool) → (not a && b) ≡ true → a ≡ false
 both true b h = absurd cc
 both false b h = refl
 
+-- ---- leaves: where no call is made, none is wanted of a function that is no leaf
+
+module _ (plan : Plan) (copies : Bool) (entries : ℕ → VariableSet) where
+  no_call : (a : Action) → one_call a ≡ 0 → IsWanted plan copies entries false a → IsWanted plan copies entries true a
+  no_call (Call v g xs) none h = absurd (omega arith)
+  no_call a none h = h
+
+  no_calls : (code : Actions) → calls_in code ≡ 0 → Each (IsWanted plan copies entries false) IsWantedBranch code → Each (IsWanted plan copies entries true) IsWantedBranch code
+  no_calls Done none h = tt
+  no_calls (Do m a k) none h = (no_call a (omega arith) h.0, no_calls k (omega arith) h.1)
+  no_calls (If m b p q k) none h = (h.0, no_calls p (omega arith) h.1, no_calls q (omega arith) h.2, no_calls k (omega arith) h.3)
+  no_calls (Loop m body step k) none h = (no_calls body (omega arith) h.0, no_calls step (omega arith) h.1, no_calls k (omega arith) h.2)
+
+  pub leaf_wanted : (leaf : Bool) (code : Actions) → (leaf ≡ true → calls_in code ≡ 0) → Each (IsWanted plan copies entries false) IsWantedBranch code → Each (IsWanted plan copies entries leaf) IsWantedBranch code
+  leaf_wanted true code none h = no_calls code (none refl) h
+  leaf_wanted false code none h = h
+
 module _ (plan : Plan) (copies : Bool) (entries : ℕ → VariableSet) (of : ℕ → Classes) (cap f : ℕ) where
   abbrev c : Classes
   c = of f
 
   abbrev Wanted : Actions → Type 0
-  Wanted code = Each (IsWanted plan copies entries) IsWantedBranch code
+  Wanted code = Each (IsWanted plan copies entries false) IsWantedBranch code
 
   -- where a variable goes to both sides, copies are allowed
   abbrev pub Copied : ℕ → Type 0
@@ -145,7 +163,7 @@ module _ (plan : Plan) (copies : Bool) (entries : ℕ → VariableSet) (of : ℕ
 
   -- ---- groups
 
-  when_wanted : (b : Bool) (m : Mark) (a : Action) (k : Actions) → (b ≡ true → IsWanted plan copies entries a) → Wanted k → Wanted (when b m a k)
+  when_wanted : (b : Bool) (m : Mark) (a : Action) (k : Actions) → (b ≡ true → IsWanted plan copies entries false a) → Wanted k → Wanted (when b m a k)
   when_wanted true m a k h i = (h refl, i)
   when_wanted false m a k h i = i
 
@@ -163,7 +181,7 @@ module _ (plan : Plan) (copies : Bool) (entries : ℕ → VariableSet) (of : ℕ
   parts_wanted s keeps [] k h i = i
   parts_wanted s keeps (p ∷ g) k h i = keeps p (parts s g k) h.0 (parts_wanted s keeps g k h.1 i)
 
-  message_wanted : (n : ℕ) (a : Action) (g : List Part) (k : Actions) → IsWanted plan copies entries a → Wanted k → Wanted (message n a g k)
+  message_wanted : (n : ℕ) (a : Action) (g : List Part) (k : Actions) → IsWanted plan copies entries false a → Wanted k → Wanted (message n a g k)
   message_wanted n a [] k h i = i
   message_wanted n a (Sets place v y ∷ g) k h i = message_wanted n a g k h i
   message_wanted n a (Loads place v kind y ∷ g) k h i = message_wanted n a g k h i
@@ -204,10 +222,10 @@ module _ (plan : Plan) (copies : Bool) (entries : ℕ → VariableSet) (of : ℕ
   stop_wanted true x h = tt
   stop_wanted false x h = h
 
-  jump_wanted : (b : Bool) → plan.by_a ≡ b → (j : Jump) → RoundWanted b (Alone j) → IsWanted plan copies entries (jump_action b of c j)
+  jump_wanted : (b : Bool) → plan.by_a ≡ b → (j : Jump) → RoundWanted b (Alone j) → IsWanted plan copies entries false (jump_action b of c j)
   jump_wanted b a Breaks h = tt
   jump_wanted b a Continues h = tt
-  jump_wanted b a (Enters v g xs) h = (numbers_given (set_of b (of g)) 1 xs h.0, h.1, h.2, h.3)
+  jump_wanted b a (Enters v g xs) h = (numbers_given (set_of b (of g)) 1 xs h.0, h.1, h.2, h.3, refl)
   jump_wanted b a (Gives x) h = result_wanted (set_of b c 0) x h
   jump_wanted b a (Halts x) h = subst (λ (z : Bool). IsWantedStop z (kept (not b) x)) (sym a) (stop_wanted b x h)
 

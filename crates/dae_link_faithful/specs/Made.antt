@@ -34,7 +34,7 @@ use Rattle.dae_select_walks.specs.Facts.{unknown}
 use Rattle.dae_select_walks.specs.Agrees.{Plan}
 use Rattle.dae_select_walks.specs.declared.Standing.TheVariants.{Settled}
 use Rattle.dae_select_blocks.specs.Code.{code_of, start_code}
-use Rattle.dae_select_blocks.specs.Sizes.{is_short}
+use Rattle.dae_select_blocks.specs.Sizes.{calls_in, is_short}
 use Rattle.dae_select_blocks.specs.Fits.{Fits}
 use Rattle.dae_select_blocks.specs.Wanted.{IsNumber, AreNumbers, IsPlanOf, IsLinked, IsRight}
 use Rattle.dae_select_blocks.specs.Laws.{opened_with}
@@ -79,9 +79,11 @@ pub record AreWhole (functions : ℕ) (answered : ℕ → Bool) (body : ℕ → 
 abbrev pub setting_of : Setup → Bool → Setting
 setting_of setup by_a = record { side = side by_a; copies = setup.copies; code = code setup (side by_a); memory = setup.memory }
 
--- the code of a function stands where it starts, and what is live at each of its places are its variables, in homes apart
+-- the code of a function stands where it starts, and what is live at each of its places are its variables, in homes apart. A leaf
+-- makes no call
 pub record HasCode (s : Setting) (plan : Plan) (variables : ℕ → ℕ) (f : ℕ) (code : Actions) : Type 0 where
   pub right : AllByRecursion (IsRight (plan.home f) (variables f)) (lives code nowhere)
+  pub leaf : plan.leaf f ≡ true → calls_in code ≡ 0
   pub there : CodeAt s.code (plan.start f) (code_of (is_short code) plan variables f Settled unknown code nowhere 0 0)
   pub small : plan.start f + length (code_of (is_short code) plan variables f Settled unknown code nowhere 0 0) < 2 ^ 29
 

@@ -122,7 +122,7 @@ fn action_code(
             };
             called_code(code, making, callee, arguments.as_slice(), onward.next)
         }
-        Action::Return(answer) => leave_code(code, homes, *answer),
+        Action::Return(answer) => leave_code(code, making, *answer),
     }
 }
 

@@ -8,7 +8,7 @@ use Rattle.std.proofs.lemmas.List.{get_or-replicate}
 use Rattle.std.proofs.Math.ListN.{length-replicate}
 use Rattle.dae_base.specs.Words.{plus, word, loaded}
 use Rattle.dae_base.specs.declared.LoadKind.TheVariants.{I32}
-use Rattle.dae_base.proofs.Laws.{choice_small, plus_small, times_least}
+use Rattle.dae_base.proofs.Laws.{plus_small, times_least}
 use Rattle.dae_encode.specs.declared.Inst.{Inst}
 use Rattle.dae_encode.specs.declared.Inst.TheVariants.{Addi}
 use Rattle.dae_encode.specs.Processor.{Processor}
@@ -21,20 +21,20 @@ use Rattle.dae_select_walks.specs.Layout.{CodeAt}
 use Rattle.dae_select_walks.specs.Homes.{Contents, resident_home, resident_register}
 use Rattle.dae_select_walks.specs.Agrees.{Plan, Moment, AreResident, Shows, Stands}
 use Rattle.dae_select_walks.proofs.LawsOfWalks.{comes_map, comes_then}
-use Rattle.dae_select_walks.proofs.LawsOfWalks.{put, store}
+use Rattle.dae_select_walks.proofs.LawsOfWalks.{put}
 use Rattle.dae_select_blocks.specs.Blocks.{number_code, residents_code, enter_code, restore_code}
 use Rattle.dae_select_blocks.specs.Code.{registers_in, entry_code, start_code}
 use Rattle.dae_select_blocks.specs.Fits.{Fits}
 use Rattle.dae_select_blocks.specs.Laws.{opened_with, CodeBegins}
 use Rattle.dae_select_blocks.proofs.Lengths.{entry_alone, opening_short, residents_short, finish_some}
 use Rattle.dae_select_blocks.specs.Wanted.{IsLinked}
-use Rattle.dae_select_blocks.proofs.Plain.{put_same, put_other, computes, stores_word}
+use Rattle.dae_select_blocks.proofs.Plain.{put_same, put_other, computes}
 use Rattle.dae_select_blocks.proofs.Frames.{runs_number}
 use Rattle.dae_select_blocks.proofs.Runs.{Runs, runs_nothing, runs_quiet, code_take, code_drop}
-use Rattle.dae_select_blocks.proofs.Agreement.{resident_high}
+use Rattle.dae_select_blocks.proofs.Agreement.{resident_high, address_same}
 use Rattle.dae_select_blocks.proofs.Operands.{like_put}
 use Rattle.dae_select_blocks.proofs.Calls.{register_kept, runs_restore, among_not, among_other}
-use Rattle.dae_select_blocks.proofs.Entering.{jumps_in}
+use Rattle.dae_select_blocks.proofs.Entering.{jumps_in, runs_link}
 
 abbrev pub nothing : Contents
 nothing = record { register = λ r. 0; word = λ i. 0 }
@@ -169,27 +169,30 @@ module _ (s : Setting) (plan : Plan) (variables : ℕ → ℕ) (fine : Fits s pl
       let to : ℕ → Env → Processor → Type 0 = λ k env o. Stands plan (entries main) m k o in
       let l1 = like_put 5 j.0 b.contents j.1 b.shows.fits in
       let l2 = like_put 1 (4 * (0 + length (before_main first) + 2)) (put 5 j.0 b.contents) (omega arith) l1.fits in
-      let found : plus (c1.register 2) (word (pos 0)) ≡ 4 * 0 = rw b.two refl in
-      let c2 : Contents = store 0 (4 * (0 + length (before_main first) + 2)) c1 in
+      let near' : 4 * (0 + length (before_main first) + 2) < 2 ^ 32 = omega arith in
       let rs : List ℕ = registers_in (plan.home main) (variables main) (entries main) in
       let run : Runs s plan.private to (entry_code plan variables main (entries main)) c1 (Went (λ _. 0)) =
-      runs_quiet s plan.private to (stores_word s plan.private to 2 1 (pos 0) 0 (omega arith) (omega arith) found (omega arith)) (
-      let last : Runs s plan.private to (restore_code rs ++ []) c2 (Went (λ _. 0)) = runs_restore s plan variables fine to 0 rs [] (λ q e. register_kept (plan.home main) (variables main) q (entries main) e) b.two (omega arith) l2.fits (λ i. choice_small (nat_eq i 0) (4 * (0 + length (before_main first) + 2)) (b.contents.word i) (omega arith) (b.shows.holds i)) (λ c3 restored.
+      runs_link s plan variables fine entries linked to main 0 (restore_code rs) b.two (omega arith) near' b.shows.holds (λ c2 kept'.
+      let last : Runs s plan.private to (restore_code rs ++ []) c2 (Went (λ _. 0)) = runs_restore s plan variables fine to 0 rs [] (λ q e. register_kept (plan.home main) (variables main) q (entries main) e) (kept'.registers 2 ∙ b.two) (omega arith) (λ j. rw (kept'.registers j) (l2.fits j)) kept'.small (λ c3 restored.
       runs_nothing s plan.private to (λ k o shows. record {
         contents = c3;
         shows = shows;
         agrees = record {
           base = 0;
           variables = (λ u e. absurd (contradicts u e));
-          pointer = restored.others 2 (among_not (plan.home main) (variables main) 2 (entries main) refl) ∙ b.two;
-          frame = restored.others 3 (among_not (plan.home main) (variables main) 3 (entries main) refl) ∙ b.three;
-          depth = (λ e. restored.others 10 (among_not (plan.home main) (variables main) 10 (entries main) refl) ∙ b.ten e);
-          addresses = (λ e. restored.others 4 (among_not (plan.home main) (variables main) 4 (entries main) refl) ∙ b.four e);
+          pointer = restored.others 2 (among_not (plan.home main) (variables main) 2 (entries main) refl) ∙ (kept'.registers 2 ∙ b.two);
+          frame = restored.others 3 (among_not (plan.home main) (variables main) 3 (entries main) refl) ∙ (kept'.registers 3 ∙ b.three);
+          depth = (λ e. restored.others 10 (among_not (plan.home main) (variables main) 10 (entries main) refl) ∙ (kept'.registers 10 ∙ b.ten e));
+          addresses = (λ e. restored.others 4 (among_not (plan.home main) (variables main) 4 (entries main) refl) ∙ (kept'.registers 4 ∙ b.four e));
           residents = (λ n o e.
               let high = resident_high (resident_home 27 plan.residents n) o e in
               restored.others o (among_other (plan.home main) (variables main) o (entries main) (λ v l. fine.apart main v n o l e))
-              ∙ (l2.registers o (omega arith) ∙ (l1.registers o (omega arith) ∙ b.residents n o e)));
-          waiting = (refl, (omega arith), restored.words 0 ∙ ap (λ n. 4 * n) back);
+              ∙ (kept'.registers o ∙ (l2.registers o (omega arith) ∙ (l1.registers o (omega arith) ∙ b.residents n o e))));
+          waiting = (
+            refl,
+            (omega arith),
+            address_same s plan variables fine main 0 c2 c3 (restored.others 1 (among_not (plan.home main) (variables main) 1 (entries main) refl)) (restored.words 0) ∙ (kept'.address ∙ ap (λ n. 4 * n) back),
+          );
           room = (let same : plan.limit + 1 - 1 ≡ plan.limit = omega arith in rw same (omega arith));
           within = record { depth = deep; frame = fits };
         };

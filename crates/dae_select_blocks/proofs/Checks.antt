@@ -54,8 +54,8 @@ fail_short false code = omega arith
 
 -- on E the registers of the environment call have no meaning between blocks
 call_scratch : (plan : Plan) (r : ℕ) → plan.by_a ≡ false → r ≡ 10 ⊎ r ≡ 17 → IsScratch plan r
-call_scratch plan r by_e (inl e) = rw e (record { zero = (omega arith); two = (omega arith); three = (omega arith); home = refl; depth = (λ by_a. absurd cc); addresses = (λ by_a. (omega arith)) })
-call_scratch plan r by_e (inr e) = rw e (record { zero = (omega arith); two = (omega arith); three = (omega arith); home = refl; depth = (λ by_a. (omega arith)); addresses = (λ by_a. (omega arith)) })
+call_scratch plan r by_e (inl e) = rw e (record { zero = (omega arith); two = (omega arith); three = (omega arith); link = (omega arith); home = refl; depth = (λ by_a. absurd cc); addresses = (λ by_a. (omega arith)) })
+call_scratch plan r by_e (inr e) = rw e (record { zero = (omega arith); two = (omega arith); three = (omega arith); link = (omega arith); home = refl; depth = (λ by_a. (omega arith)); addresses = (λ by_a. (omega arith)) })
 
 module _ (s : Setting) (plan : Plan) (variables : ℕ → ℕ) (fine : Fits s plan variables) (live live' : VariableSet) (m : Moment) where
   by_side : plan.by_a ≡ false → s.side ≡ E

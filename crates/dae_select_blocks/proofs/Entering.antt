@@ -1,15 +1,16 @@
 -- A call's walk: from its block over the jump and the entry code to where the called function's actions begin.
-use Rattle.std.proofs.Common.{◌≡◌, ◌≢◌, ℕ, zero, suc, ◌+◌, ◌-◌, ◌*◌, ◌/◌, ◌^◌, ◌<◌, ◌≤◌, inl, inr, true, not, ◌&&◌, List, [], ◌++◌, Option, Some, length, refl, sym, ap, ◌∙◌, subst, arith, append-nil}
-use Rattle.std.specs.Prelude.{nat_eq, pos}
+use Rattle.std.proofs.Common.{◌≡◌, ◌≢◌, ℕ, zero, suc, ◌+◌, ◌-◌, ◌*◌, ◌/◌, ◌^◌, ◌<◌, ◌≤◌, inl, inr, Bool, true, false, not, ◌&&◌, List, [], ◌∷◌, ◌++◌, Option, Some, length, refl, sym, ap, ◌∙◌, subst, arith, append-nil}
+use Rattle.std.specs.Prelude.{nat_eq, pos, if◌then◌else◌}
 use Rattle.std.proofs.lemmas.Bool.Decides.{nat_tests}
 use Rattle.dae_base.specs.Words.{plus, word}
 use Rattle.dae_base.proofs.Laws.{plus_small, choice_small}
 use Rattle.dae_encode.specs.declared.QueueUse.TheVariants.{Nothing}
-use Rattle.dae_encode.specs.declared.Inst.TheVariants.{Lui, Jalr}
+use Rattle.dae_encode.specs.declared.Inst.{Inst}
+use Rattle.dae_encode.specs.declared.Inst.TheVariants.{Lui, Jalr, Sw}
 use Rattle.dae_encode.specs.Processor.{Processor}
 use Rattle.dae_ir.specs.Classes.{VariableSet}
 use Rattle.dae_meaning.specs.Variables.{Env}
-use Rattle.dae_ir.specs.Deeds.{Went}
+use Rattle.dae_ir.specs.Deeds.{Deed, Went}
 use Rattle.dae_ir.specs.declared.stream.Argument.{Argument}
 use Rattle.dae_select_walks.specs.declared.Home.{Home}
 use Rattle.dae_select_walks.specs.declared.Home.TheVariants.{Register, Slot}
@@ -17,11 +18,11 @@ use Rattle.dae_select_walks.specs.Walks.{Setting, Comes}
 use Rattle.dae_select_walks.specs.Layout.{CodeAt}
 use Rattle.dae_select_walks.specs.Live.{in_arguments, is}
 use Rattle.dae_select_walks.specs.Homes.{Contents, held, kept, IsHome, AreApart, is_home_register, kept_at, slot_at, resident_home, resident_register}
-use Rattle.dae_select_walks.specs.Agrees.{Plan, Moment, Waiting, Agrees, Shows, Stands, AreIn, AreWaiting, AreResident, IsWithin, depth_of, top_of}
+use Rattle.dae_select_walks.specs.Agrees.{Plan, Moment, Waiting, Agrees, Shows, Stands, AreIn, AreWaiting, AreResident, IsWithin, depth_of, top_of, return_address}
 use Rattle.dae_select_walks.specs.Compiled.{given, called, waiting_of}
 use Rattle.dae_select_walks.proofs.LawsOfWalks.{comes_here, comes_more, comes_then}
 use Rattle.dae_select_walks.proofs.LawsOfWalks.{put, store, step}
-use Rattle.dae_select_blocks.specs.Blocks.{upper, lower, waits_at, arguments_code, save_code, restore_code, deeper_code, enter_code}
+use Rattle.dae_select_blocks.specs.Blocks.{upper, lower, waits_at, arguments_code, save_code, restore_code, store_link, deeper_code, enter_code}
 use Rattle.dae_select_blocks.specs.Code.{registers_in, entry_code}
 use Rattle.dae_select_blocks.specs.Fits.{Fits}
 use Rattle.dae_select_blocks.specs.Wanted.{AreGiven, gives, IsLinked}
@@ -29,13 +30,13 @@ use Rattle.dae_select_blocks.proofs.Halves.{halves}
 use Rattle.dae_select_blocks.proofs.Plain.{plain_computes, stores_word}
 use Rattle.dae_select_blocks.proofs.Frames.{upper_small}
 use Rattle.dae_select_blocks.proofs.Runs.{Runs, runs_nothing, runs_quiet}
-use Rattle.dae_select_blocks.proofs.Agreement.{Ready, resident_high, kept_small, waiting_same}
+use Rattle.dae_select_blocks.proofs.Agreement.{Ready, resident_high, kept_small, waiting_same, waiting_kept, address_same}
 use Rattle.dae_select_blocks.proofs.Operands.{like_put}
 use Rattle.dae_select_blocks.proofs.Calls.{kept_low, among, kept_register, register_kept, Saved, runs_arguments, runs_save, runs_restore, among_not, among_other}
 use Rattle.dae_select_blocks.proofs.Deeper.{runs_deeper}
 use Rattle.dae_select_blocks.proofs.Jumps.{ready}
 
--- the called function's frame is begun: its arguments wait, and the caller's variables are kept
+-- the called function's frame is begun: its arguments wait, and the caller's variables are kept, as is the address that it returns to
 pub record Prepared (plan : Plan) (m : Moment) (w : Waiting) (base g : ℕ) (xs : List Argument) (k : ℕ) (p : Processor) : Type 0 where
   pub contents : Contents
   pub shows : Shows plan.private contents k p
@@ -46,7 +47,7 @@ pub record Prepared (plan : Plan) (m : Moment) (w : Waiting) (base g : ℕ) (xs 
   pub ten : plan.by_a ≡ true → contents.register 10 ≡ depth_of m + 1
   pub given : (u : ℕ) → gives xs u ≡ true → contents.word (base + (plan.words m.function + waits_at (plan.home g u))) ≡ given xs m.env u
   pub variables : AreIn (kept contents base) (plan.home m.function) w.live m.env
-  pub waiting : AreWaiting plan contents base m.frame m.waiting
+  pub waiting : AreWaiting plan contents (contents.word base) base m.frame m.waiting
 
 module _ (s : Setting) (plan : Plan) (variables : ℕ → ℕ) (fine : Fits s plan variables) (entries : ℕ → VariableSet) (linked : IsLinked s plan variables entries) where
   -- within the call limit there is room for one frame more
@@ -74,12 +75,12 @@ module _ (s : Setting) (plan : Plan) (variables : ℕ → ℕ) (fine : Fits s pl
       words (base + slot_at i) ∙ (saved.others (base + slot_at i) (inr (omega arith)) ∙ (rw based at b))
 
   pub prepares : {live : VariableSet} {m : Moment} {k : ℕ} {p : Processor} (v : Option ℕ) (behind : VariableSet) (g : ℕ) (xs : List Argument) (w : Waiting) (h : Stands plan live m k p) → w.live ≡ (λ u. behind u && not (is v u)) →
-      ((u : ℕ) → in_arguments xs u ≡ true → live u ≡ true) → ((u : ℕ) → w.live u ≡ true → live u ≡ true) → ((u : ℕ) → live u ≡ true → u < variables m.function) → AreGiven xs → AreApart (plan.home g) (gives xs) → IsWithin plan (called plan g xs w m) →
+      ((u : ℕ) → in_arguments xs u ≡ true → live u ≡ true) → ((u : ℕ) → w.live u ≡ true → live u ≡ true) → ((u : ℕ) → live u ≡ true → u < variables m.function) → AreGiven xs → AreApart (plan.home g) (gives xs) → plan.leaf m.function ≡ false → IsWithin plan (called plan g xs w m) →
       k + length (arguments_code plan m.function g xs ++ (save_code (registers_in (plan.home m.function) (variables m.function) w.live) ++ deeper_code plan m.function)) < 2 ^ 29 →
       CodeAt s.code k (arguments_code plan m.function g xs ++ (save_code (registers_in (plan.home m.function) (variables m.function) w.live) ++ deeper_code plan m.function)) →
       Comes s (length (arguments_code plan m.function g xs ++ (save_code (registers_in (plan.home m.function) (variables m.function) w.live) ++ deeper_code plan m.function))) p
       (Prepared plan m w h.agrees.base g xs (k + length (arguments_code plan m.function g xs ++ (save_code (registers_in (plan.home m.function) (variables m.function) w.live) ++ deeper_code plan m.function))))
-  prepares {live} {m} {k} {p} v behind g xs w h is_live reads keeps scope numbers apart within small at =
+  prepares {live} {m} {k} {p} v behind g xs w h is_live reads keeps scope numbers apart calls within small at =
       let to : ℕ → Env → Processor → Type 0 = λ j env q. Prepared plan m w h.agrees.base g xs j q in
       let h0 = ready s plan variables fine h in
       let base : ℕ = h.agrees.base in
@@ -104,7 +105,8 @@ module _ (s : Setting) (plan : Plan) (variables : ℕ → ℕ) (fine : Fits s pl
         ten = moved.ten;
         given = λ u e. moved.words (base + (plan.words m.function + waits_at (plan.home g u))) ∙ (saved.others (base + (plan.words m.function + waits_at (plan.home g u))) (inr (omega arith)) ∙ gave.given u e);
         variables = λ u e. one base u w.live c1 c2 c3 h1 gave.based saved moved.words e (keeps u e) (scope u (keeps u e)) (plan.home m.function u) refl;
-        waiting = waiting_same s plan variables fine c1 c3 base m.frame m.waiting (λ i l. moved.words i ∙ saved.others i (inl l)) (subst (λ (b : ℕ). AreWaiting plan c1 b m.frame m.waiting) gave.based h1.agrees.waiting);
+        waiting = waiting_same s plan variables fine c1 c3 (c1.word base) (c3.word base) base m.frame m.waiting (moved.words base ∙ saved.others base (inl (omega arith))) (λ i l. moved.words i ∙ saved.others i (inl l))
+            (subst (λ (b : ℕ). AreWaiting plan c1 (c1.word b) b m.frame m.waiting) gave.based (waiting_kept s plan variables fine m.function c1 h1.agrees.base m.frame m.waiting calls h1.agrees.waiting));
       })) in rw append-nil at last)) in
       run.from k small at p h.shows
 
@@ -126,7 +128,7 @@ module _ (s : Setting) (plan : Plan) (variables : ℕ → ℕ) (fine : Fits s pl
 
   -- the called function's frame holds the address to return to, and its registers hold its parameters
   record Arrived (m : Moment) (w : Waiting) (base g : ℕ) (before' c : Contents) : Type 0 where
-    pub back : c.word (base + plan.words m.function) ≡ 4 * w.back
+    pub back : return_address plan g c (base + plan.words m.function) ≡ 4 * w.back
     pub words : (i : ℕ) → i ≢ base + plan.words m.function → c.word i ≡ before'.word i
     pub registers : (r : ℕ) → among r (registers_in (plan.home g) (variables g) (entries g)) ≡ true → c.register r ≡ before'.word (base + plan.words m.function + kept_at r)
     pub two : c.register 2 ≡ before'.register 2
@@ -163,7 +165,7 @@ module _ (s : Setting) (plan : Plan) (variables : ℕ → ℕ) (fine : Fits s pl
           small,
           a.back,
           (λ u e. below u (plan.home m.function u) (fine.homes m.function u) ∙ q.variables u e),
-          waiting_same s plan variables fine q.contents c h.agrees.base m.frame m.waiting (λ i l. a.words i (omega arith)) q.waiting,
+          waiting_same s plan variables fine q.contents c (q.contents.word h.agrees.base) (c.word h.agrees.base) h.agrees.base m.frame m.waiting (a.words h.agrees.base (omega arith)) (λ i l. a.words i (omega arith)) q.waiting,
         );
         room = rw (← next) (omega arith);
         within = within;
@@ -186,6 +188,33 @@ module _ (s : Setting) (plan : Plan) (variables : ℕ → ℕ) (fine : Fits s pl
       below u (Register r) good = let long = fine.words m.function in let l = kept_small r good in a.words (h.agrees.base + kept_at r) (omega arith)
       below u (Slot i) good = let long = fine.words m.function in a.words (h.agrees.base + slot_at i) (omega arith)
 
+  -- what a function begins with: the address to return to, which is in x1, is where the function looks for it
+  pub record Linked (f base : ℕ) (c c' : Contents) : Type 0 where
+    pub address : return_address plan f c' base ≡ c.register 1
+    pub words : (i : ℕ) → i ≢ base → c'.word i ≡ c.word i
+    pub registers : (j : ℕ) → c'.register j ≡ c.register j
+    pub small : (i : ℕ) → c'.word i < 2 ^ 32
+
+  pub runs_link : {c : Contents} {d : Deed} (to : ℕ → Env → Processor → Type 0) (f base : ℕ) (is : List Inst) → c.register 2 ≡ 4 * base → base < plan.private → c.register 1 < 2 ^ 32 → ((i : ℕ) → c.word i < 2 ^ 32) →
+      ((c' : Contents) → Linked f base c c' → Runs s plan.private to is c' d) → Runs s plan.private to (store_link (plan.leaf f) ++ is) c d
+  runs_link {c} {d} to f base is pointer inside fits small run = by (plan.leaf f) refl
+    where
+      -- by what kind of function it is
+      found_in : (c' : Contents) (leaf : Bool) → plan.leaf f ≡ leaf → return_address plan f c' base ≡ (if leaf then c'.register 1 else c'.word base)
+      found_in c' leaf e = ap (λ (leaf : Bool). if leaf then c'.register 1 else c'.word base) e
+
+      by : (leaf : Bool) → plan.leaf f ≡ leaf → Runs s plan.private to ((if leaf then [] else Sw 2 1 (pos 0) ∷ []) ++ is) c d
+      by true e = run c (record { address = found_in c true e; words = λ i ne. refl; registers = λ j. refl; small = small })
+      by false e =
+          let wide = fine.private in
+          let v : ℕ = c.register 1 in
+          let found : plus (c.register 2) (word (pos 0)) ≡ 4 * base = rw pointer (omega arith) in
+          let c2 : Contents = store base v c in
+          let here : c2.word base ≡ v = grind (arith, nat_tests) in
+          let others : (i : ℕ) → i ≢ base → c2.word i ≡ c.word i = λ i ne. (grind (arith, nat_tests)) in
+          runs_quiet s plan.private to (stores_word s plan.private to 2 1 (pos 0) base (omega arith) (omega arith) found inside) (
+          run c2 (record { address = found_in c2 false e ∙ here; words = others; registers = λ j. refl; small = λ i. choice_small (nat_eq i base) v (c.word i) fits (small i) }))
+
   pub enters : {live : VariableSet} {m : Moment} {k : ℕ} {p : Processor} (v : Option ℕ) (behind : VariableSet) (g : ℕ) (xs : List Argument) {c : Contents} (h : Ready plan live m c) → g < plan.functions → ((u : ℕ) → entries g u ≡ true → gives xs u ≡ true) → k + 2 < 2 ^ 29 → IsWithin plan (called plan g xs (waiting_of v behind (k + 2) m) m) →
       CodeAt s.code k (enter_code (plan.entry g)) → Prepared plan m (waiting_of v behind (k + 2) m) h.agrees.base g xs k p →
       Comes s (2 + length (entry_code plan variables g (entries g))) p (Stands plan (entries g) (called plan g xs (waiting_of v behind (k + 2) m) m) (plan.start g))
@@ -203,28 +232,26 @@ module _ (s : Setting) (plan : Plan) (variables : ℕ → ℕ) (fine : Fits s pl
       let to : ℕ → Env → Processor → Type 0 = λ word env o. Stands plan (entries g) (called plan g xs w m) word o in
       let l1 = like_put 5 j.0 q.contents j.1 q.shows.fits in
       let l2 = like_put 1 (4 * (k + 2)) (put 5 j.0 q.contents) (omega arith) l1.fits in
-      let found : plus (c1.register 2) (word (pos 0)) ≡ 4 * b = rw q.two (omega arith) in
-      let c2 : Contents = store b (4 * (k + 2)) c1 in
-      let words2 : (i : ℕ) → i ≢ b → c2.word i ≡ q.contents.word i = λ i ne. (grind (arith, nat_tests)) in
+      let near' : 4 * (k + 2) < 2 ^ 32 = omega arith in
       let good : (r : ℕ) → among r rs ≡ true → is_home_register r ≡ true = λ r e. register_kept (plan.home g) (variables g) r (entries g) e in
       let run : Runs s plan.private to (entry_code plan variables g (entries g)) c1 (Went m.env) =
-      runs_quiet s plan.private to (stores_word s plan.private to 2 1 (pos 0) b (omega arith) (omega arith) found (omega arith)) (
-      let last : Runs s plan.private to (restore_code rs ++ []) c2 (Went m.env) = runs_restore s plan variables fine to b rs [] good q.two (omega arith) l2.fits (λ i. choice_small (nat_eq i b) (4 * (k + 2)) (q.contents.word i) (omega arith) (q.shows.holds i)) (λ c3 restored.
+      runs_link to g b (restore_code rs) q.two (omega arith) near' q.shows.holds (λ c2 kept'.
+      let last : Runs s plan.private to (restore_code rs ++ []) c2 (Went m.env) = runs_restore s plan variables fine to b rs [] good (kept'.registers 2 ∙ q.two) (omega arith) (λ j. rw (kept'.registers j) (l2.fits j)) kept'.small (λ c3 restored.
       runs_nothing s plan.private to {env = m.env} (λ word o shows. record {
         contents = c3;
         shows = shows;
         agrees = arrives v behind g xs h wanted (omega arith) within q (record {
-          back = restored.words b ∙ (grind (arith, nat_tests));
-          words = λ i ne. restored.words i ∙ words2 i ne;
-          registers = λ r e. (let low = kept_low r (good r e) in restored.kept r e ∙ words2 (b + kept_at r) (omega arith));
-          two = restored.others 2 (among_not (plan.home g) (variables g) 2 (entries g) refl);
-          three = restored.others 3 (among_not (plan.home g) (variables g) 3 (entries g) refl);
-          four = restored.others 4 (among_not (plan.home g) (variables g) 4 (entries g) refl);
-          ten = restored.others 10 (among_not (plan.home g) (variables g) 10 (entries g) refl);
+          back = address_same s plan variables fine g b c2 c3 (restored.others 1 (among_not (plan.home g) (variables g) 1 (entries g) refl)) (restored.words b) ∙ kept'.address;
+          words = λ i ne. restored.words i ∙ kept'.words i ne;
+          registers = λ r e. (let low = kept_low r (good r e) in restored.kept r e ∙ kept'.words (b + kept_at r) (omega arith));
+          two = restored.others 2 (among_not (plan.home g) (variables g) 2 (entries g) refl) ∙ kept'.registers 2;
+          three = restored.others 3 (among_not (plan.home g) (variables g) 3 (entries g) refl) ∙ kept'.registers 3;
+          four = restored.others 4 (among_not (plan.home g) (variables g) 4 (entries g) refl) ∙ kept'.registers 4;
+          ten = restored.others 10 (among_not (plan.home g) (variables g) 10 (entries g) refl) ∙ kept'.registers 10;
           residents = λ n o e.
               let high = resident_high (resident_home 27 plan.residents n) o e in
               restored.others o (among_other (plan.home g) (variables g) o (entries g) (λ v l. fine.apart g v n o l e))
-              ∙ (l2.registers o (omega arith) ∙ l1.registers o (omega arith));
+              ∙ (kept'.registers o ∙ (l2.registers o (omega arith) ∙ l1.registers o (omega arith)));
         });
       })) in
       rw append-nil at last)

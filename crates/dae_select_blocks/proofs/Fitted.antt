@@ -26,7 +26,7 @@ use Rattle.dae_select_walks.specs.Facts.{Facts, unknown, facts_behind, facts_in_
 use Rattle.dae_select_walks.specs.declared.Need.{Need}
 use Rattle.dae_select_walks.specs.declared.Need.TheVariants.{All, Ends, Nothing}
 use Rattle.dae_select_walks.specs.Agrees.{Plan}
-use Rattle.dae_select_blocks.specs.Blocks.{lower, is_immediate, more_code, less_code, is_register, number_code, register_or, source, call_number, jump_over, jump_back, enter_code, arguments_code, waits_at, save_code, restore_code, deeper_code, back_code, jump_words, residents_code}
+use Rattle.dae_select_blocks.specs.Blocks.{lower, is_immediate, more_code, less_code, is_register, number_code, register_or, source, call_number, jump_over, jump_back, enter_code, arguments_code, waits_at, save_code, restore_code, deeper_code, back_code, jump_words, residents_code, store_link}
 use Rattle.dae_select_blocks.specs.Code.{some_below, filtered, home_registers, registers_in, call_code, action_code, branch_code, standing_behind, with_home, early_code, late_code, needed_code, block_code, code_of, entry_code, function_code, finish_code, start_code, does_nothing, past_code, tail_of, has_bottom, leaves_first, is_near, bottom_test}
 use Rattle.dae_select_blocks.proofs.Ranges.{AllFit, fit_append, fit_either, lui_fits, jalr_fits, addi_fits, addi_small, sw_small, add_fits, number_fits, load_fits, store_fits, register_fits, fetch_fits, move_fits, keep_fits, over_fits, back_fits}
 use Rattle.dae_select_blocks.proofs.Fitting.{ecall_fits, issue_fits, address_fits, source_fits, value_fit, value_fits, take_fits, branch_fits, back_branch_fits, system_fits, stop_fits, leave_fits, result_fits, hear_fits, placed_fits, check_fits}
@@ -147,7 +147,7 @@ module _ (plan : Plan) (variables : ℕ → ℕ) (good : (f v : ℕ) → IsHome 
     action_fits f Break live leaves skips = over_fits short leaves
     action_fits f Continue live leaves skips = over_fits short skips
     action_fits f (Call v g xs) live leaves skips = call_fits f v g xs _
-    action_fits f (Return x) live leaves skips = leave_fits (variables f) (plan.home f) (good f) x
+    action_fits f (Return x) live leaves skips = leave_fits (variables f) (plan.home f) (good f) (plan.leaf f) x
 
     early_fits : (f q v d : ℕ) (y : Value) → q < 32 → AllFit (early_code (plan.home f) q v d y)
     early_fits f q v d y h =
@@ -228,8 +228,13 @@ module _ (plan : Plan) (variables : ℕ → ℕ) (good : (f v : ℕ) → IsHome 
       tail_fits f known (Do m a k) x leaves skips = tt
       tail_fits f known (Loop m body step k) x leaves skips = tt
 
+  link_fits : (leaf : Bool) → AllFit (store_link leaf)
+  link_fits true = tt
+  link_fits false = (sw_small 2 1 0 (omega arith) (omega arith) (omega arith), tt)
+
   pub entry_fits : (f : ℕ) (live : VariableSet) → AllFit (entry_code plan variables f live)
-  entry_fits f live = (sw_small 2 1 0 (omega arith) (omega arith) (omega arith), restore_fits _ (live_registers plan (variables f) f live))
+  entry_fits f live =
+      fit_append (store_link (plan.leaf f)) (restore_code (registers_in (plan.home f) (variables f) live)) (link_fits (plan.leaf f)) (restore_fits (registers_in (plan.home f) (variables f) live) (live_registers plan (variables f) f live))
 
   pub function_fits : (f : ℕ) (code : Actions) → AllFit (function_code plan variables f code)
   function_fits f code =

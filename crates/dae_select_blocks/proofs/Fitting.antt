@@ -30,7 +30,7 @@ use Rattle.dae_ir.specs.declared.stream.Branch.{Branch}
 use Rattle.dae_ir.specs.declared.stream.Branch.TheVariants.{Silent, Tells, Hears}
 use Rattle.dae_select_walks.specs.declared.Home.{Home}
 use Rattle.dae_select_walks.specs.Homes.{IsHome, number_key, resident_register}
-use Rattle.dae_select_blocks.specs.Blocks.{lower, is_immediate, number_code, register_or, source, fetch, move_code, operation_code, exponent, power_code, immediate_code, commutes, exchanged_code, behind_or, combine_registers, binary_code, extend_code, compare_code, compare_number_code, compare_registers, compare_operands, test_code, frame_code, value_code, issue_code, address_code, take_code, fail_code, over, align_code, bounds_code, room_code, check_code, system_code, hear_code, stop_code, leave_code, result_code, branch_inst, opposite, one_way, goes_by, goes_code, frames_room_code, tell_number_code, against_zero, immediate_of, back_offset, goes_back, number_or, as_immediate}
+use Rattle.dae_select_blocks.specs.Blocks.{lower, is_immediate, number_code, register_or, source, fetch, move_code, operation_code, exponent, power_code, immediate_code, commutes, exchanged_code, behind_or, combine_registers, binary_code, extend_code, compare_code, compare_number_code, compare_registers, compare_operands, test_code, frame_code, value_code, issue_code, address_code, take_code, fail_code, over, align_code, bounds_code, room_code, check_code, system_code, hear_code, stop_code, leave_code, result_code, branch_inst, opposite, one_way, goes_by, goes_code, frames_room_code, tell_number_code, against_zero, immediate_of, back_offset, goes_back, number_or, as_immediate, load_link}
 use Rattle.dae_select_blocks.specs.Code.{placed_code, branch_code, told_by, branch_by, ahead_by, before_branch, back_branch}
 use Rattle.dae_select_blocks.proofs.Ranges.{move_fit, AllFit, fit_append, fit_either, lower_fits, addi_fits, addi_small, lw_small, add_fits, number_fits, register_fits, fetch_fits, move_fits, keep_fits, over_fits}
 use Rattle.dae_select_blocks.proofs.Operands.{number_below}
@@ -291,9 +291,13 @@ module _ (n : ℕ) (home : ℕ → Home) (good : (v : ℕ) → IsHome n (home v)
   stop_fits false None = system_fits 0 (Number 0) (omega arith)
   stop_fits false (Some x) = system_fits 0 x (omega arith)
 
-  pub leave_fits : (y : Option Operand) → AllFit (leave_code home y)
-  leave_fits None = (lw_small 1 2 0 (omega arith) (omega arith) (omega arith), (jalr_zero 1 (omega arith), tt))
-  leave_fits (Some x) = fit_append _ _ (move_fits n home good 6 x (omega arith)) (lw_small 1 2 0 (omega arith) (omega arith) (omega arith), (jalr_zero 1 (omega arith), tt))
+  return_fits : (leaf : Bool) → AllFit (load_link leaf ++ Jalr 0 1 (pos 0) ∷ [])
+  return_fits true = (jalr_zero 1 (omega arith), tt)
+  return_fits false = (lw_small 1 2 0 (omega arith) (omega arith) (omega arith), (jalr_zero 1 (omega arith), tt))
+
+  pub leave_fits : (leaf : Bool) (y : Option Operand) → AllFit (leave_code leaf home y)
+  leave_fits leaf None = return_fits leaf
+  leave_fits leaf (Some x) = fit_append (move_code home 6 x) (load_link leaf ++ Jalr 0 1 (pos 0) ∷ []) (move_fits n home good 6 x (omega arith)) (return_fits leaf)
 
   pub result_fits : (v : Option ℕ) → AllFit (result_code home v)
   result_fits None = tt

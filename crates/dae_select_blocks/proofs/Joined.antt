@@ -23,7 +23,7 @@ use Rattle.dae_select_walks.specs.Layout.{CodeAt}
 use Rattle.dae_select_walks.specs.Live.{in_option, in_arguments, is, before}
 use Rattle.dae_select_walks.specs.Facts.{unknown}
 use Rattle.dae_select_walks.specs.Homes.{Contents}
-use Rattle.dae_select_walks.specs.Agrees.{Plan, Moment, Stands, AreWaiting, IsWithin}
+use Rattle.dae_select_walks.specs.Agrees.{Plan, Moment, Stands, AreWaiting, IsWithin, return_address}
 use Rattle.dae_select_walks.specs.Compiled.{Exits, exit, ways_of, At, MainEnds, waiting_of, called, result_of, with_env, with_result}
 use Rattle.dae_select_walks.proofs.LawsOfWalks.{nears_here, comes_map, comes_then, comes_does, does_map}
 use Rattle.dae_select_walks.proofs.LawsOfWalks.{put, step_ends, step_stops}
@@ -41,14 +41,14 @@ use Rattle.dae_select_blocks.proofs.Leaving.{leaves, return_done, resumes, Goes'
 
 module _ (s : Setting) (plan : Plan) (variables : ℕ → ℕ) (fine : Fits s plan variables) (program : Program) (is_plan : IsPlanOf program plan) (entries : ℕ → VariableSet) (linked : IsLinked s plan variables entries) (most widest : ℕ) where
   -- main returns
-  finishes : (live : VariableSet) (m : Moment) (y : Option Operand) (p : Processor) (n : ℕ) → Comes s n p (Goes' s plan variables fine live m plan.finish (result_of y m.env) plan.finish) → n + 3 ≤ most → (b : Bool) → plan.by_a ≡ b → CodeAt s.code plan.finish (finish_code b) → MainEnds b y m.env (λ quit. Does s most (Halts quit) (λ env q. ⊥) p)
-  finishes live m y p n c short true e at =
+  finishes : (m : Moment) (y : Option Operand) (p : Processor) (n : ℕ) → Comes s n p (Goes' s plan variables fine m plan.finish (result_of y m.env) plan.finish) → n + 3 ≤ most → (b : Bool) → plan.by_a ≡ b → CodeAt s.code plan.finish (finish_code b) → MainEnds b y m.env (λ quit. Does s most (Halts quit) (λ env q. ⊥) p)
+  finishes m y p n c short true e at =
       let to : Env → Processor → Type 0 = λ env q. ⊥ in
       let l : n + 1 ≤ most = omega arith in
       does_map s to to (n + 1) most l (λ env q t. t) (Halts Plainly) p
       (comes_does s to n 1 (Halts Plainly) c (λ q g. nears_here s 0 (omega arith) (step_stops s plan.private (fine.side ∙ ap side e) at.0 g.shows at.1 at.2)))
-  finishes live m None p n c short false e at = tt
-  finishes live m (Some x) p n c short false e at =
+  finishes m None p n c short false e at = tt
+  finishes m (Some x) p n c short false e at =
       let to : Env → Processor → Type 0 = λ env q. ⊥ in
       let to' : ℕ → Env → Processor → Type 0 = λ k env q. ⊥ in
       let by_e : s.side ≡ E = fine.side ∙ ap side e in
@@ -66,15 +66,15 @@ module _ (s : Setting) (plan : Plan) (variables : ℕ → ℕ) (fine : Fits s pl
       runs_halt s plan.private to' (λ k w small here is r shows. step_ends s plan.private by_e w 0 (Status (value x m.env)) shows here is refl (omega arith) (λ q. refl)))))) in
       run.from plan.finish (omega arith) at q g.shows))
 
-  pub returns_done : (short : Bool) (f : ℕ) (y : Option Operand) (k : VariableSet) (x : Exits) (leaves' skips here : ℕ) → length (leave_code (plan.home f) y) + 3 ≤ most → Stood s plan variables fine program is_plan entries most widest short f (Return y) k (ways_of x) leaves' skips here → Done' s plan variables fine program is_plan entries most widest short f unknown (Return y) k x leaves' skips here
+  pub returns_done : (short : Bool) (f : ℕ) (y : Option Operand) (k : VariableSet) (x : Exits) (leaves' skips here : ℕ) → length (leave_code (plan.leaf f) (plan.home f) y) + 3 ≤ most → Stood s plan variables fine program is_plan entries most widest short f (Return y) k (ways_of x) leaves' skips here → Done' s plan variables fine program is_plan entries most widest short f unknown (Return y) k x leaves' skips here
   returns_done short f y k x leaves' skips here brief' t m p h =
-      let stands : CodeAt s.code here (leave_code (plan.home m.function) y) = (let a = t.stands in rw h.0 a) in
-      let small : here + length (leave_code (plan.home m.function) y) < 2 ^ 29 = (let a = t.small in rw h.0 a) in
-      let brief : length (leave_code (plan.home m.function) y) + 3 ≤ most = rw h.0 brief' in
+      let stands : CodeAt s.code here (leave_code (plan.leaf m.function) (plan.home m.function) y) = (let a = t.stands in rw h.0 a) in
+      let small : here + length (leave_code (plan.leaf m.function) (plan.home m.function) y) < 2 ^ 29 = (let a = t.small in rw h.0 a) in
+      let brief : length (leave_code (plan.leaf m.function) (plan.home m.function) y) + 3 ≤ most = rw h.0 brief' in
       let reads : (u : ℕ) → in_option y u ≡ true → before (Return y) k (ways_of x) u ≡ true = λ u e. rw e refl in
       let low = linked.low in (
-        (λ none. (let a = h.1.agrees.waiting in let b : AreWaiting plan h.1.contents h.1.agrees.base m.frame [] = rw none at a in
-            finishes (before (Return y) k (ways_of x)) m y p (length (leave_code (plan.home m.function) y)) (leaves s plan variables fine y plan.finish h.1 t.wanted reads (omega arith) b.2 small stands) brief plan.by_a refl linked.finish)),
+        (λ none. (let a = h.1.agrees.waiting in let b : AreWaiting plan h.1.contents (return_address plan m.function h.1.contents h.1.agrees.base) h.1.agrees.base m.frame [] = rw none at a in
+            finishes m y p (length (leave_code (plan.leaf m.function) (plan.home m.function) y)) (leaves s plan variables fine y plan.finish h.1 t.wanted reads (omega arith) b.2 small stands) brief plan.by_a refl linked.finish)),
         (λ w ws is. comes_map s most (omega arith) (λ q g. g) (return_done s plan variables fine y w ws h.1 is t.wanted reads small stands)),
       )
 
@@ -129,8 +129,9 @@ module _ (s : Setting) (plan : Plan) (variables : ℕ → ℕ) (fine : Fits s pl
             let scope' : (u : ℕ) → live u ≡ true → u < variables m.function = rw e scope in
             let wide' : length prep' + 2 + length (entry_code plan variables g (entries g)) ≤ widest + 6 * length xs = rw e wide in
             let fits : here + length prep' + 2 < 2 ^ 29 = rw e (omega arith) in
+            let calls' : plan.leaf m.function ≡ false = (let a = t.wanted.4 in rw e a) in
             let within' : IsWithin plan (called plan g xs (waiting_of v k (here + length prep' + 2) m) m) = record { depth = within.depth; frame = within.frame } in
-            let both = comes_then s (prepares s plan variables fine entries linked v k g xs (waiting_of v k (here + length prep' + 2) m) h.1 refl (λ u e. rw e refl) keeps scope' t.wanted.0 t.wanted.3 within' (omega arith) first')
+            let both = comes_then s (prepares s plan variables fine entries linked v k g xs (waiting_of v k (here + length prep' + 2) m) h.1 refl (λ u e. rw e refl) keeps scope' t.wanted.0 t.wanted.3 calls' within' (omega arith) first')
             (λ q prepared. enters s plan variables fine entries linked v k g xs h0 t.wanted.1 t.wanted.2 fits within' jump' prepared) in
             comes_map s (widest + 6 * length xs) (omega arith) (λ q z. (refl, z)) both)),
         (λ m result p e within answered l.
@@ -141,9 +142,10 @@ module _ (s : Setting) (plan : Plan) (variables : ℕ → ℕ) (fine : Fits s pl
             let end' : back_of here f g xs v k + length rest' ≡ next = rw e (omega arith) in
             let apart : (u z : ℕ) → is v z ≡ true → k u ≡ true → u ≢ z → plan.home m.function u ≢ plan.home m.function z = rw e (λ u z sets' l ne. t.right.apart u z (rw l (open' (in_arguments xs u) (is v u))) (or_right (before (Call v g xs) k (ways_of x) z) (is v z) sets') ne) in
             let scope' : (u : ℕ) → k u ≡ true → is v u ≡ false → u < variables m.function = rw e (λ u l ne. scope u (rw (l, ne) (or_true (in_arguments xs u)))) in
+            let calls' : plan.leaf m.function ≡ false = (let a = t.wanted.4 in rw e a) in
             let own : (z : ℕ) → is v z ≡ true → z < variables m.function = rw e (λ z sets'. t.right.scope z (or_right (before (Call v g xs) k (ways_of x) z) (is v z) sets')) in
             comes_map s (3 * most) brief' (λ q z. (e, subst (λ (j : ℕ). Stands plan k (with_env (with_result v result m.env) m) j q) end' z))
-            (resumes s plan variables fine v k (back_of here f g xs v k) result within answered scope' own apart l (rw end' (omega arith)) third')),
+            (resumes s plan variables fine v k (back_of here f g xs v k) result within answered scope' own apart calls' l (rw end' (omega arith)) third')),
       )
     where
       open' : (b c : Bool) → ((b || (true && not c)) || c) ≡ true

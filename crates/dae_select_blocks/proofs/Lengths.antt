@@ -7,7 +7,7 @@ use Rattle.dae_base.specs.declared.Width.TheVariants.{B1, B2, B4}
 use Rattle.dae_base.specs.declared.LoadKind.{LoadKind}
 use Rattle.dae_base.specs.declared.LoadKind.TheVariants.{I8, U8, I16, U16, I32}
 use Rattle.dae_encode.specs.declared.Inst.{Inst}
-use Rattle.dae_encode.specs.declared.Inst.TheVariants.{Addi, Add, Sub, Bne, Bltu, Bgeu, Lw, Jalr, Ecall}
+use Rattle.dae_encode.specs.declared.Inst.TheVariants.{Addi, Add, Sub, Bne, Bltu, Bgeu, Jalr, Ecall}
 use Rattle.dae_base.specs.Words.{minus, size}
 use Rattle.dae_ir.specs.Classes.{VariableSet}
 use Rattle.dae_ir.specs.declared.form.Operand.{Operand}
@@ -29,7 +29,7 @@ use Rattle.dae_select_walks.specs.declared.Home.{Home}
 use Rattle.dae_select_walks.specs.declared.Home.TheVariants.{Register, Slot}
 use Rattle.dae_select_walks.specs.Homes.{slot_at, kept_at, number_key, resident_register}
 use Rattle.dae_select_walks.specs.Agrees.{Plan}
-use Rattle.dae_select_blocks.specs.Blocks.{operation_code, issue_code, address_code, call_number, over, is_register, number_code, load_code, store_code, register_or, source, fetch_home, fetch, keep, compare_code, test_code, extend_code, value_code, fail_code, align_code, bounds_code, room_code, check_code, take_code, hear_code, stop_code, arguments_code, save_code, restore_code, deeper_code, back_code, result_code, leave_code, waits_at, enter_code, more_code, less_code, is_immediate, move_code, immediate_code, exchanged_code, behind_or, combine_registers, binary_code, compare_number_code, compare_registers, compare_operands, frame_code, system_code, one_way, jump_over, jump_back, goes_by, goes_code, frames_room_code, tell_number_code, against_zero, immediate_of, goes_back, fetch_number, residents_code, as_immediate}
+use Rattle.dae_select_blocks.specs.Blocks.{operation_code, issue_code, address_code, call_number, over, is_register, number_code, load_code, store_code, register_or, source, fetch_home, fetch, keep, compare_code, test_code, extend_code, value_code, fail_code, align_code, bounds_code, room_code, check_code, take_code, hear_code, stop_code, arguments_code, save_code, restore_code, deeper_code, back_code, result_code, leave_code, waits_at, enter_code, more_code, less_code, is_immediate, move_code, immediate_code, exchanged_code, behind_or, combine_registers, binary_code, compare_number_code, compare_registers, compare_operands, frame_code, system_code, one_way, jump_over, jump_back, goes_by, goes_code, frames_room_code, tell_number_code, against_zero, immediate_of, goes_back, fetch_number, residents_code, as_immediate, store_link, load_link}
 use Rattle.dae_select_blocks.specs.Code.{placed_code, some_below, filtered, home_registers, registers_in, with_home, early_code, action_code, branch_code, entry_code, start_code, finish_code, past_code, told_by, branch_by, ahead_by, before_branch, back_branch}
 use Rattle.dae_select_blocks.proofs.Simple.{IsSimple}
 
@@ -351,8 +351,23 @@ returning_short plan f =
     let b2 = length-append (less_code 3 (plan.frame f % 2 ^ 32)) (less_code 2 (4 * plan.words f) ++ (if plan.by_a then Addi 10 10 (negsuc 0) ∷ [] else [])) in
     omega arith
 
+-- the address to return to takes an instruction where it isn't a leaf's
+link_short : (leaf : Bool) → length (store_link leaf) ≤ 1
+link_short true = omega arith
+link_short false = omega arith
+
+link_alone : (leaf : Bool) → length (store_link leaf ++ []) ≤ 1
+link_alone true = omega arith
+link_alone false = omega arith
+
+return_short : (leaf : Bool) → length (load_link leaf ++ Jalr 0 1 (pos 0) ∷ []) ≤ 2
+return_short true = omega arith
+return_short false = omega arith
+
 pub entry_short : (plan : Plan) (variables : ℕ → ℕ) (g : ℕ) (live : VariableSet) → length (entry_code plan variables g live) ≤ 19
-entry_short plan variables g live = let b = restored_short (plan.home g) (variables g) live in omega arith
+entry_short plan variables g live =
+    let a = link_short (plan.leaf g) in let b = restored_short (plan.home g) (variables g) live in
+    let both = length-append (store_link (plan.leaf g)) (restore_code (registers_in (plan.home g) (variables g) live)) in omega arith
 
 pub prepared_short : (plan : Plan) (variables : ℕ → ℕ) (f g : ℕ) (xs : List Argument) (live : VariableSet) → length (arguments_code plan f g xs ++ (save_code (registers_in (plan.home f) (variables f) live) ++ deeper_code plan f)) ≤ 25 + 6 * length xs
 prepared_short plan variables f g xs live =
@@ -375,9 +390,9 @@ resumed_short plan variables f v live =
     result_short home None = omega arith
     result_short home (Some v) = let k = keep_short (home v) in omega arith
 
-pub leave_short : (home : ℕ → Home) (y : Option Operand) → length (leave_code home y) ≤ 6
-leave_short home None = omega arith
-leave_short home (Some x) = moved_short home 6 2 x (Lw 1 2 (pos 0) ∷ (Jalr 0 1 (pos 0) ∷ [])) (omega arith)
+pub leave_short : (leaf : Bool) (home : ℕ → Home) (y : Option Operand) → length (leave_code leaf home y) ≤ 6
+leave_short leaf home None = let l = return_short leaf in omega arith
+leave_short leaf home (Some x) = moved_short home 6 2 x (load_link leaf ++ Jalr 0 1 (pos 0) ∷ []) (return_short leaf)
 
 addresses_short : (n : ℕ) → length (number_code 4 n ++ Addi 10 0 (pos 1) ∷ []) ≤ 3
 addresses_short n = let l = number_short 4 n in let both = length-append (number_code 4 n) (Addi 10 0 (pos 1) ∷ []) in omega arith
@@ -420,4 +435,4 @@ unfolding registers_in
 registers_none home n live h = filtered_none (λ r. some_below n (λ v. live v && is_register r (home v))) (λ r. some_none n (λ v. live v && is_register r (home v)) (λ v. rw (h v) refl)) home_registers
 
 pub entry_alone : (plan : Plan) (variables : ℕ → ℕ) (g : ℕ) (live : VariableSet) → ((u : ℕ) → live u ≡ false) → length (entry_code plan variables g live) ≤ 1
-entry_alone plan variables g live h = rw (registers_none (plan.home g) (variables g) live h) (omega arith)
+entry_alone plan variables g live h = rw (registers_none (plan.home g) (variables g) live h) (link_alone (plan.leaf g))

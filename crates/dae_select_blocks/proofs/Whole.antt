@@ -76,7 +76,7 @@ module _ (s : Setting) (plan : Plan) (variables : ℕ → ℕ) (fine : Fits s pl
 
   -- what every action wants of the place where it stands: its block, short enough, and homes that are apart
   pub record Stood (f : ℕ) (a : Action) (behind : VariableSet) (x : Ways) (leaves skips k : ℕ) : Type 0 where
-    pub wanted : IsWanted plan s.copies entries a
+    pub wanted : IsWanted plan s.copies entries (plan.leaf f) a
     pub right : IsRight (plan.home f) (variables f) (with_all (before a behind x) (sets a))
     pub stands : CodeAt s.code k (block_of f a behind leaves skips)
     pub small : k + length (block_of f a behind leaves skips) < 2 ^ 29
@@ -156,7 +156,7 @@ module _ (s : Setting) (plan : Plan) (variables : ℕ → ℕ) (fine : Fits s pl
     -- the block of an action, where things stand so before it and so behind it, does it
     abbrev StepDone : ℕ → Facts → Need → Standing → Mark → Exits → ℕ → ℕ → ℕ → Action → Actions → Standing → Type 0
     StepDone f known need standing mark x leaves skips here a k standing' =
-        Suits standing (Do mark a k) (ways_of x) → AreLateNumbers standing → AreSettled x → IsWanted plan s.copies entries a → Each (IsWanted plan s.copies entries) IsWantedBranch k →
+        Suits standing (Do mark a k) (ways_of x) → AreLateNumbers standing → AreSettled x → IsWanted plan s.copies entries (plan.leaf f) a → Each (IsWanted plan s.copies entries (plan.leaf f)) IsWantedBranch k →
         IsRight (plan.home f) (variables f) (with_all (before a (live k (ways_of x)) (ways_of x)) (sets a)) → AllByRecursion (IsRight (plan.home f) (variables f)) (lives k (ways_of x)) →
         CodeAt s.code here (block_code plan variables f need standing a standing' (live k (ways_of x)) (jump_over short leaves) (jump_over short skips)) → lo ≤ here →
         here + length (block_code plan variables f need standing a standing' (live k (ways_of x)) (jump_over short leaves) (jump_over short skips)) < 2 ^ 29 →
@@ -340,7 +340,7 @@ module _ (s : Setting) (plan : Plan) (variables : ℕ → ℕ) (fine : Fits s pl
     -- that the code of a list does it, wherever it stands
     abbrev CodeIs : ℕ → Facts → Actions → Type 0
     CodeIs f known code =
-        (x : Exits) (leaves skips here : ℕ) → AreSettled x → Each (IsWanted plan s.copies entries) IsWantedBranch code → AllByRecursion (IsRight (plan.home f) (variables f)) (lives code (ways_of x)) →
+        (x : Exits) (leaves skips here : ℕ) → AreSettled x → Each (IsWanted plan s.copies entries (plan.leaf f)) IsWantedBranch code → AllByRecursion (IsRight (plan.home f) (variables f)) (lives code (ways_of x)) →
         CodeAt s.code here (code_of short plan variables f Settled known code (ways_of x) leaves skips) → lo ≤ here → here + length (code_of short plan variables f Settled known code (ways_of x) leaves skips) ≤ hi →
         here + length (code_of short plan variables f Settled known code (ways_of x) leaves skips) + leaves ≡ x.leaves.word → here + length (code_of short plan variables f Settled known code (ways_of x) leaves skips) + skips ≡ x.skips.word → x.leaves.word ≤ hi → x.skips.word ≤ hi →
         Leads s plan program entries most widest f (exit (here + length (code_of short plan variables f Settled known code (ways_of x) leaves skips)) x.next.live) x.next → CodeDone s plan program entries most widest f known code (exit here (live code (ways_of x))) x
@@ -364,7 +364,7 @@ module _ (s : Setting) (plan : Plan) (variables : ℕ → ℕ) (fine : Fits s pl
     back_here f false here e = absurd cc
 
     -- a loop whose turn ends with a jump back
-    top_done : (f : ℕ) (known : Facts) (mark : Mark) (body step k : Actions) (x : Exits) (leaves skips here : ℕ) → CodeIs f (facts_at_turn plan.memory body step known) body → CodeIs f (facts_at_step plan.memory body step known) step → CodeIs f (facts_past_loop body step known) k → AreSettled x → Each (IsWanted plan s.copies entries) IsWantedBranch (Loop mark body step k) → AllByRecursion (IsRight (plan.home f) (variables f)) (lives (Loop mark body step k) (ways_of x)) →
+    top_done : (f : ℕ) (known : Facts) (mark : Mark) (body step k : Actions) (x : Exits) (leaves skips here : ℕ) → CodeIs f (facts_at_turn plan.memory body step known) body → CodeIs f (facts_at_step plan.memory body step known) step → CodeIs f (facts_past_loop body step known) k → AreSettled x → Each (IsWanted plan s.copies entries (plan.leaf f)) IsWantedBranch (Loop mark body step k) → AllByRecursion (IsRight (plan.home f) (variables f)) (lives (Loop mark body step k) (ways_of x)) →
         lo ≤ here → x.leaves.word ≤ hi → x.skips.word ≤ hi → Put f (loop_code short (code_of short plan variables f Settled (facts_at_turn plan.memory body step known) body (body_ways body step (live k (ways_of x)))) (code_of short plan variables f Settled (facts_at_step plan.memory body step known) step (step_ways body step (live k (ways_of x))) (jump_words short) 0) (code_of short plan variables f Settled (facts_past_loop body step known) k (ways_of x) leaves skips)) x leaves skips here →
         CodeDone s plan program entries most widest f known (Loop mark body step k) (exit here (live (Loop mark body step k) (ways_of x))) x
     top_done f known mark body step k x leaves skips here in_body in_step in_rest settled wanted apart low near close put =
@@ -414,7 +414,7 @@ module _ (s : Setting) (plan : Plan) (variables : ℕ → ℕ) (fine : Fits s pl
     breaks_done f known code x here is settled there ends = absurd cc
 
     -- a loop whose test stands behind its step
-    bottom_done : (f : ℕ) (known : Facts) (mark m : Mark) (b : Branch) (p q t step k : Actions) (x : Exits) (leaves skips here : ℕ) → leaves_first (If m b p q t) ≡ true → CodeIs f (facts_past_if b p q (facts_at_turn plan.memory (If m b p q t) step known)) t → CodeIs f (facts_at_step plan.memory (If m b p q t) step known) step → CodeIs f (facts_past_loop (If m b p q t) step known) k → AreSettled x → Each (IsWanted plan s.copies entries) IsWantedBranch (Loop mark (If m b p q t) step k) → AllByRecursion (IsRight (plan.home f) (variables f)) (lives (Loop mark (If m b p q t) step k) (ways_of x)) →
+    bottom_done : (f : ℕ) (known : Facts) (mark m : Mark) (b : Branch) (p q t step k : Actions) (x : Exits) (leaves skips here : ℕ) → leaves_first (If m b p q t) ≡ true → CodeIs f (facts_past_if b p q (facts_at_turn plan.memory (If m b p q t) step known)) t → CodeIs f (facts_at_step plan.memory (If m b p q t) step known) step → CodeIs f (facts_past_loop (If m b p q t) step known) k → AreSettled x → Each (IsWanted plan s.copies entries (plan.leaf f)) IsWantedBranch (Loop mark (If m b p q t) step k) → AllByRecursion (IsRight (plan.home f) (variables f)) (lives (Loop mark (If m b p q t) step k) (ways_of x)) →
         lo ≤ here → x.leaves.word ≤ hi → x.skips.word ≤ hi → Put f (bottom_code short (tail_of short plan variables f (facts_at_turn plan.memory (If m b p q t) step known) (If m b p q t) (body_ways (If m b p q t) step (live k (ways_of x)))) (code_of short plan variables f Settled (facts_at_step plan.memory (If m b p q t) step known) step (step_ways (If m b p q t) step (live k (ways_of x)))) (bottom_test (plan.home f) (If m b p q t)) (code_of short plan variables f Settled (facts_past_loop (If m b p q t) step known) k (ways_of x) leaves skips)) x leaves skips here →
         CodeDone s plan program entries most widest f known (Loop mark (If m b p q t) step k) (exit here (live (Loop mark (If m b p q t) step k) (ways_of x))) x
     bottom_done f known mark m b p q t step k x leaves skips here is in_tail in_step in_rest settled wanted apart low near close put =
@@ -476,7 +476,7 @@ module _ (s : Setting) (plan : Plan) (variables : ℕ → ℕ) (fine : Fits s pl
               (subst (λ (j : ℕ). Leads s plan program entries most widest f (exit j x.next.live) x.next) (sym done) ends),
         )
 
-    pub code_done : (f : ℕ) (standing : Standing) (known : Facts) (code : Actions) (x : Exits) (leaves skips here : ℕ) → Suits standing code (ways_of x) → AreLateNumbers standing → AreSettled x → Each (IsWanted plan s.copies entries) IsWantedBranch code → AllByRecursion (IsRight (plan.home f) (variables f)) (lives code (ways_of x)) →
+    pub code_done : (f : ℕ) (standing : Standing) (known : Facts) (code : Actions) (x : Exits) (leaves skips here : ℕ) → Suits standing code (ways_of x) → AreLateNumbers standing → AreSettled x → Each (IsWanted plan s.copies entries (plan.leaf f)) IsWantedBranch code → AllByRecursion (IsRight (plan.home f) (variables f)) (lives code (ways_of x)) →
         CodeAt s.code here (code_of short plan variables f standing known code (ways_of x) leaves skips) → lo ≤ here → here + length (code_of short plan variables f standing known code (ways_of x) leaves skips) ≤ hi →
         here + length (code_of short plan variables f standing known code (ways_of x) leaves skips) + leaves ≡ x.leaves.word → here + length (code_of short plan variables f standing known code (ways_of x) leaves skips) + skips ≡ x.skips.word → x.leaves.word ≤ hi → x.skips.word ≤ hi →
         Leads s plan program entries most widest f (exit (here + length (code_of short plan variables f standing known code (ways_of x) leaves skips)) x.next.live) x.next → CodeDone s plan program entries most widest f known code (entered_at standing code (ways_of x) here) x

@@ -477,6 +477,14 @@ abbrev pub result_code : (ℕ → Home) → Option ℕ → List Inst
 result_code home None = []
 result_code home (Some v) = Addi (register_or 5 (home v)) 6 (pos 0) ∷ keep (home v)
 
-abbrev pub leave_code : (ℕ → Home) → Option Operand → List Inst
-leave_code home None = Lw 1 2 (pos 0) ∷ (Jalr 0 1 (pos 0) ∷ [])
-leave_code home (Some x) = move_code home 6 x ++ Lw 1 2 (pos 0) ∷ (Jalr 0 1 (pos 0) ∷ [])
+-- the address to return to goes into the first word of the frame, but a leaf's, which stays in x1
+abbrev pub store_link : Bool → List Inst
+store_link leaf = if leaf then [] else Sw 2 1 (pos 0) ∷ []
+
+-- and comes from there into x1
+abbrev pub load_link : Bool → List Inst
+load_link leaf = if leaf then [] else Lw 1 2 (pos 0) ∷ []
+
+abbrev pub leave_code : Bool → (ℕ → Home) → Option Operand → List Inst
+leave_code leaf home None = load_link leaf ++ Jalr 0 1 (pos 0) ∷ []
+leave_code leaf home (Some x) = move_code home 6 x ++ (load_link leaf ++ Jalr 0 1 (pos 0) ∷ [])

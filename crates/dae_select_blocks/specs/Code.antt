@@ -2,7 +2,7 @@
 -- code of a list stands anywhere, and depends only on the words at which functions are entered.
 use Rattle.std.specs.Prelude.{ℕ, zero, suc, ◌+◌, ◌-◌, Bool, true, false, not, ◌&&◌, ◌||◌, nat_eq, nat_lt, List, [], ◌∷◌, ◌++◌, length, Option, Some, pos, if◌then◌else◌, None}
 use Rattle.dae_encode.specs.declared.Inst.{Inst}
-use Rattle.dae_encode.specs.declared.Inst.TheVariants.{Sw, Addi, Ecall}
+use Rattle.dae_encode.specs.declared.Inst.TheVariants.{Addi, Ecall}
 use Rattle.dae_ir.specs.Code.{Done, Do, If, Loop}
 use Rattle.dae_ir.specs.Classes.{VariableSet}
 use Rattle.dae_ir.specs.Streams.{Actions}
@@ -28,7 +28,7 @@ use Rattle.dae_select_walks.specs.Agrees.{Plan}
 use Rattle.dae_select_walks.specs.Compiled.{is_told}
 use Rattle.dae_select_walks.specs.declared.Standing.{Standing}
 use Rattle.dae_select_walks.specs.declared.Standing.TheVariants.{Settled, Early, Late}
-use Rattle.dae_select_blocks.specs.Blocks.{number_code, register_or, source, fetch, keep, value_code, issue_code, address_code, take_code, own_code, move_code, call_number, system_code, hear_code, stop_code, check_code, bounds_code, residents_code, test_code, jump_over, jump_back, enter_code, goes_back, arguments_code, is_register, save_code, restore_code, deeper_code, back_code, result_code, leave_code, jump_words, one_way, goes_code, tell_number_code, against_zero, immediate_of}
+use Rattle.dae_select_blocks.specs.Blocks.{number_code, register_or, source, fetch, keep, value_code, issue_code, address_code, take_code, own_code, move_code, call_number, system_code, hear_code, stop_code, check_code, bounds_code, residents_code, test_code, jump_over, jump_back, enter_code, goes_back, arguments_code, is_register, save_code, restore_code, deeper_code, back_code, result_code, store_link, leave_code, jump_words, one_way, goes_code, tell_number_code, against_zero, immediate_of}
 use Rattle.dae_select_blocks.specs.Sizes.{most_words_in, is_short}
 
 -- ---- the registers that a call keeps
@@ -75,7 +75,7 @@ action_code plan variables f (Stop x) live leaves skips = stop_code plan.by_a (p
 action_code plan variables f Break live leaves skips = leaves
 action_code plan variables f Continue live leaves skips = skips
 action_code plan variables f (Call v g xs) live leaves skips = call_code plan variables f v g xs (λ u. live u && not (is v u))
-action_code plan variables f (Return x) live leaves skips = leave_code (plan.home f) x
+action_code plan variables f (Return x) live leaves skips = leave_code (plan.leaf f) (plan.home f) x
 
 -- a test is told, and a branch follows: on its operands, which are still in their registers, or else on x7
 abbrev pub told_by : Option ℕ → (ℕ → Home) → (Comparison → ℕ → ℕ → List Inst) → Test → Bool → List Inst
@@ -284,9 +284,9 @@ abbrev mutual
 
 -- ---- functions
 
--- a function keeps the address to return to, and gets the parameters that it reads into their registers
+-- a function keeps the address to return to, unless it is a leaf, and gets the parameters that it reads into their registers
 abbrev pub entry_code : Plan → (ℕ → ℕ) → ℕ → VariableSet → List Inst
-entry_code plan variables f live = Sw 2 1 (pos 0) ∷ restore_code (registers_in (plan.home f) (variables f) live)
+entry_code plan variables f live = store_link (plan.leaf f) ++ restore_code (registers_in (plan.home f) (variables f) live)
 
 -- its actions return or halt, so nothing stands behind them
 abbrev pub function_code : Plan → (ℕ → ℕ) → ℕ → Actions → List Inst

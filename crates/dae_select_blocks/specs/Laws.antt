@@ -22,7 +22,7 @@ use Rattle.dae_select_blocks.specs.Wanted.{IsWanted, IsWantedBranch, IsPlanOf, I
 
 -- the code of a function's actions stands where the function starts
 pub record Stands (s : Setting) (plan : Plan) (variables : ℕ → ℕ) (entries : ℕ → VariableSet) (f : ℕ) (code : Actions) : Type 0 where
-  pub wanted : Each (IsWanted plan s.copies entries) IsWantedBranch code
+  pub wanted : Each (IsWanted plan s.copies entries (plan.leaf f)) IsWantedBranch code
   pub right : AllByRecursion (IsRight (plan.home f) (variables f)) (lives code nowhere)
   pub there : CodeAt s.code (plan.start f) (code_of (is_short code) plan variables f Settled unknown code nowhere 0 0)
   pub small : plan.start f + length (code_of (is_short code) plan variables f Settled unknown code nowhere 0 0) < 2 ^ 29

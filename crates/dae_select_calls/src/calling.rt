@@ -1,7 +1,8 @@
 // The blocks of calls and returns, and the code that a function begins with.
 
-ghost use Rattle.std.specs.Prelude.{◌≡◌, ◌+◌, ◌++◌, ◌<◌, ◌^◌, ◌%◌, ◌&&◌, nat_lt, IfOk, OnOk};
-ghost use Rattle.dae_select_blocks.specs.Blocks.{waits_at, arguments_code, argument_code, is_register, save_code, restore_code, deeper_code, back_code, result_code, leave_code};
+ghost use Rattle.std.specs.Prelude.{◌≡◌, ◌+◌, ◌++◌, ◌∷◌, [], pos, ◌<◌, ◌^◌, ◌%◌, ◌&&◌, nat_lt, IfOk, OnOk};
+ghost use Rattle.dae_encode.specs.declared.Inst.TheVariants.{Jalr};
+ghost use Rattle.dae_select_blocks.specs.Blocks.{waits_at, arguments_code, argument_code, is_register, save_code, restore_code, deeper_code, back_code, result_code, store_link, load_link, leave_code};
 ghost use Rattle.dae_select_blocks.specs.Code.{some_below, filtered, registers_in, call_code, entry_code};
 ghost use Rattle.dae_select_calls.specs.Layouts.{plan_of, AreSmall};
 ghost use Rattle.dae_select_calls.specs.Makings.{plan_by, variables_by, IsSound};
@@ -279,21 +280,46 @@ pub fn call_code(
     result_code(code, making.homes, callee.result)
 }
 
+/// The address to return to, which is in x1, goes into the frame of a function that is no leaf.
+fn store_link(code: &mut Vec<Inst>, making: &Making) -> Result<(), AllocError>
+    ensures { OnOk result (code.new.items ≡ code.old.items
+        ++ store_link ((plan_by making.now).leaf making.now.function)) }
+{
+    if making.layouts.leaf(making.function) {
+        Ok(())
+    } else {
+        code.extend_from_slice(&[Inst::Sw(2, 1, 0)])
+    }
+}
+
+/// The jump to the address to return to: a leaf has it in x1, any other function in its frame.
+fn return_code(code: &mut Vec<Inst>, making: &Making) -> Result<(), AllocError>
+    ensures { OnOk result (code.new.items ≡ code.old.items
+        ++ (load_link ((plan_by making.now).leaf making.now.function) ++ Jalr 0 1 (pos 0) ∷ [])) }
+{
+    if making.layouts.leaf(making.function) {
+        code.extend_from_slice(&[Inst::Jalr(0, 1, 0)])
+    } else {
+        code.extend_from_slice(&[Inst::Lw(1, 2, 0), Inst::Jalr(0, 1, 0)])
+    }
+}
+
 /// The block of a return.
 pub fn leave_code(
     code: &mut Vec<Inst>,
-    homes: HomeTable,
+    making: &Making,
     answer: Option<Operand>,
 ) -> Result<(), AllocError>
-    requires { AreNear homes }
+    requires { IsSound making.now }
     ensures { OnOk result (code.new.items ≡ code.old.items
-        ++ leave_code (home_by homes.entry) answer) }
+        ++ leave_code ((plan_by making.now).leaf making.now.function)
+        ((plan_by making.now).home making.now.function) answer) }
 {
     match answer {
-        None => code.extend_from_slice(&[Inst::Lw(1, 2, 0), Inst::Jalr(0, 1, 0)]),
+        None => return_code(code, making),
         Some(operand) => {
-            move_code(code, homes, 6, operand)?;
-            code.extend_from_slice(&[Inst::Lw(1, 2, 0), Inst::Jalr(0, 1, 0)])
+            move_code(code, making.homes, 6, operand)?;
+            return_code(code, making)
         }
     }
 }
@@ -305,7 +331,7 @@ pub fn entry_code(code: &mut Vec<Inst>, making: &Making, live: &LiveSet) -> Resu
         ++ entry_code (plan_by making.now) (variables_by making.now) making.now.function
         (member live.now)) }
 {
-    code.push(Inst::Sw(2, 1, 0))?;
+    store_link(code, making)?;
     let variables = making.layouts.variables(making.function);
     let registers = registers_in(making.alloc, making.homes, variables, live)?;
     restore_code(code, registers.as_slice())

@@ -9,12 +9,14 @@ use dae_select_values::{HomeTable, home_of};
 use dae_select_walks::Home;
 
 /// What is settled of a function: the homes of its variables, how many variables there are, the bytes of its frame in
-/// common memory, the word at which it is entered, and the word at which its actions begin.
+/// common memory, whether it is a leaf, which makes no call, the word at which it is entered, and the word at which its
+/// actions begin.
 #[derive(Drop)]
 pub struct FunctionLayout {
     pub homes: Items<Home>,
     pub variables: u32,
     pub frame: u64,
+    pub leaf: bool,
     pub entry: u32,
     pub start: u32,
 }
@@ -76,6 +78,16 @@ impl Layouts {
         match self.functions.as_slice().get(function as usize) {
             Some(layout) => layout.variables,
             None => 0,
+        }
+    }
+
+    /// Whether a function is a leaf.
+    pub fn leaf(&self, function: u32) -> bool
+        ensures { result ≡ (plan_of self.now).leaf function }
+    {
+        match self.functions.as_slice().get(function as usize) {
+            Some(layout) => layout.leaf,
+            None => false,
         }
     }
 
