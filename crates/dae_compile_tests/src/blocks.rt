@@ -2,7 +2,7 @@
 use dae_encode::{Inst, decode, encode, is_in_range};
 use std::process::Abort;
 
-static WORDS: [(u32, Inst); 115] = [
+static WORDS: [(u32, Inst); 116] = [
     (0x123452b7, Inst::Lui(5, 305_418_240)), // lui t0,0x12345
     (0xfffff437, Inst::Lui(8, -4096)), // lui s0,0xfffff
     (0x00001297, Inst::Auipc(5, 4096)), // auipc t0,0x1
@@ -11,6 +11,7 @@ static WORDS: [(u32, Inst); 115] = [
     (0x7f828067, Inst::Jalr(0, 5, 2040)), // jalr zero,2040(t0)
     (0x800280e7, Inst::Jalr(1, 5, -2048)), // jalr ra,-2048(t0)
     (0x00008067, Inst::Jalr(0, 1, 0)), // jalr zero,0(ra)
+    (0x7fc000e7, Inst::Jalr(1, 0, 2044)), // jalr ra,2044(zero) # 7fc <.text+0x7fc>
     (0x00029663, Inst::Bne(5, 0, 12)), // bne t0,zero,2c <.text+0x2c>
     (0x000e9663, Inst::Bne(29, 0, 12)), // bne t4,zero,30 <.text+0x30>
     (0x00041a63, Inst::Bne(8, 0, 20)), // bne s0,zero,3c <.text+0x3c>

@@ -343,16 +343,16 @@ fn has_marks(alloc: Global, ir: &Ir, marks: &[LineMark]) -> Result<bool, Fail> {
     }
 }
 
-// A mark at the first word of the first action of each line. Before the actions of main there are seven words of A, and six of
+// A mark at the first word of the first action of each line. Before the actions of main there are six words of A, and five of
 // E; a byte is printed by three words.
 #[test]
 fn marks_of_lines(rt: HostRuntime) -> Result<(), Fail> {
     let alloc = rt.alloc();
     let marks = [
-        mark(Side::A, 7, 5),
-        mark(Side::E, 6, 2),
-        mark(Side::E, 9, 3),
-        mark(Side::E, 15, 5),
+        mark(Side::A, 6, 5),
+        mark(Side::E, 5, 2),
+        mark(Side::E, 8, 3),
+        mark(Side::E, 14, 5),
     ];
     let form = forms::letters_on_lines(alloc)?;
     assert!(rt; has_marks(alloc, &form, marks.as_slice())?);

@@ -33,6 +33,10 @@ back_long : (short : Bool) (m n : ℕ) → length (jump_back short m) ≡ length
 back_long true m n = refl
 back_long false m n = refl
 
+pub enter_same : (near : Bool) (v w : ℕ) → length (enter_code near v) ≡ length (enter_code near w)
+enter_same true v w = refl
+enter_same false v w = refl
+
 -- the plan with the functions at other words
 abbrev pub at_words : Plan → (ℕ → ℕ) → (ℕ → ℕ) → ℕ → Plan
 at_words p entry start finish = record {
@@ -44,6 +48,7 @@ at_words p entry start finish = record {
   words = p.words;
   frame = p.frame;
   leaf = p.leaf;
+  near = p.near;
   finish = finish;
   largest = p.largest;
   private = p.private;
@@ -71,7 +76,7 @@ module _ (p : Plan) (entry start : ℕ → ℕ) (finish : ℕ) (variables : ℕ 
   call_long v g xs k =
       both_long (arguments_code q f g xs) (arguments_code p f g xs) _ _ (ap length (arguments_same g xs))
       (both_long (save_code (registers_in (p.home f) (variables f) k)) (save_code (registers_in (p.home f) (variables f) k)) _ _ refl
-      (both_long (deeper_code q f) (deeper_code p f) _ _ refl (both_long (enter_code (entry g)) (enter_code (p.entry g)) _ _ refl refl)))
+      (both_long (deeper_code q f) (deeper_code p f) _ _ refl (both_long (enter_code p.near (entry g)) (enter_code p.near (p.entry g)) _ _ (enter_same p.near (entry g) (p.entry g)) refl)))
 
   module _ (short : Bool) where
     -- nor on how far jumps lead

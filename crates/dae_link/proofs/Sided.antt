@@ -38,9 +38,9 @@ use Rattle.dae_select_calls.specs.declared.layouts.Layouts.{Layouts}
 use Rattle.dae_link_faithful.specs.Made.{IsSide, HasCode, HasStart, setting_of}
 use Rattle.dae_link.specs.Settled.{AreUnplaced}
 use Rattle.dae_link.specs.Placed.{functions_code, opening_code, whole_code, placed}
-use Rattle.dae_link.specs.Sides.{HasLimits, IsCodeOf, body_in, parameters_in, frame_in, at_places, code_at, end_of}
+use Rattle.dae_link.specs.Sides.{HasLimits, IsCodeOf, IsReached, body_in, parameters_in, frame_in, at_places, code_at, end_of}
 use Rattle.dae_link.specs.Sizes.{most_words}
-use Rattle.dae_link.proofs.Same.{both_long, at_words, function_long}
+use Rattle.dae_link.proofs.Same.{both_long, enter_same, at_words, function_long}
 use Rattle.dae_link.proofs.Standing.{placed_long, placed_same, start_behind, functions_long, ends_within, entries_within, stands_there}
 use Rattle.dae_link.proofs.Sizes.{functions_length}
 use Rattle.dae_link.proofs.Residing.{residents_few, residents_within, residents_apart, among_is_home}
@@ -116,6 +116,7 @@ module _ (stream : Stream) (old : Layouts) (unplaced : AreUnplaced stream old) w
     words = words;
     frame = frame;
     leaf = leaf;
+    near = P.near;
     finish = Q.finish;
     largest = P.largest;
     private = P.private;
@@ -145,7 +146,7 @@ module _ (stream : Stream) (old : Layouts) (unplaced : AreUnplaced stream old) w
   start_same : length (start_code Q stream.main stream.frames) ≡ length (start_code P stream.main stream.frames)
   start_same =
       let begins : List Inst = number_code 3 stream.frames ++ (residents_code 27 old.residents ++ (if P.by_a then number_code 4 (P.memory - 16) ++ Addi 10 0 (pos 1) ∷ [] else [])) in
-      both_long begins begins (enter_code (Q.entry stream.main)) (enter_code (P.entry stream.main)) refl refl
+      both_long begins begins (enter_code P.near (Q.entry stream.main)) (enter_code P.near (P.entry stream.main)) refl (enter_same P.near (Q.entry stream.main) (P.entry stream.main))
 
   opening_same : length (opening_code Q stream.main stream.frames) ≡ first
   opening_same = both_long (start_code Q stream.main stream.frames) (start_code P stream.main stream.frames) (finish_code P.by_a) (finish_code P.by_a) start_same refl
@@ -201,7 +202,7 @@ module _ (stream : Stream) (old : Layouts) (unplaced : AreUnplaced stream old) w
         low : (f : ℕ) → Q.entry f < 2 ^ 30
         low f = let l = entry_low f in omega arith
 
-    module _ (limits : HasLimits stream) (p : Program) (setup : Setup) (is_limit : p.limit ≡ stream.calls) (is_frame : (f : ℕ) → p.frame f ≡ frame_in (slice_get fs f)) (is_code : code setup (side Q.by_a) ≡ map encoded (whole_code Q variables stream.main stream.frames fs)) (is_memory : setup.memory ≡ stream.memory) where
+    module _ (limits : HasLimits stream) (reached : IsReached stream old) (p : Program) (setup : Setup) (is_limit : p.limit ≡ stream.calls) (is_frame : (f : ℕ) → p.frame f ≡ frame_in (slice_get fs f)) (is_code : code setup (side Q.by_a) ≡ map encoded (whole_code Q variables stream.main stream.frames fs)) (is_memory : setup.memory ≡ stream.memory) where
       abbrev body : ℕ → Actions
       body f = body_in (slice_get fs f)
 
@@ -278,6 +279,7 @@ module _ (stream : Stream) (old : Layouts) (unplaced : AreUnplaced stream old) w
         entry = (λ g lt. code_take words (Q.entry g) (entry_code Q variables g (live (body g) nowhere)) (own_code g) (there g (subst (λ (n : ℕ). g < n) long lt)));
         start = (λ g lt. starts g (subst (λ (n : ℕ). g < n) long lt));
         near = (λ g lt. let e = end_low g (subst (λ (n : ℕ). g < n) long lt) in omega arith);
+        close = (λ g lt is. let e = entries_within P variables fs old.functions first 0 g in let r = reached is in omega (arith, e, r));
         reads = (λ g u h. reads_at (slice_get fs g) (slice_get old.functions g) (at g) u h);
         finish = finish_there;
         low = (let s = opening_short P stream.main stream.frames in let b = unplaced.residents.brief in omega arith);
@@ -318,11 +320,11 @@ module _ (stream : Stream) (old : Layouts) (unplaced : AreUnplaced stream old) w
       }
 
     -- whatever program has the stream
-    pub code_made : HasLimits stream → IsCodeOf stream (map encoded (code_at stream old)) old.private
-    code_made limits p body parameters setup has is_code is_memory =
+    pub code_made : HasLimits stream → IsReached stream old → IsCodeOf stream (map encoded (code_at stream old)) old.private
+    code_made limits reached p body parameters setup has is_code is_memory =
         let bodies : (λ (f : ℕ). body_in (slice_get fs f)) ≡ body = fun_ext (λ f. sym (has.bodies f)) in
         let counts : (λ (f : ℕ). parameters_in (slice_get fs f)) ≡ parameters = fun_ext (λ f. sym (has.counts f)) in
         let same_words : code setup (side Q.by_a) ≡ map encoded (whole_code Q variables stream.main stream.frames fs) = ap (code setup) (ap (λ (s : Side). side (is_a s)) unplaced.side ∙ same_side stream.side) ∙ is_code ∙ ap (map encoded) code_is in
         subst (λ (b : ℕ → Actions). IsSide (is_a stream.side) p b parameters (length fs) stream.main stream.frames setup (opened_with old.private)) bodies
         (subst (λ (n : ℕ → ℕ). IsSide (is_a stream.side) p (λ f. body_in (slice_get fs f)) n (length fs) stream.main stream.frames setup (opened_with old.private)) counts
-        (is_side limits p setup has.limit has.frame same_words is_memory))
+        (is_side limits reached p setup has.limit has.frame same_words is_memory))

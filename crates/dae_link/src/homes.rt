@@ -16,6 +16,7 @@ use dae_ir::{Stream, StreamFunction};
 use dae_regalloc::{allocate, can_number};
 use dae_select::is_leaf;
 use dae_select_calls::{FunctionLayout, Layouts};
+use dae_select_values::CallForm;
 use std::alloc::Global;
 
 /// The words that a private frame has besides the slots.
@@ -115,10 +116,16 @@ fn private_words(calls: u16, largest: u32) -> Result<u32, CodeError>
     Ok(words as u32)
 }
 
-/// The homes and frames of a stream's functions, all at word 0, and the numbers that stay in registers.
-pub fn unplaced_layouts(alloc: Global, stream: &Stream) -> Result<Layouts, CodeError>
+/// The homes and frames of a stream's functions, all at word 0, the form of the ways into them, and the numbers that stay in
+/// registers.
+pub fn unplaced_layouts(
+    alloc: Global,
+    stream: &Stream,
+    calls: CallForm,
+) -> Result<Layouts, CodeError>
     requires { list_all is_numberable stream.now.functions ≡ true }
     ensures layouts { IfOk result (λ layouts. AreUnplaced stream.now layouts) }
+    ensures calls { IfOk result (λ layouts. layouts.calls ≡ calls) }
     ensures code { IfErr result (λ e. e ≢ errors.Code) }
     ensures private { IfErr result (λ e. e ≡ errors.Private → IsTooDeep stream.now) }
 {
@@ -129,6 +136,7 @@ pub fn unplaced_layouts(alloc: Global, stream: &Stream) -> Result<Layouts, CodeE
     Ok(Layouts {
         side: stream.side,
         functions: Items::from_vec(functions),
+        calls,
         finish: 0,
         largest,
         private,

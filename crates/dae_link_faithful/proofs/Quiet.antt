@@ -95,8 +95,9 @@ goes_by_plain false short relation x y n h k = (branch_plain (opposite relation)
 pub goes_plain : (short : Bool) (relation : Comparison) (x y n : ℕ) → x < 28 → y < 28 → AllPlain (goes_code short relation x y n)
 goes_plain short relation x y n h k = goes_by_plain (nat_lt n 1000) short relation x y n h k
 
-enter_plain : (word : ℕ) → AllPlain (enter_code word)
-enter_plain word = ((omega arith, omega arith, omega arith), ((omega arith, omega arith, omega arith), tt))
+enter_plain : (near : Bool) (word : ℕ) → AllPlain (enter_code near word)
+enter_plain true word = ((omega arith, omega arith, omega arith), tt)
+enter_plain false word = ((omega arith, omega arith, omega arith), ((omega arith, omega arith, omega arith), tt))
 
 operation_plain : (o : Operator) (t x y : ℕ) → t < 28 → x < 28 → y < 28 → IsPlain (form_of (effect (operation_code o t x y)))
 operation_plain Plus t x y a b c = (a, b, c)
@@ -374,7 +375,7 @@ module _ (plan : Plan) (variables : ℕ → ℕ) (good : (f v : ℕ) → IsHome 
   pub call_plain : (f : ℕ) (v : Option ℕ) (g : ℕ) (xs : List Argument) (live : VariableSet) → AllPlain (call_code plan variables f v g xs live)
   call_plain f v g xs live =
       let rs = live_registers plan (variables f) f live in
-      plain_append _ _ (arguments_plain f g xs) (plain_append _ _ (save_plain _ rs) (plain_append (deeper_code plan f) _ (deeper_plain f) (plain_append (enter_code (plan.entry g)) _ (enter_plain (plan.entry g))
+      plain_append _ _ (arguments_plain f g xs) (plain_append _ _ (save_plain _ rs) (plain_append (deeper_code plan f) _ (deeper_plain f) (plain_append (enter_code plan.near (plan.entry g)) _ (enter_plain plan.near (plan.entry g))
       (plain_append (back_code plan f) _ (back_plain f) (plain_append _ _ (restore_plain _ rs) (result_plain (variables f) (plan.home f) (good f) v))))))
 
   link_plain : (leaf : Bool) → AllPlain (store_link leaf)
@@ -398,6 +399,6 @@ start_plain plan main frames =
     let addresses : List Inst = number_code 4 (plan.memory - 16) ++ Addi 10 0 (pos 1) ∷ [] in
     let plain : AllPlain addresses = plain_append (number_code 4 (plan.memory - 16)) (Addi 10 0 (pos 1) ∷ []) (number_plain 4 (plan.memory - 16) (omega arith)) ((omega arith, omega arith, omega arith), tt) in
     let stay : List Inst = residents_code 27 plan.residents in
-    plain_append (number_code 3 frames ++ (stay ++ (if plan.by_a then addresses else []))) (enter_code (plan.entry main))
+    plain_append (number_code 3 frames ++ (stay ++ (if plan.by_a then addresses else []))) (enter_code plan.near (plan.entry main))
     (plain_append (number_code 3 frames) _ (number_plain 3 frames (omega arith)) (plain_append stay _ (residents_plain 27 plan.residents (omega arith)) (plain_either plan.by_a addresses [] plain tt)))
-    (enter_plain (plan.entry main))
+    (enter_plain plan.near (plan.entry main))

@@ -22,11 +22,11 @@ use Rattle.dae_select_walks.specs.Homes.{Contents, resident_home, resident_regis
 use Rattle.dae_select_walks.specs.Agrees.{Plan, Moment, AreResident, Shows, Stands}
 use Rattle.dae_select_walks.proofs.LawsOfWalks.{comes_map, comes_then}
 use Rattle.dae_select_walks.proofs.LawsOfWalks.{put}
-use Rattle.dae_select_blocks.specs.Blocks.{number_code, residents_code, enter_code, restore_code}
+use Rattle.dae_select_blocks.specs.Blocks.{number_code, residents_code, enter_code, restore_code, enter_words}
 use Rattle.dae_select_blocks.specs.Code.{registers_in, entry_code, start_code}
 use Rattle.dae_select_blocks.specs.Fits.{Fits}
 use Rattle.dae_select_blocks.specs.Laws.{opened_with, CodeBegins}
-use Rattle.dae_select_blocks.proofs.Lengths.{entry_alone, opening_short, residents_short, finish_some}
+use Rattle.dae_select_blocks.proofs.Lengths.{entry_alone, opening_short, residents_short, finish_some, enter_long}
 use Rattle.dae_select_blocks.specs.Wanted.{IsLinked}
 use Rattle.dae_select_blocks.proofs.Plain.{put_same, put_other, computes}
 use Rattle.dae_select_blocks.proofs.Frames.{runs_number}
@@ -158,32 +158,34 @@ module _ (s : Setting) (plan : Plan) (variables : ℕ → ℕ) (fine : Fits s pl
       let m : Moment = record { function = main; env = (λ _. 0); frame = first; waiting = [] } in
       let most = fine.common in let low = linked.low in
       let start = linked.start main there in let near = linked.near main there in let entry = linked.entry main there in
-      let size = length-append (before_main first) (enter_code (plan.entry main)) in
-      let one = begun first fits (omega arith) (code_take s.code 0 (before_main first) (enter_code (plan.entry main)) at) in
-      let jump = code_drop s.code 0 (before_main first) (enter_code (plan.entry main)) at in
+      let size = length-append (before_main first) (enter_code plan.near (plan.entry main)) in
+      let jump_long = enter_long plan.near (plan.entry main) in
+      let one = begun first fits (omega arith) (code_take s.code 0 (before_main first) (enter_code plan.near (plan.entry main)) at) in
+      let jump = code_drop s.code 0 (before_main first) (enter_code plan.near (plan.entry main)) at in
       let largest = fine.largest main in let long = fine.words main in let wide = fine.private in
       let once = times_least plan.limit plan.largest deep in
-      let two = comes_then s one (λ q b. comes_then s (jumps_in s plan variables fine entries linked (plan.entry main) (omega arith) (omega arith) jump b.shows) (λ r j.
-      let c1 : Contents = put 1 (4 * (0 + length (before_main first) + 2)) (put 5 j.0 b.contents) in
-      let back : 0 + length (before_main first) + 2 ≡ plan.finish = omega arith in
+      let two = comes_then s one (λ q b. comes_then s (jumps_in s plan variables fine entries linked (plan.entry main) plan.near (linked.close main there) (omega arith) (omega arith) jump b.shows) (λ r j.
+      let c1 : Contents = put 1 (4 * (0 + length (before_main first) + enter_words plan.near)) j.0 in
+      let back : 0 + length (before_main first) + enter_words plan.near ≡ plan.finish = omega arith in
       let to : ℕ → Env → Processor → Type 0 = λ k env o. Stands plan (entries main) m k o in
-      let l1 = like_put 5 j.0 b.contents j.1 b.shows.fits in
-      let l2 = like_put 1 (4 * (0 + length (before_main first) + 2)) (put 5 j.0 b.contents) (omega arith) l1.fits in
-      let near' : 4 * (0 + length (before_main first) + 2) < 2 ^ 32 = omega arith in
+      let l1 = j.1 in
+      let l2 = like_put 1 (4 * (0 + length (before_main first) + enter_words plan.near)) j.0 (omega arith) l1.fits in
+      let pointer : c1.register 2 ≡ 0 = l1.registers 2 (omega arith) ∙ b.two in
+      let near' : 4 * (0 + length (before_main first) + enter_words plan.near) < 2 ^ 32 = omega arith in
       let rs : List ℕ = registers_in (plan.home main) (variables main) (entries main) in
       let run : Runs s plan.private to (entry_code plan variables main (entries main)) c1 (Went (λ _. 0)) =
-      runs_link s plan variables fine entries linked to main 0 (restore_code rs) b.two (omega arith) near' b.shows.holds (λ c2 kept'.
-      let last : Runs s plan.private to (restore_code rs ++ []) c2 (Went (λ _. 0)) = runs_restore s plan variables fine to 0 rs [] (λ q e. register_kept (plan.home main) (variables main) q (entries main) e) (kept'.registers 2 ∙ b.two) (omega arith) (λ j. rw (kept'.registers j) (l2.fits j)) kept'.small (λ c3 restored.
+      runs_link s plan variables fine entries linked to main 0 (restore_code rs) pointer (omega arith) near' (λ i. subst (λ (x : ℕ). x < 2 ^ 32) (sym (l1.words i)) (b.shows.holds i)) (λ c2 kept'.
+      let last : Runs s plan.private to (restore_code rs ++ []) c2 (Went (λ _. 0)) = runs_restore s plan variables fine to 0 rs [] (λ q e. register_kept (plan.home main) (variables main) q (entries main) e) (kept'.registers 2 ∙ pointer) (omega arith) (λ j. rw (kept'.registers j) (l2.fits j)) kept'.small (λ c3 restored.
       runs_nothing s plan.private to (λ k o shows. record {
         contents = c3;
         shows = shows;
         agrees = record {
           base = 0;
           variables = (λ u e. absurd (contradicts u e));
-          pointer = restored.others 2 (among_not (plan.home main) (variables main) 2 (entries main) refl) ∙ (kept'.registers 2 ∙ b.two);
-          frame = restored.others 3 (among_not (plan.home main) (variables main) 3 (entries main) refl) ∙ (kept'.registers 3 ∙ b.three);
-          depth = (λ e. restored.others 10 (among_not (plan.home main) (variables main) 10 (entries main) refl) ∙ (kept'.registers 10 ∙ b.ten e));
-          addresses = (λ e. restored.others 4 (among_not (plan.home main) (variables main) 4 (entries main) refl) ∙ (kept'.registers 4 ∙ b.four e));
+          pointer = restored.others 2 (among_not (plan.home main) (variables main) 2 (entries main) refl) ∙ (kept'.registers 2 ∙ pointer);
+          frame = restored.others 3 (among_not (plan.home main) (variables main) 3 (entries main) refl) ∙ (kept'.registers 3 ∙ (l1.registers 3 (omega arith) ∙ b.three));
+          depth = (λ e. restored.others 10 (among_not (plan.home main) (variables main) 10 (entries main) refl) ∙ (kept'.registers 10 ∙ (l1.registers 10 (omega arith) ∙ b.ten e)));
+          addresses = (λ e. restored.others 4 (among_not (plan.home main) (variables main) 4 (entries main) refl) ∙ (kept'.registers 4 ∙ (l1.registers 4 (omega arith) ∙ b.four e)));
           residents = (λ n o e.
               let high = resident_high (resident_home 27 plan.residents n) o e in
               restored.others o (among_other (plan.home main) (variables main) o (entries main) (λ v l. fine.apart main v n o l e))

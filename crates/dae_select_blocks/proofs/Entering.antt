@@ -22,16 +22,16 @@ use Rattle.dae_select_walks.specs.Agrees.{Plan, Moment, Waiting, Agrees, Shows, 
 use Rattle.dae_select_walks.specs.Compiled.{given, called, waiting_of}
 use Rattle.dae_select_walks.proofs.LawsOfWalks.{comes_here, comes_more, comes_then}
 use Rattle.dae_select_walks.proofs.LawsOfWalks.{put, store, step}
-use Rattle.dae_select_blocks.specs.Blocks.{upper, lower, waits_at, arguments_code, save_code, restore_code, store_link, deeper_code, enter_code}
+use Rattle.dae_select_blocks.specs.Blocks.{upper, lower, waits_at, arguments_code, save_code, restore_code, store_link, deeper_code, enter_code, enter_words, is_immediate}
 use Rattle.dae_select_blocks.specs.Code.{registers_in, entry_code}
 use Rattle.dae_select_blocks.specs.Fits.{Fits}
 use Rattle.dae_select_blocks.specs.Wanted.{AreGiven, gives, IsLinked}
-use Rattle.dae_select_blocks.proofs.Halves.{halves}
+use Rattle.dae_select_blocks.proofs.Halves.{halves, immediate_word}
 use Rattle.dae_select_blocks.proofs.Plain.{plain_computes, stores_word}
 use Rattle.dae_select_blocks.proofs.Frames.{upper_small}
 use Rattle.dae_select_blocks.proofs.Runs.{Runs, runs_nothing, runs_quiet}
-use Rattle.dae_select_blocks.proofs.Agreement.{Ready, resident_high, kept_small, waiting_same, waiting_kept, address_same}
-use Rattle.dae_select_blocks.proofs.Operands.{like_put}
+use Rattle.dae_select_blocks.proofs.Agreement.{Ready, resident_high, kept_small, waiting_same, waiting_kept, address_same, Like}
+use Rattle.dae_select_blocks.proofs.Operands.{like_put, like_itself}
 use Rattle.dae_select_blocks.proofs.Calls.{kept_low, among, kept_register, register_kept, Saved, runs_arguments, runs_save, runs_restore, among_not, among_other}
 use Rattle.dae_select_blocks.proofs.Deeper.{runs_deeper}
 use Rattle.dae_select_blocks.proofs.Jumps.{ready}
@@ -112,15 +112,31 @@ module _ (s : Setting) (plan : Plan) (variables : ℕ → ℕ) (fine : Fits s pl
 
   -- ---- the jump, and the entry code
 
-  pub jumps_in : {c : Contents} {k : ℕ} {p : Processor} (target : ℕ) → k + 2 < 2 ^ 29 → target < 2 ^ 29 → CodeAt s.code k (enter_code target) → Shows plan.private c k p → Comes s 2 p (λ q. (u : ℕ) × (u < 2 ^ 32) × Shows plan.private (put 1 (4 * (k + 2)) (put 5 u c)) target q)
-  jumps_in {c} {k} target small near at h =
+  small_immediate : (n : ℕ) → n < 2 ^ 11 → is_immediate n ≡ true
+  unfolding is_immediate
+  small_immediate n low = grind (arith, nat_tests)
+
+  -- which leaves the address to return to in x1, and anything in x5
+  pub jumps_in : {c : Contents} {k : ℕ} {p : Processor} (target : ℕ) (near : Bool) → (near ≡ true → target < 512) → k + enter_words near < 2 ^ 29 → target < 2 ^ 29 → CodeAt s.code k (enter_code near target) → Shows plan.private c k p →
+      Comes s (enter_words near) p (λ q. (c' : Contents) × Like 5 c c' × Shows plan.private (put 1 (4 * (k + enter_words near)) c') target q)
+  jumps_in {c} {k} target true close small low at h =
+      let reach = close refl in
+      let few : 4 * target < 2 ^ 11 = omega arith in
+      let is : word (lower (4 * target)) ≡ 4 * target = immediate_word (4 * target) (omega arith) (small_immediate (4 * target) few) in
+      let none : c.register 0 ≡ 0 = h.zero in
+      let sum : plus (c.register 0) (word (lower (4 * target))) ≡ 4 * target = rw (none, is) (omega arith) in
+      let lands : plus (c.register 0) (word (lower (4 * target))) / 2 * 2 ≡ 4 * target = rw sum (omega arith) in
+      let only = step s plan.private (Jalr 1 0 (lower (4 * target))) 1 0 0 0 target at.0 (λ pc x y. plus pc 4) (λ pc x y. plus x (word (lower (4 * target))) / 2 * 2) Nothing h at.1 at.2 refl (plain_computes s.copies s.side 1 0 0 (omega arith) (omega arith) (omega arith)) (plus_small (4 * k) 4) lands in
+      let back : plus (4 * k) 4 ≡ 4 * (k + 1) = omega arith in
+      comes_more s only.goes (comes_here s {n = 0} (c, like_itself 5 c h.fits, rw back at only.holds))
+  jumps_in {c} {k} target false close small near at h =
       let u : ℕ = word (upper (4 * target)) in
       let first = step s plan.private (Lui 5 (upper (4 * target))) 5 0 0 0 (k + 1) at.0 (λ pc x y. word (upper (4 * target))) (λ pc x y. plus pc 4) Nothing h at.1 at.2 refl (plain_computes s.copies s.side 5 0 0 (omega arith) (omega arith) (omega arith)) (upper_small (4 * target)) (omega arith) in
       let sum : plus u (word (lower (4 * target))) ≡ 4 * target = halves (4 * target) (omega arith) in
       let lands : plus u (word (lower (4 * target))) / 2 * 2 ≡ 4 * target = rw sum (omega arith) in
       let second = step s plan.private (Jalr 1 5 (lower (4 * target))) 1 5 0 0 target at.3.0 (λ pc x y. plus pc 4) (λ pc x y. plus x (word (lower (4 * target))) / 2 * 2) Nothing first.holds at.3.1 at.3.2 refl (plain_computes s.copies s.side 1 5 0 (omega arith) (omega arith) (omega arith)) (plus_small (4 * (k + 1)) 4) lands in
       let back : plus (4 * (k + 1)) 4 ≡ 4 * (k + 2) = omega arith in
-      comes_more s first.goes (comes_more s second.goes (comes_here s {n = 0} (u, upper_small (4 * target), rw back at second.holds)))
+      comes_more s first.goes (comes_more s second.goes (comes_here s {n = 0} (put 5 u c, like_put 5 u c (upper_small (4 * target)) h.fits, rw back at second.holds)))
 
   step_down : (n k : ℕ) → 0 < n → n * k ≡ k + (n - 1) * k
   step_down zero k h = absurd (omega arith)
@@ -137,8 +153,8 @@ module _ (s : Setting) (plan : Plan) (variables : ℕ → ℕ) (fine : Fits s pl
     pub ten : c.register 10 ≡ before'.register 10
     pub residents : (n r : ℕ) → resident_register (resident_home 27 plan.residents n) ≡ Some r → c.register r ≡ before'.register r
 
-  arrives : {live : VariableSet} {m : Moment} {k : ℕ} {p : Processor} (v : Option ℕ) (behind : VariableSet) (g : ℕ) (xs : List Argument) {c0 c : Contents} (h : Ready plan live m c0) → ((u : ℕ) → entries g u ≡ true → gives xs u ≡ true) → k + 2 < 2 ^ 29 → IsWithin plan (called plan g xs (waiting_of v behind (k + 2) m) m) →
-      (q : Prepared plan m (waiting_of v behind (k + 2) m) h.agrees.base g xs k p) → Arrived m (waiting_of v behind (k + 2) m) h.agrees.base g q.contents c → Agrees plan (entries g) (called plan g xs (waiting_of v behind (k + 2) m) m) c
+  arrives : {live : VariableSet} {m : Moment} {k : ℕ} {p : Processor} (v : Option ℕ) (behind : VariableSet) (g : ℕ) (xs : List Argument) {c0 c : Contents} (h : Ready plan live m c0) → ((u : ℕ) → entries g u ≡ true → gives xs u ≡ true) → k + enter_words plan.near < 2 ^ 29 → IsWithin plan (called plan g xs (waiting_of v behind (k + enter_words plan.near) m) m) →
+      (q : Prepared plan m (waiting_of v behind (k + enter_words plan.near) m) h.agrees.base g xs k p) → Arrived m (waiting_of v behind (k + enter_words plan.near) m) h.agrees.base g q.contents c → Agrees plan (entries g) (called plan g xs (waiting_of v behind (k + enter_words plan.near) m) m) c
   arrives {live} {m} {k} v behind g xs {c0} {c} h wanted small within q a =
       let b : ℕ = h.agrees.base + plan.words m.function in
       let long = fine.words m.function in
@@ -146,7 +162,7 @@ module _ (s : Setting) (plan : Plan) (variables : ℕ → ℕ) (fine : Fits s pl
       let room = h.agrees.room in let wide = fine.largest m.function in
       let once = step_down (plan.limit + 1 - depth_of m) plan.largest (omega arith) in
       let same : plan.limit + 1 - depth_of m - 1 ≡ plan.limit + 1 - (depth_of m + 1) = omega arith in
-      let next : depth_of m + 1 ≡ depth_of (called plan g xs (waiting_of v behind (k + 2) m) m) = omega arith in
+      let next : depth_of m + 1 ≡ depth_of (called plan g xs (waiting_of v behind (k + enter_words plan.near) m) m) = omega arith in
       let room' : h.agrees.base + (plan.largest + (plan.limit + 1 - (depth_of m + 1)) * plan.largest) ≤ plan.private = (rw (once, same) at room) in
       record {
         base = b;
@@ -215,11 +231,11 @@ module _ (s : Setting) (plan : Plan) (variables : ℕ → ℕ) (fine : Fits s pl
           runs_quiet s plan.private to (stores_word s plan.private to 2 1 (pos 0) base (omega arith) (omega arith) found inside) (
           run c2 (record { address = found_in c2 false e ∙ here; words = others; registers = λ j. refl; small = λ i. choice_small (nat_eq i base) v (c.word i) fits (small i) }))
 
-  pub enters : {live : VariableSet} {m : Moment} {k : ℕ} {p : Processor} (v : Option ℕ) (behind : VariableSet) (g : ℕ) (xs : List Argument) {c : Contents} (h : Ready plan live m c) → g < plan.functions → ((u : ℕ) → entries g u ≡ true → gives xs u ≡ true) → k + 2 < 2 ^ 29 → IsWithin plan (called plan g xs (waiting_of v behind (k + 2) m) m) →
-      CodeAt s.code k (enter_code (plan.entry g)) → Prepared plan m (waiting_of v behind (k + 2) m) h.agrees.base g xs k p →
-      Comes s (2 + length (entry_code plan variables g (entries g))) p (Stands plan (entries g) (called plan g xs (waiting_of v behind (k + 2) m) m) (plan.start g))
+  pub enters : {live : VariableSet} {m : Moment} {k : ℕ} {p : Processor} (v : Option ℕ) (behind : VariableSet) (g : ℕ) (xs : List Argument) {c : Contents} (h : Ready plan live m c) → g < plan.functions → ((u : ℕ) → entries g u ≡ true → gives xs u ≡ true) → k + enter_words plan.near < 2 ^ 29 → IsWithin plan (called plan g xs (waiting_of v behind (k + enter_words plan.near) m) m) →
+      CodeAt s.code k (enter_code plan.near (plan.entry g)) → Prepared plan m (waiting_of v behind (k + enter_words plan.near) m) h.agrees.base g xs k p →
+      Comes s (enter_words plan.near + length (entry_code plan variables g (entries g))) p (Stands plan (entries g) (called plan g xs (waiting_of v behind (k + enter_words plan.near) m) m) (plan.start g))
   enters {live} {m} {k} {p} v behind g xs {c} h there wanted small within at q =
-      let w : Waiting = waiting_of v behind (k + 2) m in
+      let w : Waiting = waiting_of v behind (k + enter_words plan.near) m in
       let base : ℕ = h.agrees.base in
       let b : ℕ = base + plan.words m.function in
       let rs : List ℕ = registers_in (plan.home g) (variables g) (entries g) in
@@ -227,27 +243,28 @@ module _ (s : Setting) (plan : Plan) (variables : ℕ → ℕ) (fine : Fits s pl
       let deep = within.depth in
       let inside = room_for h g (omega arith) in
       let entry = linked.entry g there in let start = linked.start g there in let near = linked.near g there in
-      comes_then s (jumps_in (plan.entry g) small (omega arith) at q.shows) (λ r j.
-      let c1 : Contents = put 1 (4 * (k + 2)) (put 5 j.0 q.contents) in
+      comes_then s (jumps_in (plan.entry g) plan.near (linked.close g there) small (omega arith) at q.shows) (λ r j.
+      let c1 : Contents = put 1 (4 * (k + enter_words plan.near)) j.0 in
       let to : ℕ → Env → Processor → Type 0 = λ word env o. Stands plan (entries g) (called plan g xs w m) word o in
-      let l1 = like_put 5 j.0 q.contents j.1 q.shows.fits in
-      let l2 = like_put 1 (4 * (k + 2)) (put 5 j.0 q.contents) (omega arith) l1.fits in
-      let near' : 4 * (k + 2) < 2 ^ 32 = omega arith in
+      let l1 = j.1 in
+      let l2 = like_put 1 (4 * (k + enter_words plan.near)) j.0 (omega arith) l1.fits in
+      let pointer : c1.register 2 ≡ 4 * b = l1.registers 2 (omega arith) ∙ q.two in
+      let near' : 4 * (k + enter_words plan.near) < 2 ^ 32 = omega arith in
       let good : (r : ℕ) → among r rs ≡ true → is_home_register r ≡ true = λ r e. register_kept (plan.home g) (variables g) r (entries g) e in
       let run : Runs s plan.private to (entry_code plan variables g (entries g)) c1 (Went m.env) =
-      runs_link to g b (restore_code rs) q.two (omega arith) near' q.shows.holds (λ c2 kept'.
-      let last : Runs s plan.private to (restore_code rs ++ []) c2 (Went m.env) = runs_restore s plan variables fine to b rs [] good (kept'.registers 2 ∙ q.two) (omega arith) (λ j. rw (kept'.registers j) (l2.fits j)) kept'.small (λ c3 restored.
+      runs_link to g b (restore_code rs) pointer (omega arith) near' (λ i. subst (λ (x : ℕ). x < 2 ^ 32) (sym (l1.words i)) (q.shows.holds i)) (λ c2 kept'.
+      let last : Runs s plan.private to (restore_code rs ++ []) c2 (Went m.env) = runs_restore s plan variables fine to b rs [] good (kept'.registers 2 ∙ pointer) (omega arith) (λ j. rw (kept'.registers j) (l2.fits j)) kept'.small (λ c3 restored.
       runs_nothing s plan.private to {env = m.env} (λ word o shows. record {
         contents = c3;
         shows = shows;
         agrees = arrives v behind g xs h wanted (omega arith) within q (record {
           back = address_same s plan variables fine g b c2 c3 (restored.others 1 (among_not (plan.home g) (variables g) 1 (entries g) refl)) (restored.words b) ∙ kept'.address;
-          words = λ i ne. restored.words i ∙ kept'.words i ne;
-          registers = λ r e. (let low = kept_low r (good r e) in restored.kept r e ∙ kept'.words (b + kept_at r) (omega arith));
-          two = restored.others 2 (among_not (plan.home g) (variables g) 2 (entries g) refl) ∙ kept'.registers 2;
-          three = restored.others 3 (among_not (plan.home g) (variables g) 3 (entries g) refl) ∙ kept'.registers 3;
-          four = restored.others 4 (among_not (plan.home g) (variables g) 4 (entries g) refl) ∙ kept'.registers 4;
-          ten = restored.others 10 (among_not (plan.home g) (variables g) 10 (entries g) refl) ∙ kept'.registers 10;
+          words = λ i ne. restored.words i ∙ (kept'.words i ne ∙ l1.words i);
+          registers = λ r e. (let low = kept_low r (good r e) in restored.kept r e ∙ (kept'.words (b + kept_at r) (omega arith) ∙ l1.words (b + kept_at r)));
+          two = restored.others 2 (among_not (plan.home g) (variables g) 2 (entries g) refl) ∙ (kept'.registers 2 ∙ l1.registers 2 (omega arith));
+          three = restored.others 3 (among_not (plan.home g) (variables g) 3 (entries g) refl) ∙ (kept'.registers 3 ∙ l1.registers 3 (omega arith));
+          four = restored.others 4 (among_not (plan.home g) (variables g) 4 (entries g) refl) ∙ (kept'.registers 4 ∙ l1.registers 4 (omega arith));
+          ten = restored.others 10 (among_not (plan.home g) (variables g) 10 (entries g) refl) ∙ (kept'.registers 10 ∙ l1.registers 10 (omega arith));
           residents = λ n o e.
               let high = resident_high (resident_home 27 plan.residents n) o e in
               restored.others o (among_other (plan.home g) (variables g) o (entries g) (λ v l. fine.apart g v n o l e))

@@ -77,8 +77,9 @@ addi_one_less : (t x : ℕ) → t < 32 → x < 32 → InRange (Addi t x (negsuc 
 unfolding InRange layout
 addi_one_less t x a b = (a, b, (omega (arith, ints), omega (arith, ints)))
 
-enter_fits : (word : ℕ) → AllFit (enter_code word)
-enter_fits word = (lui_fits 5 (4 * word) (omega arith), (jalr_fits 1 5 (4 * word) (omega arith) (omega arith), tt))
+enter_fits : (near : Bool) (word : ℕ) → AllFit (enter_code near word)
+enter_fits true word = (jalr_fits 1 0 (4 * word) (omega arith) (omega arith), tt)
+enter_fits false word = (lui_fits 5 (4 * word) (omega arith), (jalr_fits 1 5 (4 * word) (omega arith) (omega arith), tt))
 
 number_small : (spelling : Spelling) → call_number spelling < 2 ^ 11
 number_small Byte = omega arith
@@ -122,7 +123,7 @@ module _ (plan : Plan) (variables : ℕ → ℕ) (good : (f v : ℕ) → IsHome 
   call_fits : (f : ℕ) (v : Option ℕ) (g : ℕ) (xs : List Argument) (live : VariableSet) → AllFit (call_code plan variables f v g xs live)
   call_fits f v g xs live =
       let rs = live_registers plan (variables f) f live in
-      fit_append _ _ (arguments_fit f g xs) (fit_append _ _ (save_fits _ rs) (fit_append (deeper_code plan f) _ (deeper_fits f) (fit_append (enter_code (plan.entry g)) _ (enter_fits (plan.entry g))
+      fit_append _ _ (arguments_fit f g xs) (fit_append _ _ (save_fits _ rs) (fit_append (deeper_code plan f) _ (deeper_fits f) (fit_append (enter_code plan.near (plan.entry g)) _ (enter_fits plan.near (plan.entry g))
       (fit_append (back_code plan f) _ (returning_fits f) (fit_append _ _ (restore_fits _ rs) (result_fits (variables f) (plan.home f) (good f) v))))))
 
   module _ (short : Bool) where
@@ -253,7 +254,7 @@ start_fits plan main frames =
     let addresses : List Inst = number_code 4 (plan.memory - 16) ++ Addi 10 0 (pos 1) ∷ [] in
     let fit : AllFit addresses = fit_append (number_code 4 (plan.memory - 16)) (Addi 10 0 (pos 1) ∷ []) (number_fits 4 (plan.memory - 16) (omega arith)) (addi_small 10 0 1 (omega arith) (omega arith) (omega arith), tt) in
     let stay : List Inst = residents_code 27 plan.residents in
-    fit_append (number_code 3 frames ++ (stay ++ (if plan.by_a then addresses else []))) (enter_code (plan.entry main))
+    fit_append (number_code 3 frames ++ (stay ++ (if plan.by_a then addresses else []))) (enter_code plan.near (plan.entry main))
     (fit_append (number_code 3 frames) (stay ++ (if plan.by_a then addresses else [])) (number_fits 3 frames (omega arith))
     (fit_append stay (if plan.by_a then addresses else []) (residents_fit 27 plan.residents (omega arith)) (fit_either plan.by_a addresses [] (λ e. fit) (λ e. tt))))
-    (enter_fits (plan.entry main))
+    (enter_fits plan.near (plan.entry main))

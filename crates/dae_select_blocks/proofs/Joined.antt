@@ -27,7 +27,7 @@ use Rattle.dae_select_walks.specs.Agrees.{Plan, Moment, Stands, AreWaiting, IsWi
 use Rattle.dae_select_walks.specs.Compiled.{Exits, exit, ways_of, At, MainEnds, waiting_of, called, result_of, with_env, with_result}
 use Rattle.dae_select_walks.proofs.LawsOfWalks.{nears_here, comes_map, comes_then, comes_does, does_map}
 use Rattle.dae_select_walks.proofs.LawsOfWalks.{put, step_ends, step_stops}
-use Rattle.dae_select_blocks.specs.Blocks.{arguments_code, save_code, restore_code, deeper_code, enter_code, back_code, result_code, leave_code}
+use Rattle.dae_select_blocks.specs.Blocks.{arguments_code, save_code, restore_code, deeper_code, enter_code, back_code, result_code, leave_code, enter_words}
 use Rattle.dae_select_blocks.specs.Code.{registers_in, entry_code, finish_code, call_code}
 use Rattle.dae_select_blocks.specs.Fits.{Fits}
 use Rattle.dae_select_blocks.specs.Wanted.{IsLinked, IsPlanOf}
@@ -36,6 +36,7 @@ use Rattle.dae_select_blocks.proofs.Runs.{Runs, runs_quiet, runs_halt, code_take
 use Rattle.dae_select_blocks.proofs.Computing.{plus_zero}
 use Rattle.dae_select_blocks.proofs.Whole.{Stood, Done'}
 use Rattle.dae_select_blocks.proofs.Jumps.{ready}
+use Rattle.dae_select_blocks.proofs.Lengths.{enter_long, enter_few}
 use Rattle.dae_select_blocks.proofs.Entering.{prepares, enters}
 use Rattle.dae_select_blocks.proofs.Leaving.{leaves, return_done, resumes, Goes'}
 
@@ -89,15 +90,17 @@ module _ (s : Setting) (plan : Plan) (variables : ℕ → ℕ) (fine : Fits s pl
   without v k u = k u && not (is v u)
 
   abbrev pub back_of : ℕ → ℕ → ℕ → List Argument → Option ℕ → VariableSet → ℕ
-  back_of here f g xs v k = here + length (prepared_code f g xs (without v k)) + 2
+  back_of here f g xs v k = here + length (prepared_code f g xs (without v k)) + enter_words plan.near
 
-  whole_length : (f g : ℕ) (v : Option ℕ) (xs : List Argument) (k : VariableSet) → length (call_code plan variables f v g xs (without v k)) ≡ length (prepared_code f g xs (without v k)) + 2 + length (resumed_code f v (without v k))
+  whole_length : (f g : ℕ) (v : Option ℕ) (xs : List Argument) (k : VariableSet) → length (call_code plan variables f v g xs (without v k)) ≡ length (prepared_code f g xs (without v k)) + enter_words plan.near + length (resumed_code f v (without v k))
   whole_length f g v xs k =
       let rs = registers_in (plan.home f) (variables f) (without v k) in
       let rest : List Inst = resumed_code f v (without v k) in
-      let l1 = length-append (arguments_code plan f g xs) (save_code rs ++ (deeper_code plan f ++ (enter_code (plan.entry g) ++ rest))) in
-      let l2 = length-append (save_code rs) (deeper_code plan f ++ (enter_code (plan.entry g) ++ rest)) in
-      let l3 = length-append (deeper_code plan f) (enter_code (plan.entry g) ++ rest) in
+      let l1 = length-append (arguments_code plan f g xs) (save_code rs ++ (deeper_code plan f ++ (enter_code plan.near (plan.entry g) ++ rest))) in
+      let l2 = length-append (save_code rs) (deeper_code plan f ++ (enter_code plan.near (plan.entry g) ++ rest)) in
+      let l3 = length-append (deeper_code plan f) (enter_code plan.near (plan.entry g) ++ rest) in
+      let l6 = length-append (enter_code plan.near (plan.entry g)) rest in
+      let jump = enter_long plan.near (plan.entry g) in
       let l4 = length-append (arguments_code plan f g xs) (save_code rs ++ deeper_code plan f) in
       let l5 = length-append (save_code rs) (deeper_code plan f) in
       omega arith
@@ -111,11 +114,13 @@ module _ (s : Setting) (plan : Plan) (variables : ℕ → ℕ) (fine : Fits s pl
       let rest : List Inst = resumed_code f v (without v k) in
       let small = t.small in
       let total = whole_length f g v xs k in
-      let at' : CodeAt s.code here (prep ++ (enter_code (plan.entry g) ++ rest)) = (let a = t.stands in rw (append_assoc, append_assoc) a) in
-      let first = code_take s.code here prep (enter_code (plan.entry g) ++ rest) at' in
-      let second = code_drop s.code here prep (enter_code (plan.entry g) ++ rest) at' in
-      let jump = code_take s.code (here + length prep) (enter_code (plan.entry g)) rest second in
-      let third = code_drop s.code (here + length prep) (enter_code (plan.entry g)) rest second in
+      let few = enter_few plan.near in
+      let at' : CodeAt s.code here (prep ++ (enter_code plan.near (plan.entry g) ++ rest)) = (let a = t.stands in rw (append_assoc, append_assoc) a) in
+      let first = code_take s.code here prep (enter_code plan.near (plan.entry g) ++ rest) at' in
+      let second = code_drop s.code here prep (enter_code plan.near (plan.entry g) ++ rest) at' in
+      let jump = code_take s.code (here + length prep) (enter_code plan.near (plan.entry g)) rest second in
+      let third : CodeAt s.code (here + length prep + enter_words plan.near) rest =
+      subst (λ (n : ℕ). CodeAt s.code (here + length prep + n) rest) (enter_long plan.near (plan.entry g)) (code_drop s.code (here + length prep) (enter_code plan.near (plan.entry g)) rest second) in
       let scope : (u : ℕ) → live u ≡ true → u < variables f = λ u e. t.right.scope u (rw e refl) in
       let keeps : (u : ℕ) → (k u && not (is v u)) ≡ true → live u ≡ true = λ u e. rw e (or_true (in_arguments xs u)) in (
         back_of here f g xs v k,
@@ -125,13 +130,13 @@ module _ (s : Setting) (plan : Plan) (variables : ℕ → ℕ) (fine : Fits s pl
             subst (λ (j : ℕ). Comes s (widest + 6 * length xs) p (At s plan program entries most widest g (exit (plan.start g) (entries g)) (called plan g xs (waiting_of v k (back_of here j g xs v k) m) m))) e (
             let prep' : List Inst = prepared_code m.function g xs (without v k) in
             let first' : CodeAt s.code here prep' = rw e first in
-            let jump' : CodeAt s.code (here + length prep') (enter_code (plan.entry g)) = rw e jump in
+            let jump' : CodeAt s.code (here + length prep') (enter_code plan.near (plan.entry g)) = rw e jump in
             let scope' : (u : ℕ) → live u ≡ true → u < variables m.function = rw e scope in
             let wide' : length prep' + 2 + length (entry_code plan variables g (entries g)) ≤ widest + 6 * length xs = rw e wide in
-            let fits : here + length prep' + 2 < 2 ^ 29 = rw e (omega arith) in
+            let fits : here + length prep' + enter_words plan.near < 2 ^ 29 = rw e (omega arith) in
             let calls' : plan.leaf m.function ≡ false = (let a = t.wanted.4 in rw e a) in
-            let within' : IsWithin plan (called plan g xs (waiting_of v k (here + length prep' + 2) m) m) = record { depth = within.depth; frame = within.frame } in
-            let both = comes_then s (prepares s plan variables fine entries linked v k g xs (waiting_of v k (here + length prep' + 2) m) h.1 refl (λ u e. rw e refl) keeps scope' t.wanted.0 t.wanted.3 calls' within' (omega arith) first')
+            let within' : IsWithin plan (called plan g xs (waiting_of v k (here + length prep' + enter_words plan.near) m) m) = record { depth = within.depth; frame = within.frame } in
+            let both = comes_then s (prepares s plan variables fine entries linked v k g xs (waiting_of v k (here + length prep' + enter_words plan.near) m) h.1 refl (λ u e. rw e refl) keeps scope' t.wanted.0 t.wanted.3 calls' within' (omega arith) first')
             (λ q prepared. enters s plan variables fine entries linked v k g xs h0 t.wanted.1 t.wanted.2 fits within' jump' prepared) in
             comes_map s (widest + 6 * length xs) (omega arith) (λ q z. (refl, z)) both)),
         (λ m result p e within answered l.

@@ -29,7 +29,7 @@ use Rattle.dae_select_walks.specs.declared.Home.{Home}
 use Rattle.dae_select_walks.specs.declared.Home.TheVariants.{Register, Slot}
 use Rattle.dae_select_walks.specs.Homes.{slot_at, kept_at, number_key, resident_register}
 use Rattle.dae_select_walks.specs.Agrees.{Plan}
-use Rattle.dae_select_blocks.specs.Blocks.{operation_code, issue_code, address_code, call_number, over, is_register, number_code, load_code, store_code, register_or, source, fetch_home, fetch, keep, compare_code, test_code, extend_code, value_code, fail_code, align_code, bounds_code, room_code, check_code, take_code, hear_code, stop_code, arguments_code, save_code, restore_code, deeper_code, back_code, result_code, leave_code, waits_at, enter_code, more_code, less_code, is_immediate, move_code, immediate_code, exchanged_code, behind_or, combine_registers, binary_code, compare_number_code, compare_registers, compare_operands, frame_code, system_code, one_way, jump_over, jump_back, goes_by, goes_code, frames_room_code, tell_number_code, against_zero, immediate_of, goes_back, fetch_number, residents_code, as_immediate, store_link, load_link}
+use Rattle.dae_select_blocks.specs.Blocks.{operation_code, issue_code, address_code, call_number, over, is_register, number_code, load_code, store_code, register_or, source, fetch_home, fetch, keep, compare_code, test_code, extend_code, value_code, fail_code, align_code, bounds_code, room_code, check_code, take_code, hear_code, stop_code, arguments_code, save_code, restore_code, deeper_code, back_code, result_code, leave_code, waits_at, enter_code, more_code, less_code, is_immediate, move_code, immediate_code, exchanged_code, behind_or, combine_registers, binary_code, compare_number_code, compare_registers, compare_operands, frame_code, system_code, one_way, jump_over, jump_back, goes_by, goes_code, frames_room_code, tell_number_code, against_zero, immediate_of, goes_back, fetch_number, residents_code, as_immediate, store_link, load_link, enter_words}
 use Rattle.dae_select_blocks.specs.Code.{placed_code, some_below, filtered, home_registers, registers_in, with_home, early_code, action_code, branch_code, entry_code, start_code, finish_code, past_code, told_by, branch_by, ahead_by, before_branch, back_branch}
 use Rattle.dae_select_blocks.proofs.Simple.{IsSimple}
 
@@ -397,6 +397,14 @@ leave_short leaf home (Some x) = moved_short home 6 2 x (load_link leaf ++ Jalr 
 addresses_short : (n : ℕ) → length (number_code 4 n ++ Addi 10 0 (pos 1) ∷ []) ≤ 3
 addresses_short n = let l = number_short 4 n in let both = length-append (number_code 4 n) (Addi 10 0 (pos 1) ∷ []) in omega arith
 
+pub enter_long : (near : Bool) (word : ℕ) → length (enter_code near word) ≡ enter_words near
+enter_long true word = refl
+enter_long false word = refl
+
+pub enter_few : (near : Bool) → enter_words near ≤ 2
+enter_few true = omega arith
+enter_few false = omega arith
+
 pub finish_some : (b : Bool) → 1 ≤ length (finish_code b)
 finish_some true = omega arith
 finish_some false = omega arith
@@ -410,10 +418,11 @@ residents_short r (n ∷ ns) = let l = number_short r n in let rest = residents_
 pub opening_short : (plan : Plan) (main frames : ℕ) → length (start_code plan main frames) + length (finish_code plan.by_a) ≤ 8 + length (residents_code 27 plan.residents)
 opening_short plan main frames =
     let l1 = number_short 3 frames in let l2 = both plan.by_a in
+    let e1 = enter_long plan.near (plan.entry main) in let e2 = enter_few plan.near in
     let counts : List Inst = if plan.by_a then number_code 4 (plan.memory - 16) ++ Addi 10 0 (pos 1) ∷ [] else [] in
     let b0 = length-append (residents_code 27 plan.residents) counts in
     let b1 = length-append (number_code 3 frames) (residents_code 27 plan.residents ++ counts) in
-    let b2 = length-append (number_code 3 frames ++ (residents_code 27 plan.residents ++ counts)) (enter_code (plan.entry main)) in
+    let b2 = length-append (number_code 3 frames ++ (residents_code 27 plan.residents ++ counts)) (enter_code plan.near (plan.entry main)) in
     omega arith
   where
     both : (b : Bool) → length (if b then number_code 4 (plan.memory - 16) ++ Addi 10 0 (pos 1) ∷ [] else []) + length (finish_code b) ≤ 4

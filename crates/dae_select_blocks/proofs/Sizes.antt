@@ -18,12 +18,12 @@ use Rattle.dae_select_walks.specs.Facts.{Facts, facts_behind, facts_in_first, fa
 use Rattle.dae_select_walks.specs.declared.Need.{Need}
 use Rattle.dae_select_walks.specs.declared.Need.TheVariants.{All, Ends, Nothing}
 use Rattle.dae_select_walks.specs.Agrees.{Plan}
-use Rattle.dae_select_blocks.specs.Blocks.{arguments_code, save_code, restore_code, deeper_code, back_code, result_code, enter_code, jump_words, jump_over}
+use Rattle.dae_select_blocks.specs.Blocks.{arguments_code, save_code, restore_code, deeper_code, back_code, result_code, enter_code, jump_words, jump_over, enter_words}
 use Rattle.dae_select_blocks.specs.Code.{registers_in, action_code, call_code, does_nothing, standing_behind, late_code, placed_code, needed_code, block_code, code_of, tail_of, loop_code, bottom_code, bottom_test, has_bottom, leaves_first, is_near}
 use Rattle.dae_select_blocks.specs.Sizes.{one_call, most_words_in}
 use Rattle.dae_select_blocks.proofs.Simple.{IsSimple}
 use Rattle.dae_select_blocks.proofs.Pairs.{by_pairs}
-use Rattle.dae_select_blocks.proofs.Lengths.{value_short, simple_short, early_short, branch_short, back_branch_short, over_short, back_short, past_short, placed_short, prepared_short, resumed_short, leave_short}
+use Rattle.dae_select_blocks.proofs.Lengths.{value_short, simple_short, early_short, branch_short, back_branch_short, over_short, back_short, past_short, placed_short, prepared_short, resumed_short, leave_short, enter_long, enter_few}
 
 pub append_short : (xs ys : List Inst) (m n : ℕ) → length xs ≤ m → length ys ≤ n → length (xs ++ ys) ≤ m + n
 append_short xs ys m n h k = let l = length-append xs ys in omega arith
@@ -40,7 +40,7 @@ module _ (short : Bool) (plan : Plan) (variables : ℕ → ℕ) (f : ℕ) where
   call_length : (v : Option ℕ) (g : ℕ) (xs : List Argument) (k : VariableSet) → length (call_code plan variables f v g xs k) ≤ 56 + 6 * length xs
   call_length v g xs k =
       let rs = registers_in (plan.home f) (variables f) k in
-      let A = arguments_code plan f g xs in let B = save_code rs in let D = deeper_code plan f in let E = enter_code (plan.entry g) in
+      let A = arguments_code plan f g xs in let B = save_code rs in let D = deeper_code plan f in let E = enter_code plan.near (plan.entry g) in
       let R = back_code plan f ++ (restore_code rs ++ result_code (plan.home f) v) in
       let before' = prepared_short plan variables f g xs k in
       let after' = resumed_short plan variables f v k in
@@ -50,7 +50,8 @@ module _ (short : Bool) (plan : Plan) (variables : ℕ → ℕ) (f : ℕ) where
       let four = length-append E R in
       let five = length-append A (B ++ D) in
       let six = length-append B D in
-      let enters : length E ≡ 2 = refl in
+      let enters : length E ≡ enter_words plan.near = enter_long plan.near (plan.entry g) in
+      let few = enter_few plan.near in
       omega arith
 
   simple : (a : Action) (k : VariableSet) (l s : ℕ) → IsSimple a → 14 ≤ 14 * action_weight a → length (action_code plan variables f a k (jump_over short l) (jump_over short s)) ≤ 14 * action_weight a + 42 * one_call a

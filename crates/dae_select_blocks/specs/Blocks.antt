@@ -380,8 +380,15 @@ abbrev pub jump_back : Bool → ℕ → List Inst
 jump_back true n = Jal 0 (near_offset ((2 ^ 32 - 4 * n % 2 ^ 32) % 2 ^ 32)) ∷ []
 jump_back false n = jump_by ((2 ^ 32 - 4 * n % 2 ^ 32) % 2 ^ 32)
 
-abbrev pub enter_code : ℕ → List Inst
-enter_code word = Lui 5 (upper (4 * word)) ∷ (Jalr 1 5 (lower (4 * word)) ∷ [])
+-- the words of the way into a function: JALR alone where the immediate reaches the word at which it is entered, and else LUI and
+-- JALR
+abbrev pub enter_words : Bool → ℕ
+enter_words true = 1
+enter_words false = 2
+
+abbrev pub enter_code : Bool → ℕ → List Inst
+enter_code true word = Jalr 1 0 (lower (4 * word)) ∷ []
+enter_code false word = Lui 5 (upper (4 * word)) ∷ (Jalr 1 5 (lower (4 * word)) ∷ [])
 
 -- ---- branches
 

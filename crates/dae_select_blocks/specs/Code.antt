@@ -53,7 +53,7 @@ registers_in home variables live = filtered (λ r. some_below variables (λ v. l
 
 abbrev pub call_code : Plan → (ℕ → ℕ) → ℕ → Option ℕ → ℕ → List Argument → VariableSet → List Inst
 call_code plan variables f v g xs live =
-    arguments_code plan f g xs ++ (save_code (registers_in (plan.home f) (variables f) live) ++ (deeper_code plan f ++ (enter_code (plan.entry g)
+    arguments_code plan f g xs ++ (save_code (registers_in (plan.home f) (variables f) live) ++ (deeper_code plan f ++ (enter_code plan.near (plan.entry g)
     ++ (back_code plan f ++ (restore_code (registers_in (plan.home f) (variables f) live) ++ result_code (plan.home f) v)))))
 
 -- the block of an action in the function f, behind which these variables are live, with the jumps to where a Break goes and a
@@ -303,4 +303,4 @@ finish_code false = Addi 10 6 (pos 0) ∷ (Addi 17 0 (pos 0) ∷ (Ecall ∷ []))
 abbrev pub start_code : Plan → ℕ → ℕ → List Inst
 start_code plan main first =
     (number_code 3 first ++ (residents_code 27 plan.residents ++ (if plan.by_a then number_code 4 (plan.memory - 16) ++ Addi 10 0 (pos 1) ∷ [] else [])))
-    ++ enter_code (plan.entry main)
+    ++ enter_code plan.near (plan.entry main)

@@ -89,11 +89,13 @@ pub record IsPlanOf (program : Program) (plan : Plan) : Type 0 where
   pub limit : program.limit ≡ plan.limit
   pub frame : (f : ℕ) → program.frame f ≡ plan.frame f
 
--- where the functions stand: each is entered at its entry code, and its actions begin behind that
+-- where the functions stand: each is entered at its entry code, below word 512 where one instruction enters it, and its actions
+-- begin behind that
 pub record IsLinked (s : Setting) (plan : Plan) (variables : ℕ → ℕ) (entries : ℕ → VariableSet) : Type 0 where
   pub entry : (g : ℕ) → g < plan.functions → CodeAt s.code (plan.entry g) (entry_code plan variables g (entries g))
   pub start : (g : ℕ) → g < plan.functions → plan.start g ≡ plan.entry g + length (entry_code plan variables g (entries g))
   pub near : (g : ℕ) → g < plan.functions → plan.start g < 2 ^ 29
+  pub close : (g : ℕ) → g < plan.functions → plan.near ≡ true → plan.entry g < 512
   pub reads : (g u : ℕ) → entries g u ≡ true → u < variables g
   pub finish : CodeAt s.code plan.finish (finish_code plan.by_a)
   pub low : plan.finish + 3 < 2 ^ 29

@@ -3,6 +3,7 @@ use Rattle.std.specs.Prelude.{ℕ, ◌<◌, ◌^◌, Bool, false, List, [], leng
 use Rattle.dae_select_walks.specs.declared.Home.{Home}
 use Rattle.dae_select_walks.specs.Homes.{frame_words, home_among}
 use Rattle.dae_select_walks.specs.Agrees.{Plan}
+use Rattle.dae_select_values.specs.Jumps.{is_jalr}
 use Rattle.dae_select_values.specs.Sides.{is_a}
 use Rattle.dae_select_values.specs.Tables.{IsNear}
 use Rattle.dae_select_calls.specs.declared.layouts.FunctionLayout.{FunctionLayout}
@@ -45,6 +46,7 @@ plan_of all = record {
   words = λ f. frame_words (variables_at (slice_get all.functions f));
   frame = λ f. frame_at (slice_get all.functions f);
   leaf = λ f. leaf_at (slice_get all.functions f);
+  near = is_jalr all.calls;
   finish = all.finish;
   largest = all.largest;
   private = all.private;

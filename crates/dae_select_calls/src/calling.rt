@@ -274,7 +274,7 @@ pub fn call_code(
     let registers = registers_in(making.alloc, making.homes, variables, live)?;
     save_code(code, registers.as_slice())?;
     deeper_code(code, layouts, making.function)?;
-    enter_code(code, layouts.entry(callee.function))?;
+    enter_code(code, layouts.calls, layouts.entry(callee.function))?;
     back_code(code, layouts, making.function)?;
     restore_code(code, registers.as_slice())?;
     result_code(code, making.homes, callee.result)

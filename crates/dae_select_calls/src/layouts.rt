@@ -5,7 +5,7 @@ ghost use Rattle.dae_select_calls.specs.Layouts.{plan_of, variables_of, AreSmall
 ghost use Rattle.dae_select_values.specs.Tables.{AreNear, home_by};
 
 use dae_base::{Items, Side};
-use dae_select_values::{HomeTable, home_of};
+use dae_select_values::{CallForm, HomeTable, home_of};
 use dae_select_walks::Home;
 
 /// What is settled of a function: the homes of its variables, how many variables there are, the bytes of its frame in
@@ -21,12 +21,14 @@ pub struct FunctionLayout {
     pub start: u32,
 }
 
-/// What is settled of a side: its functions, the word that main returns to, the most words of a private frame, the words
-/// of private memory, the call limit, the bytes of common memory, and the numbers that stay in registers.
+/// What is settled of a side: its functions, the form of the ways into them, the word that main returns to, the most words
+/// of a private frame, the words of private memory, the call limit, the bytes of common memory, and the numbers that stay
+/// in registers.
 #[derive(Drop)]
 pub struct Layouts {
     pub side: Side,
     pub functions: Items<FunctionLayout>,
+    pub calls: CallForm,
     pub finish: u32,
     pub largest: u32,
     pub private: u32,

@@ -53,7 +53,7 @@ pub fn start_code(
     number_code(&mut code, 3, frames)?;
     residents_code(&mut code, layouts.residents.as_slice())?;
     counts_code(&mut code, layouts.side, layouts.memory)?;
-    enter_code(&mut code, layouts.entry(main))?;
+    enter_code(&mut code, layouts.calls, layouts.entry(main))?;
     Ok(code)
 }
 

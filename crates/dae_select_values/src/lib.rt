@@ -10,7 +10,7 @@ pub use fetching::{
     fetch, keep, load_code, move_code, number_code, register_or, source, store_code,
 };
 pub use jumping::{
-    JumpForm, back_branch, branch_code, enter_code, jump_back, jump_over, jump_words,
+    CallForm, JumpForm, back_branch, branch_code, enter_code, jump_back, jump_over, jump_words,
 };
 pub use numbers::{compare_number, exchanged, immediate, less_code, more_code, takes_number};
 pub use tables::{HomeTable, home_of};

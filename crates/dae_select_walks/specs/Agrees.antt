@@ -12,7 +12,7 @@ use Rattle.dae_select_walks.specs.declared.Home.{Home}
 
 -- what is settled before the code runs: the side, the number of functions and their homes; of each function the words at which it is entered and at which its actions
 -- begin, the words of its private frame, the bytes of its frame in common memory, and whether it is a leaf, which makes no
--- call; the word that main returns to; the most
+-- call; whether one instruction enters them all; the word that main returns to; the most
 -- words of a private frame and the words of private memory; the call limit; the size of common memory; and the numbers that stay
 -- in registers
 pub record Plan : Type 0 where
@@ -24,6 +24,7 @@ pub record Plan : Type 0 where
   pub words : ℕ → ℕ
   pub frame : ℕ → ℕ
   pub leaf : ℕ → Bool
+  pub near : Bool
   pub finish : ℕ
   pub largest : ℕ
   pub private : ℕ
