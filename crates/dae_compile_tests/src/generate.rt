@@ -343,13 +343,13 @@ fn has_marks(alloc: Global, ir: &Ir, marks: &[LineMark]) -> Result<bool, Fail> {
     }
 }
 
-// A mark at the first word of the first action of each line. Before the actions of main there are six words of A, and five of
-// E; a byte is printed by three words.
+// A mark at the first word of the first action of each line. Before the actions of main there are five words of each side; a
+// byte is printed by three words.
 #[test]
 fn marks_of_lines(rt: HostRuntime) -> Result<(), Fail> {
     let alloc = rt.alloc();
     let marks = [
-        mark(Side::A, 6, 5),
+        mark(Side::A, 5, 5),
         mark(Side::E, 5, 2),
         mark(Side::E, 8, 3),
         mark(Side::E, 14, 5),

@@ -1,13 +1,12 @@
 -- The code of a stream is a side of an image.
 use Rattle.std.proofs.Common.{◌≡◌, ℕ, ◌+◌, ◌-◌, ◌*◌, ◌≤◌, ◌<◌, ◌^◌, List, ◌∷◌, ◌++◌, length, map, refl, ap, sym, ◌∙◌, subst, arith, append_assoc, length-append, [], Bool}
 use Rattle.std.proofs.lemmas.List.{length-map, map-append}
-use Rattle.std.specs.Prelude.{slice_get, if◌then◌else◌, pos}
+use Rattle.std.specs.Prelude.{slice_get, if◌then◌else◌}
 use Rattle.std.specs.List.{AllByRecursion}
 use Rattle.std.proofs.Math.Path.{fun_ext}
 use Rattle.dae_base.specs.declared.Side.{Side}
 use Rattle.dae_base.specs.declared.Side.TheVariants.{A, E}
 use Rattle.dae_encode.specs.declared.Inst.{Inst}
-use Rattle.dae_encode.specs.declared.Inst.TheVariants.{Addi}
 use Rattle.dae_encode.specs.Spelling.{InRange, encoded}
 use Rattle.dae_machine.specs.Machine.{Setup, code}
 use Rattle.dae_ir.specs.Form.{Program}
@@ -145,7 +144,7 @@ module _ (stream : Stream) (old : Layouts) (unplaced : AreUnplaced stream old) w
 
   start_same : length (start_code Q stream.main stream.frames) ≡ length (start_code P stream.main stream.frames)
   start_same =
-      let begins : List Inst = number_code 3 stream.frames ++ (residents_code 27 old.residents ++ (if P.by_a then number_code 4 (P.memory - 16) ++ Addi 10 0 (pos 1) ∷ [] else [])) in
+      let begins : List Inst = number_code 3 stream.frames ++ (residents_code 27 old.residents ++ (if P.by_a then number_code 4 (P.memory - 16) else [])) in
       both_long begins begins (enter_code P.near (Q.entry stream.main)) (enter_code P.near (P.entry stream.main)) refl (enter_same P.near (Q.entry stream.main) (P.entry stream.main))
 
   opening_same : length (opening_code Q stream.main stream.frames) ≡ first

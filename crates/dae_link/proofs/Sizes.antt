@@ -29,8 +29,8 @@ opening_low plan main frames brief = let s = opening_short plan main frames in l
 module _ (plan : Plan) (variables : ℕ → ℕ) (f : ℕ) where
   function_length : (code : Actions) → length (function_code plan variables f code) ≤ most_words_in code + 22
   function_length code =
-      let h : length (function_code plan variables f code) ≤ 19 + most_words_in code
-      = append_short (entry_code plan variables f (live code nowhere)) (code_of (is_short code) plan variables f Settled unknown code nowhere 0 0) 19 (most_words_in code) (entry_short plan variables f (live code nowhere))
+      let h : length (function_code plan variables f code) ≤ 20 + most_words_in code
+      = append_short (entry_code plan variables f (live code nowhere)) (code_of (is_short code) plan variables f Settled unknown code nowhere 0 0) 20 (most_words_in code) (entry_short plan variables f (live code nowhere))
       (code_length (is_short code) plan variables f Settled unknown code nowhere 0 0) in omega arith
 
 -- with three words less a function

@@ -43,7 +43,7 @@ use Rattle.dae_select_walks.specs.declared.Standing.TheVariants.{Settled, Early,
 use Rattle.dae_select_walks.specs.Live.{Ways, none, in_operand, live, behind, body_ways, step_ways, nowhere}
 use Rattle.dae_select_walks.specs.Facts.{Facts, unknown, only_leaves, operand_bounds, is_aligned, is_good, tells_within, facts_behind, facts_in_first, facts_in_second, facts_past_if, facts_at_turn, facts_at_step, facts_past_loop, need_of}
 use Rattle.dae_select_walks.specs.declared.Need.TheVariants.{All, Ends, Nothing}
-use Rattle.dae_select_walks.specs.Agrees.{Plan}
+use Rattle.dae_select_walks.specs.Agrees.{Plan, counted_depth}
 use Rattle.dae_select_blocks.specs.Blocks.{number_code, register_or, source, operation_code, immediate_code, exchanged_code, behind_or, combine_registers, binary_code, value_code, fetch, move_code, keep, test_code, call_number, issue_code, address_code, take_code, fail_code, over, align_code, bounds_code, room_code, check_code, hear_code, jump_over, jump_back, jump_words, branch_inst, opposite, one_way, goes_by, goes_code, frames_room_code, lower, is_immediate, tell_number_code, against_zero, immediate_of, extend_code, compare_code, compare_number_code, compare_registers, compare_operands, back_offset, goes_back, as_immediate}
 use Rattle.dae_select_walks.specs.Compiled.{is_told}
 use Rattle.dae_select_blocks.specs.Code.{leaves_first, is_near, has_bottom, told_by, branch_by, ahead_by, before_branch, back_branch, either_one, reads_once, with_home, early_code, late_code, standing_behind, placed_code, needed_code, block_code, action_code, branch_code, code_of, entry_code, function_code, finish_code, start_code, does_nothing, past_code, written_last}
@@ -226,9 +226,9 @@ module _ (plan : Plan) (variables : ℕ → ℕ) (good : (f v : ℕ) → IsHome 
         (next_uses by_a' (Some (told_on by_a')) (Bne (source (plan.home f) 5 x) 0 (over by_a')) (fail_code by_a' 1) (omega arith, low x, omega arith) (fail_uses by_a' by_a' 1))
     check_uses (Room g) =
         let frames : List Inst = frames_room_code plan.memory (plan.frame f + plan.frame g) in
-        either_uses by_a' (Some (told_on by_a')) (nat_lt plan.memory (plan.frame f + plan.frame g)) (fail_code true 4) (frames ++ (number_code 6 plan.limit ++ Bltu 10 6 (pos 12) ∷ fail_code true 4)) (fail_uses by_a' true 4)
-        (behind_only by_a' (Some (told_on by_a')) frames (number_code 6 plan.limit ++ Bltu 10 6 (pos 12) ∷ fail_code true 4) (frames_only by_a' plan.memory (plan.frame f + plan.frame g))
-        (behind_plain by_a' (Some (told_on by_a')) (number_code 6 plan.limit) (Bltu 10 6 (pos 12) ∷ fail_code true 4) (number_plain 6 plan.limit (omega arith)) (next_uses by_a' (Some (told_on by_a')) (Bltu 10 6 (pos 12)) (fail_code true 4) (omega arith, omega arith, omega arith) (fail_uses by_a' true 4))))
+        either_uses by_a' (Some (told_on by_a')) (nat_lt plan.memory (plan.frame f + plan.frame g)) (fail_code true 4) (frames ++ (number_code 6 (counted_depth plan f plan.limit) ++ Bltu 10 6 (pos 12) ∷ fail_code true 4)) (fail_uses by_a' true 4)
+        (behind_only by_a' (Some (told_on by_a')) frames (number_code 6 (counted_depth plan f plan.limit) ++ Bltu 10 6 (pos 12) ∷ fail_code true 4) (frames_only by_a' plan.memory (plan.frame f + plan.frame g))
+        (behind_plain by_a' (Some (told_on by_a')) (number_code 6 (counted_depth plan f plan.limit)) (Bltu 10 6 (pos 12) ∷ fail_code true 4) (number_plain 6 (counted_depth plan f plan.limit) (omega arith)) (next_uses by_a' (Some (told_on by_a')) (Bltu 10 6 (pos 12)) (fail_code true 4) (omega arith, omega arith, omega arith) (fail_uses by_a' true 4))))
     check_uses Frame = either_uses by_a' (Some (told_on by_a')) (nat_lt plan.memory (plan.frame f)) (fail_code true 4) (room_code (plan.memory - plan.frame f)) (fail_uses by_a' true 4) (room_uses by_a' (plan.memory - plan.frame f))
     check_uses Abort = fail_uses by_a' true 5
 
@@ -259,7 +259,7 @@ module _ (plan : Plan) (variables : ℕ → ℕ) (good : (f v : ℕ) → IsHome 
     action_uses short Break live leaves skips is = no_queue by_a' _ (over_plain short leaves)
     action_uses short Continue live leaves skips is = no_queue by_a' _ (over_plain short skips)
     action_uses short (Call v g xs) live leaves skips is = no_queue by_a' _ (call_plain plan variables good f v g xs _)
-    action_uses short (Return x) live leaves skips is = no_queue by_a' _ (leave_plain (variables f) (plan.home f) (good f) (plan.leaf f) x)
+    action_uses short (Return x) live leaves skips is = no_queue by_a' _ (leave_plain (variables f) (plan.home f) (good f) plan.by_a (plan.leaf f) x)
 
     -- ---- pairs
 

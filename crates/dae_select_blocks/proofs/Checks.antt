@@ -29,7 +29,7 @@ use Rattle.dae_meaning.specs.declared.Spelling.{Spelling}
 use Rattle.dae_meaning.specs.declared.Spelling.TheVariants.{Byte, Signed, Unsigned, Hexadecimal}
 use Rattle.dae_select_walks.specs.Walks.{Setting}
 use Rattle.dae_select_walks.specs.Homes.{Contents}
-use Rattle.dae_select_walks.specs.Agrees.{Plan, Moment, depth_of, top_of}
+use Rattle.dae_select_walks.specs.Agrees.{Plan, Moment, depth_of, top_of, counted_depth}
 use Rattle.dae_select_walks.proofs.LawsOfWalks.{put, step_prints, step_ends, step_stops}
 use Rattle.dae_select_blocks.specs.Blocks.{check_code, source, fetch, number_code, fail_code, over, align_code, bounds_code, room_code, frames_room_code, call_number, system_code, hear_code}
 use Rattle.dae_select_blocks.specs.Code.{placed_code}
@@ -51,6 +51,19 @@ over_length false code = refl
 fail_short : (b : Bool) (code : ℕ) → length (fail_code b code) < 1000
 fail_short true code = omega arith
 fail_short false code = omega arith
+
+-- depths compare as what is counted of them
+counted_less : (leaf : Bool) (d l : ℕ) → 1 ≤ d → d ≤ l → nat_lt (if leaf then d - 1 else d) (if leaf then l - 1 else l) ≡ nat_lt d l
+counted_less true d l some le = by (nat_lt d l) refl
+  where
+    by : (b : Bool) → nat_lt d l ≡ b → nat_lt (d - 1) (l - 1) ≡ b
+    by true e = grind (arith, nat_tests)
+    by false e = grind (arith, nat_tests)
+counted_less false d l some le = refl
+
+counted_few : (leaf : Bool) (l : ℕ) → (if leaf then l - 1 else l) ≤ l
+counted_few true l = omega arith
+counted_few false l = omega arith
 
 -- on E the registers of the environment call have no meaning between blocks
 call_scratch : (plan : Plan) (r : ℕ) → plan.by_a ≡ false → r ≡ 10 ⊎ r ≡ 17 → IsScratch plan r
@@ -303,27 +316,30 @@ module _ (s : Setting) (plan : Plan) (variables : ℕ → ℕ) (fine : Fits s pl
         left = plan.memory - (plan.frame m.function + plan.frame g)
 
         deep : (c1 : Contents) → nat_lt left m.frame ≡ false → nat_lt plan.memory (plan.frame m.function + plan.frame g) ≡ false → Ready plan live m c1 →
-            Does' s plan variables fine live live' m (number_code 6 plan.limit ++ Bltu 10 6 (pos 12) ∷ fail_code true 4) c1 (probed true (passed (nat_lt plan.limit (depth_of m + 1) || nat_lt plan.memory (top_of plan m + plan.frame g))) m.env)
+            Does' s plan variables fine live live' m (number_code 6 (counted_depth plan m.function plan.limit) ++ Bltu 10 6 (pos 12) ∷ fail_code true 4) c1 (probed true (passed (nat_lt plan.limit (depth_of m + 1) || nat_lt plan.memory (top_of plan m + plan.frame g))) m.env)
         deep c1 low fits h1 =
             let t = To s plan variables fine live live' m in
             let most = fine.limit in
-            let h2 = ready_like s plan variables fine 6 (is_scratch plan 6 (omega arith) (omega arith)) (like_put 6 plan.limit c1 (omega arith) h1.fits) h1 in
+            let limit : ℕ = counted_depth plan m.function plan.limit in
+            let few : limit ≤ plan.limit = counted_few (plan.leaf m.function) plan.limit in
+            let h2 = ready_like s plan variables fine 6 (is_scratch plan 6 (omega arith) (omega arith)) (like_put 6 limit c1 (omega arith) h1.fits) h1 in
             let ok : nat_lt plan.memory (top_of plan m + plan.frame g) ≡ false = grind (arith, nat_tests) in
-            let same : nat_lt (c1.register 10) plan.limit ≡ not (nat_lt plan.limit (depth_of m + 1) || nat_lt plan.memory (top_of plan m + plan.frame g)) = rw (h1.agrees.depth by_a, ok) (grind (arith, nat_tests)) in
-            runs_number s plan.private t 6 plan.limit (Bltu 10 6 (pos 12) ∷ fail_code true 4) h1.zero (omega arith) (omega arith) (omega arith) (
+            let less : nat_lt (c1.register 10) limit ≡ nat_lt (depth_of m) plan.limit = ap (λ (n : ℕ). nat_lt n limit) (h1.agrees.depth by_a) ∙ counted_less (plan.leaf m.function) (depth_of m) plan.limit (omega arith) h1.agrees.within.depth in
+            let same : nat_lt (c1.register 10) limit ≡ not (nat_lt plan.limit (depth_of m + 1) || nat_lt plan.memory (top_of plan m + plan.frame g)) = rw (less, ok) (grind (arith, nat_tests)) in
+            runs_number s plan.private t 6 limit (Bltu 10 6 (pos 12) ∷ fail_code true 4) h1.zero (omega arith) (omega arith) (omega arith) (
             tested 4 (Bltu 10 6 (pos 12)) 10 6 (λ x y. nat_lt x y) (nat_lt plan.limit (depth_of m + 1) || nat_lt plan.memory (top_of plan m + plan.frame g)) refl (omega arith) (omega arith) same (omega arith) h2 stays)
 
         -- a frame begins in common memory: where both frames are empty there is room for them
         roomy : (none : Bool) → nat_eq (plan.frame m.function + plan.frame g) 0 ≡ none → nat_lt plan.memory (plan.frame m.function + plan.frame g) ≡ false →
-            Does' s plan variables fine live live' m ((if none then [] else room_code left) ++ (number_code 6 plan.limit ++ Bltu 10 6 (pos 12) ∷ fail_code true 4)) c (probed true (passed (nat_lt plan.limit (depth_of m + 1) || nat_lt plan.memory (top_of plan m + plan.frame g))) m.env)
+            Does' s plan variables fine live live' m ((if none then [] else room_code left) ++ (number_code 6 (counted_depth plan m.function plan.limit) ++ Bltu 10 6 (pos 12) ∷ fail_code true 4)) c (probed true (passed (nat_lt plan.limit (depth_of m + 1) || nat_lt plan.memory (top_of plan m + plan.frame g))) m.env)
         roomy true none e = let inside = h.agrees.within.frame in deep c (grind (arith, nat_tests)) e h
         roomy false some e =
             let most = fine.common in
-            room_done left (number_code 6 plan.limit ++ Bltu 10 6 (pos 12) ∷ fail_code true 4) (nat_lt left m.frame) (omega arith) refl h (λ low c1 h1. deep c1 low e h1)
+            room_done left (number_code 6 (counted_depth plan m.function plan.limit) ++ Bltu 10 6 (pos 12) ∷ fail_code true 4) (nat_lt left m.frame) (omega arith) refl h (λ low c1 h1. deep c1 low e h1)
             (λ high. (let trap : (nat_lt plan.limit (depth_of m + 1) || nat_lt plan.memory (top_of plan m + plan.frame g)) ≡ true = grind (arith, nat_tests) in rw trap refl))
 
         by : (big : Bool) → nat_lt plan.memory (plan.frame m.function + plan.frame g) ≡ big →
-            Does' s plan variables fine live live' m (if big then fail_code true 4 else frames_room_code plan.memory (plan.frame m.function + plan.frame g) ++ (number_code 6 plan.limit ++ Bltu 10 6 (pos 12) ∷ fail_code true 4)) c (probed true (passed (nat_lt plan.limit (depth_of m + 1) || nat_lt plan.memory (top_of plan m + plan.frame g))) m.env)
+            Does' s plan variables fine live live' m (if big then fail_code true 4 else frames_room_code plan.memory (plan.frame m.function + plan.frame g) ++ (number_code 6 (counted_depth plan m.function plan.limit) ++ Bltu 10 6 (pos 12) ∷ fail_code true 4)) c (probed true (passed (nat_lt plan.limit (depth_of m + 1) || nat_lt plan.memory (top_of plan m + plan.frame g))) m.env)
         by true e =
             let trap : (nat_lt plan.limit (depth_of m + 1) || nat_lt plan.memory (top_of plan m + plan.frame g)) ≡ true = grind (arith, nat_tests) in
             rw trap (rw append-nil at (fails true 4 [] by_a (omega arith) h))

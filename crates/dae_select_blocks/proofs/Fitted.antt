@@ -1,8 +1,7 @@
 -- The code of a whole function, and the code that begins, have instructions whose fields their words can hold.
-use Rattle.std.proofs.Common.{ℕ, ◌+◌, ◌-◌, ◌*◌, ◌%◌, ◌^◌, ◌<◌, ◌≤◌, ◌≡◌, Bool, true, false, ◌&&◌, List, [], ◌∷◌, ◌++◌, length, Option, arith, pos, negsuc, ◌||◌}
+use Rattle.std.proofs.Common.{ℕ, ◌+◌, ◌-◌, ◌*◌, ◌%◌, ◌^◌, ◌<◌, ◌≤◌, ◌≡◌, Bool, true, false, ◌&&◌, List, [], ◌∷◌, ◌++◌, length, Option, arith, ◌||◌}
 use Rattle.std.specs.Prelude.{nat_eq, if◌then◌else◌}
 use Rattle.std.specs.List.{AllByRecursion}
-use Rattle.std.proofs.lemmas.Int.{ints}
 use Rattle.dae_base.specs.Words.{minus}
 use Rattle.dae_encode.specs.Spelling.{InRange, layout}
 use Rattle.dae_encode.specs.declared.Inst.{Inst}
@@ -26,7 +25,7 @@ use Rattle.dae_select_walks.specs.Facts.{Facts, unknown, facts_behind, facts_in_
 use Rattle.dae_select_walks.specs.declared.Need.{Need}
 use Rattle.dae_select_walks.specs.declared.Need.TheVariants.{All, Ends, Nothing}
 use Rattle.dae_select_walks.specs.Agrees.{Plan}
-use Rattle.dae_select_blocks.specs.Blocks.{lower, is_immediate, more_code, less_code, is_register, number_code, register_or, source, call_number, jump_over, jump_back, enter_code, arguments_code, waits_at, save_code, restore_code, deeper_code, back_code, jump_words, residents_code, store_link}
+use Rattle.dae_select_blocks.specs.Blocks.{lower, is_immediate, more_code, less_code, is_register, number_code, register_or, source, call_number, jump_over, jump_back, enter_code, arguments_code, waits_at, save_code, restore_code, deeper_code, back_code, jump_words, residents_code, prologue_code}
 use Rattle.dae_select_blocks.specs.Code.{some_below, filtered, home_registers, registers_in, call_code, action_code, branch_code, standing_behind, with_home, early_code, late_code, needed_code, block_code, code_of, entry_code, function_code, finish_code, start_code, does_nothing, past_code, tail_of, has_bottom, leaves_first, is_near, bottom_test}
 use Rattle.dae_select_blocks.proofs.Ranges.{AllFit, fit_append, fit_either, lui_fits, jalr_fits, addi_fits, addi_small, sw_small, add_fits, number_fits, load_fits, store_fits, register_fits, fetch_fits, move_fits, keep_fits, over_fits, back_fits}
 use Rattle.dae_select_blocks.proofs.Fitting.{ecall_fits, issue_fits, address_fits, source_fits, value_fit, value_fits, take_fits, branch_fits, back_branch_fits, system_fits, stop_fits, leave_fits, result_fits, hear_fits, placed_fits, check_fits}
@@ -73,10 +72,6 @@ sub_fits : (t x y : ℕ) → t < 32 → x < 32 → y < 32 → InRange (Sub t x y
 unfolding InRange layout
 sub_fits t x y a b c = (a, b, c)
 
-addi_one_less : (t x : ℕ) → t < 32 → x < 32 → InRange (Addi t x (negsuc 0))
-unfolding InRange layout
-addi_one_less t x a b = (a, b, (omega (arith, ints), omega (arith, ints)))
-
 enter_fits : (near : Bool) (word : ℕ) → AllFit (enter_code near word)
 enter_fits true word = (jalr_fits 1 0 (4 * word) (omega arith) (omega arith), tt)
 enter_fits false word = (lui_fits 5 (4 * word) (omega arith), (jalr_fits 1 5 (4 * word) (omega arith) (omega arith), tt))
@@ -112,13 +107,11 @@ module _ (plan : Plan) (variables : ℕ → ℕ) (good : (f v : ℕ) → IsHome 
 
   deeper_fits : (f : ℕ) → AllFit (deeper_code plan f)
   deeper_fits f =
-      fit_append _ _ (more_fits 3 (plan.frame f % 2 ^ 32) (omega arith)) (fit_append _ _ (more_fits 2 (4 * plan.words f) (omega arith))
-      (fit_either plan.by_a (Addi 10 10 (pos 1) ∷ []) [] (λ e. (addi_small 10 10 1 (omega arith) (omega arith) (omega arith), tt)) (λ e. tt)))
+      fit_append (more_code 3 (plan.frame f % 2 ^ 32)) (more_code 2 (4 * plan.words f)) (more_fits 3 (plan.frame f % 2 ^ 32) (omega arith)) (more_fits 2 (4 * plan.words f) (omega arith))
 
   returning_fits : (f : ℕ) → AllFit (back_code plan f)
   returning_fits f =
-      fit_append _ _ (less_fits 3 (plan.frame f % 2 ^ 32) (omega arith)) (fit_append _ _ (less_fits 2 (4 * plan.words f) (omega arith))
-      (fit_either plan.by_a (Addi 10 10 (negsuc 0) ∷ []) [] (λ e. (addi_one_less 10 10 (omega arith) (omega arith), tt)) (λ e. tt)))
+      fit_append (less_code 3 (plan.frame f % 2 ^ 32)) (less_code 2 (4 * plan.words f)) (less_fits 3 (plan.frame f % 2 ^ 32) (omega arith)) (less_fits 2 (4 * plan.words f) (omega arith))
 
   call_fits : (f : ℕ) (v : Option ℕ) (g : ℕ) (xs : List Argument) (live : VariableSet) → AllFit (call_code plan variables f v g xs live)
   call_fits f v g xs live =
@@ -148,7 +141,7 @@ module _ (plan : Plan) (variables : ℕ → ℕ) (good : (f v : ℕ) → IsHome 
     action_fits f Break live leaves skips = over_fits short leaves
     action_fits f Continue live leaves skips = over_fits short skips
     action_fits f (Call v g xs) live leaves skips = call_fits f v g xs _
-    action_fits f (Return x) live leaves skips = leave_fits (variables f) (plan.home f) (good f) (plan.leaf f) x
+    action_fits f (Return x) live leaves skips = leave_fits (variables f) (plan.home f) (good f) plan.by_a (plan.leaf f) x
 
     early_fits : (f q v d : ℕ) (y : Value) → q < 32 → AllFit (early_code (plan.home f) q v d y)
     early_fits f q v d y h =
@@ -229,13 +222,14 @@ module _ (plan : Plan) (variables : ℕ → ℕ) (good : (f v : ℕ) → IsHome 
       tail_fits f known (Do m a k) x leaves skips = tt
       tail_fits f known (Loop m body step k) x leaves skips = tt
 
-  link_fits : (leaf : Bool) → AllFit (store_link leaf)
-  link_fits true = tt
-  link_fits false = (sw_small 2 1 0 (omega arith) (omega arith) (omega arith), tt)
+  prologue_fits : (by_a leaf : Bool) → AllFit (prologue_code by_a leaf)
+  prologue_fits by_a true = tt
+  prologue_fits true false = (sw_small 2 1 0 (omega arith) (omega arith) (omega arith), (addi_small 10 10 1 (omega arith) (omega arith) (omega arith), tt))
+  prologue_fits false false = (sw_small 2 1 0 (omega arith) (omega arith) (omega arith), tt)
 
   pub entry_fits : (f : ℕ) (live : VariableSet) → AllFit (entry_code plan variables f live)
   entry_fits f live =
-      fit_append (store_link (plan.leaf f)) (restore_code (registers_in (plan.home f) (variables f) live)) (link_fits (plan.leaf f)) (restore_fits (registers_in (plan.home f) (variables f) live) (live_registers plan (variables f) f live))
+      fit_append (prologue_code plan.by_a (plan.leaf f)) (restore_code (registers_in (plan.home f) (variables f) live)) (prologue_fits plan.by_a (plan.leaf f)) (restore_fits (registers_in (plan.home f) (variables f) live) (live_registers plan (variables f) f live))
 
   pub function_fits : (f : ℕ) (code : Actions) → AllFit (function_code plan variables f code)
   function_fits f code =
@@ -251,8 +245,8 @@ residents_fit r (n ∷ ns) h = fit_append (number_code r n) (residents_code (r -
 
 pub start_fits : (plan : Plan) (main frames : ℕ) → AllFit (start_code plan main frames)
 start_fits plan main frames =
-    let addresses : List Inst = number_code 4 (plan.memory - 16) ++ Addi 10 0 (pos 1) ∷ [] in
-    let fit : AllFit addresses = fit_append (number_code 4 (plan.memory - 16)) (Addi 10 0 (pos 1) ∷ []) (number_fits 4 (plan.memory - 16) (omega arith)) (addi_small 10 0 1 (omega arith) (omega arith) (omega arith), tt) in
+    let addresses : List Inst = number_code 4 (plan.memory - 16) in
+    let fit : AllFit addresses = number_fits 4 (plan.memory - 16) (omega arith) in
     let stay : List Inst = residents_code 27 plan.residents in
     fit_append (number_code 3 frames ++ (stay ++ (if plan.by_a then addresses else []))) (enter_code plan.near (plan.entry main))
     (fit_append (number_code 3 frames) (stay ++ (if plan.by_a then addresses else [])) (number_fits 3 frames (omega arith))

@@ -6,7 +6,7 @@ use Rattle.dae_ir.specs.declared.form.Check.{Check}
 use Rattle.dae_ir.specs.declared.form.Check.TheVariants.{Place, Zero, Room, Frame, Abort}
 use Rattle.dae_ir.specs.declared.stream.Action.{Action}
 use Rattle.dae_ir.specs.declared.stream.Action.TheVariants.{Probe}
-use Rattle.dae_select_walks.specs.Agrees.{Plan}
+use Rattle.dae_select_walks.specs.Agrees.{Plan, counted_depth}
 use Rattle.std.proofs.lemmas.Int.{ints}
 use Rattle.dae_base.specs.Words.{minus, size}
 use Rattle.std.proofs.lemmas.Bool.Decides.{nat_tests}
@@ -30,7 +30,7 @@ use Rattle.dae_ir.specs.declared.stream.Branch.{Branch}
 use Rattle.dae_ir.specs.declared.stream.Branch.TheVariants.{Silent, Tells, Hears}
 use Rattle.dae_select_walks.specs.declared.Home.{Home}
 use Rattle.dae_select_walks.specs.Homes.{IsHome, number_key, resident_register}
-use Rattle.dae_select_blocks.specs.Blocks.{lower, is_immediate, number_code, register_or, source, fetch, move_code, operation_code, exponent, power_code, immediate_code, commutes, exchanged_code, behind_or, combine_registers, binary_code, extend_code, compare_code, compare_number_code, compare_registers, compare_operands, test_code, frame_code, value_code, issue_code, address_code, take_code, fail_code, over, align_code, bounds_code, room_code, check_code, system_code, hear_code, stop_code, leave_code, result_code, branch_inst, opposite, one_way, goes_by, goes_code, frames_room_code, tell_number_code, against_zero, immediate_of, back_offset, goes_back, number_or, as_immediate, load_link}
+use Rattle.dae_select_blocks.specs.Blocks.{lower, is_immediate, number_code, register_or, source, fetch, move_code, operation_code, exponent, power_code, immediate_code, commutes, exchanged_code, behind_or, combine_registers, binary_code, extend_code, compare_code, compare_number_code, compare_registers, compare_operands, test_code, frame_code, value_code, issue_code, address_code, take_code, fail_code, over, align_code, bounds_code, room_code, check_code, system_code, hear_code, stop_code, leave_code, result_code, branch_inst, opposite, one_way, goes_by, goes_code, frames_room_code, tell_number_code, against_zero, immediate_of, back_offset, goes_back, number_or, as_immediate, epilogue_code}
 use Rattle.dae_select_blocks.specs.Code.{placed_code, branch_code, told_by, branch_by, ahead_by, before_branch, back_branch}
 use Rattle.dae_select_blocks.proofs.Ranges.{move_fit, AllFit, fit_append, fit_either, lower_fits, addi_fits, addi_small, lw_small, add_fits, number_fits, register_fits, fetch_fits, move_fits, keep_fits, over_fits}
 use Rattle.dae_select_blocks.proofs.Operands.{number_below}
@@ -175,6 +175,10 @@ addi_minus : (t x n : ℕ) → t < 32 → x < 32 → n < 2 ^ 11 → InRange (Add
 unfolding InRange layout
 addi_minus t x n a b l = (a, b, (omega (arith, ints), omega (arith, ints)))
 
+addi_one_less : (t x : ℕ) → t < 32 → x < 32 → InRange (Addi t x (negsuc 0))
+unfolding InRange layout
+addi_one_less t x a b = (a, b, (omega (arith, ints), omega (arith, ints)))
+
 jalr_zero : (b : ℕ) → b < 32 → InRange (Jalr 0 b (pos 0))
 unfolding InRange layout
 jalr_zero b h = ((omega arith), h, (omega (arith, ints), omega (arith, ints)))
@@ -291,13 +295,14 @@ module _ (n : ℕ) (home : ℕ → Home) (good : (v : ℕ) → IsHome n (home v)
   stop_fits false None = system_fits 0 (Number 0) (omega arith)
   stop_fits false (Some x) = system_fits 0 x (omega arith)
 
-  return_fits : (leaf : Bool) → AllFit (load_link leaf ++ Jalr 0 1 (pos 0) ∷ [])
-  return_fits true = (jalr_zero 1 (omega arith), tt)
-  return_fits false = (lw_small 1 2 0 (omega arith) (omega arith) (omega arith), (jalr_zero 1 (omega arith), tt))
+  return_fits : (by_a leaf : Bool) → AllFit (epilogue_code by_a leaf ++ Jalr 0 1 (pos 0) ∷ [])
+  return_fits by_a true = (jalr_zero 1 (omega arith), tt)
+  return_fits true false = (lw_small 1 2 0 (omega arith) (omega arith) (omega arith), (addi_one_less 10 10 (omega arith) (omega arith), (jalr_zero 1 (omega arith), tt)))
+  return_fits false false = (lw_small 1 2 0 (omega arith) (omega arith) (omega arith), (jalr_zero 1 (omega arith), tt))
 
-  pub leave_fits : (leaf : Bool) (y : Option Operand) → AllFit (leave_code leaf home y)
-  leave_fits leaf None = return_fits leaf
-  leave_fits leaf (Some x) = fit_append (move_code home 6 x) (load_link leaf ++ Jalr 0 1 (pos 0) ∷ []) (move_fits n home good 6 x (omega arith)) (return_fits leaf)
+  pub leave_fits : (by_a leaf : Bool) (y : Option Operand) → AllFit (leave_code by_a leaf home y)
+  leave_fits by_a leaf None = return_fits by_a leaf
+  leave_fits by_a leaf (Some x) = fit_append (move_code home 6 x) (epilogue_code by_a leaf ++ Jalr 0 1 (pos 0) ∷ []) (move_fits n home good 6 x (omega arith)) (return_fits by_a leaf)
 
   pub result_fits : (v : Option ℕ) → AllFit (result_code home v)
   result_fits None = tt
@@ -341,7 +346,7 @@ check_fits plan n f (Place width x) good =
 check_fits plan n f (Zero x) good = fetched_fit n (plan.home f) good 5 x _ (omega arith) (leads_fit plan.by_a (source (plan.home f) 5 x) (source_fits n (plan.home f) good 5 x (omega arith)), fail_fits plan.by_a 1 (omega arith))
 check_fits plan n f (Room g) good =
     let frames : List Inst = frames_room_code plan.memory (plan.frame f + plan.frame g) in
-    fit_either (nat_lt plan.memory (plan.frame f + plan.frame g)) (fail_code true 4) (frames ++ (number_code 6 plan.limit ++ Bltu 10 6 (pos 12) ∷ fail_code true 4)) (λ e. fail_fits true 4 (omega arith))
-    (λ e. fit_append frames _ (frames_fit plan.memory (plan.frame f + plan.frame g)) (fit_append (number_code 6 plan.limit) (Bltu 10 6 (pos 12) ∷ fail_code true 4) (number_fits 6 plan.limit (omega arith)) (bltu_fits 10 6 12 (omega arith) (omega arith) (omega arith) refl, fail_fits true 4 (omega arith))))
+    fit_either (nat_lt plan.memory (plan.frame f + plan.frame g)) (fail_code true 4) (frames ++ (number_code 6 (counted_depth plan f plan.limit) ++ Bltu 10 6 (pos 12) ∷ fail_code true 4)) (λ e. fail_fits true 4 (omega arith))
+    (λ e. fit_append frames _ (frames_fit plan.memory (plan.frame f + plan.frame g)) (fit_append (number_code 6 (counted_depth plan f plan.limit)) (Bltu 10 6 (pos 12) ∷ fail_code true 4) (number_fits 6 (counted_depth plan f plan.limit) (omega arith)) (bltu_fits 10 6 12 (omega arith) (omega arith) (omega arith) refl, fail_fits true 4 (omega arith))))
 check_fits plan n f Frame good = fit_either (nat_lt plan.memory (plan.frame f)) (fail_code true 4) (room_code (plan.memory - plan.frame f)) (λ e. fail_fits true 4 (omega arith)) (λ e. room_fits _)
 check_fits plan n f Abort good = fail_fits true 5 (omega arith)

@@ -29,7 +29,7 @@ code_does s plan variables program entries fine is_plan linked f code stands =
     let end : ℕ = plan.start f + length body in
     let x : Exits = exits (exit end none) (exit end none) (exit end none) in
     let returns : (f : ℕ) (y : Option Operand) (k : VariableSet) (x : Exits) (leaves skips here : ℕ) → Stood s plan variables fine program is_plan entries 14 46 (is_short code) f (Return y) k (ways_of x) leaves skips here → Done' s plan variables fine program is_plan entries 14 46 (is_short code) f unknown (Return y) k x leaves skips here =
-    λ f y k x leaves skips here t. returns_done s plan variables fine program is_plan entries linked 14 46 (is_short code) f y k x leaves skips here (let l = leave_short (plan.leaf f) (plan.home f) y in omega arith) t in (
+    λ f y k x leaves skips here t. returns_done s plan variables fine program is_plan entries linked 14 46 (is_short code) f y k x leaves skips here (let l = leave_short plan.by_a (plan.leaf f) (plan.home f) y in omega arith) t in (
       end,
       code_done s plan variables fine program is_plan entries 14 46 (is_short code)
           (λ f a live leaves skips is. (let l = simple_short plan variables f a live leaves skips is in omega arith))

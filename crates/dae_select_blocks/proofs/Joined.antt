@@ -67,15 +67,15 @@ module _ (s : Setting) (plan : Plan) (variables : ℕ → ℕ) (fine : Fits s pl
       runs_halt s plan.private to' (λ k w small here is r shows. step_ends s plan.private by_e w 0 (Status (value x m.env)) shows here is refl (omega arith) (λ q. refl)))))) in
       run.from plan.finish (omega arith) at q g.shows))
 
-  pub returns_done : (short : Bool) (f : ℕ) (y : Option Operand) (k : VariableSet) (x : Exits) (leaves' skips here : ℕ) → length (leave_code (plan.leaf f) (plan.home f) y) + 3 ≤ most → Stood s plan variables fine program is_plan entries most widest short f (Return y) k (ways_of x) leaves' skips here → Done' s plan variables fine program is_plan entries most widest short f unknown (Return y) k x leaves' skips here
+  pub returns_done : (short : Bool) (f : ℕ) (y : Option Operand) (k : VariableSet) (x : Exits) (leaves' skips here : ℕ) → length (leave_code plan.by_a (plan.leaf f) (plan.home f) y) + 3 ≤ most → Stood s plan variables fine program is_plan entries most widest short f (Return y) k (ways_of x) leaves' skips here → Done' s plan variables fine program is_plan entries most widest short f unknown (Return y) k x leaves' skips here
   returns_done short f y k x leaves' skips here brief' t m p h =
-      let stands : CodeAt s.code here (leave_code (plan.leaf m.function) (plan.home m.function) y) = (let a = t.stands in rw h.0 a) in
-      let small : here + length (leave_code (plan.leaf m.function) (plan.home m.function) y) < 2 ^ 29 = (let a = t.small in rw h.0 a) in
-      let brief : length (leave_code (plan.leaf m.function) (plan.home m.function) y) + 3 ≤ most = rw h.0 brief' in
+      let stands : CodeAt s.code here (leave_code plan.by_a (plan.leaf m.function) (plan.home m.function) y) = (let a = t.stands in rw h.0 a) in
+      let small : here + length (leave_code plan.by_a (plan.leaf m.function) (plan.home m.function) y) < 2 ^ 29 = (let a = t.small in rw h.0 a) in
+      let brief : length (leave_code plan.by_a (plan.leaf m.function) (plan.home m.function) y) + 3 ≤ most = rw h.0 brief' in
       let reads : (u : ℕ) → in_option y u ≡ true → before (Return y) k (ways_of x) u ≡ true = λ u e. rw e refl in
       let low = linked.low in (
         (λ none. (let a = h.1.agrees.waiting in let b : AreWaiting plan h.1.contents (return_address plan m.function h.1.contents h.1.agrees.base) h.1.agrees.base m.frame [] = rw none at a in
-            finishes m y p (length (leave_code (plan.leaf m.function) (plan.home m.function) y)) (leaves s plan variables fine y plan.finish h.1 t.wanted reads (omega arith) b.2 small stands) brief plan.by_a refl linked.finish)),
+            finishes m y p (length (leave_code plan.by_a (plan.leaf m.function) (plan.home m.function) y)) (leaves s plan variables fine y plan.finish h.1 t.wanted reads (omega arith) b.2 small stands) brief plan.by_a refl linked.finish)),
         (λ w ws is. comes_map s most (omega arith) (λ q g. g) (return_done s plan variables fine y w ws h.1 is t.wanted reads small stands)),
       )
 

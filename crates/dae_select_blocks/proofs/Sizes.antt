@@ -74,7 +74,7 @@ module _ (short : Bool) (plan : Plan) (variables : ℕ → ℕ) (f : ℕ) where
   action_length Break k l s = let h = over_short short l in omega arith
   action_length Continue k l s = let h = over_short short s in omega arith
   action_length (Call v g xs) k l s = let h = call_length v g xs (λ u. k u && not (is v u)) in omega arith
-  action_length (Return x) k l s = let h = leave_short (plan.leaf f) (plan.home f) x in omega arith
+  action_length (Return x) k l s = let h = leave_short plan.by_a (plan.leaf f) (plan.home f) x in omega arith
 
   -- a pair's block is no longer than one of its actions may be
   abbrev BlockFits : Facts → Standing → Ways → ℕ → ℕ → Action → Actions → Standing → Type 0

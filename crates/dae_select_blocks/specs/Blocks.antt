@@ -1,7 +1,7 @@
 -- The block of each action. Registers: x1 the address to return to, x2 where the private frame begins, x3 where the frame
 -- in common memory does, x5, x6 and x7 for the work of one block, x6 also for a call's result. On A x4 is how many addresses
--- common memory has, and x10 the depth. On E x10 and x17 are for the environment call. A number that stays in a register is read
--- there.
+-- common memory has, and x10 the depth as it is counted. On E x10 and x17 are for the environment call. A number that stays in
+-- a register is read there.
 use Rattle.std.specs.Prelude.{ℕ, ◌+◌, ◌-◌, ◌*◌, ◌/◌, ◌%◌, ◌^◌, ℤ, pos, negsuc, Bool, true, false, not, ◌&&◌, nat_lt, nat_eq, if◌then◌else◌, List, [], ◌∷◌, ◌++◌, Option, Some, None, is_some, zero, suc}
 use Rattle.dae_base.specs.Words.{signed, size, minus}
 use Rattle.dae_base.specs.declared.Width.{Width}
@@ -27,7 +27,7 @@ use Rattle.dae_ir.specs.declared.stream.Argument.{Argument}
 use Rattle.dae_select_walks.specs.declared.Home.{Home}
 use Rattle.dae_select_walks.specs.declared.Home.TheVariants.{Register, Slot}
 use Rattle.dae_select_walks.specs.Homes.{kept_at, slot_at, number_key, resident_register}
-use Rattle.dae_select_walks.specs.Agrees.{Plan}
+use Rattle.dae_select_walks.specs.Agrees.{Plan, counted_depth}
 
 -- ---- a word as the immediates of LUI and of the instruction after it: the second is signed, of twelve bits
 
@@ -294,7 +294,7 @@ place_code home width x = fetch home 5 x ++ (align_code width (source home 5 x) 
 abbrev pub zero_code : Bool → (ℕ → Home) → Operand → List Inst
 zero_code by_a home x = fetch home 5 x ++ Bne (source home 5 x) 0 (over by_a) ∷ fail_code by_a 1
 
--- the depth in x10 must be below the limit
+-- the depth that is counted in x10 must be below the limit
 abbrev pub depth_code : ℕ → List Inst
 depth_code limit = number_code 6 limit ++ Bltu 10 6 (pos 12) ∷ fail_code true 4
 
@@ -313,7 +313,7 @@ frame_room_code memory own = if nat_lt memory own then fail_code true 4 else roo
 abbrev pub check_code : Plan → ℕ → Check → List Inst
 check_code plan f (Place width x) = place_code (plan.home f) width x
 check_code plan f (Zero x) = zero_code plan.by_a (plan.home f) x
-check_code plan f (Room g) = call_room_code plan.memory plan.limit (plan.frame f) (plan.frame g)
+check_code plan f (Room g) = call_room_code plan.memory (counted_depth plan f plan.limit) (plan.frame f) (plan.frame g)
 check_code plan f Frame = frame_room_code plan.memory (plan.frame f)
 check_code plan f Abort = fail_code true 5
 
@@ -473,25 +473,28 @@ less_code r n =
 
 -- the frames of the function that is called follow the caller's
 abbrev pub deeper_code : Plan → ℕ → List Inst
-deeper_code plan f =
-    more_code 3 (plan.frame f % 2 ^ 32) ++ (more_code 2 (4 * plan.words f) ++ (if plan.by_a then Addi 10 10 (pos 1) ∷ [] else []))
+deeper_code plan f = more_code 3 (plan.frame f % 2 ^ 32) ++ more_code 2 (4 * plan.words f)
 
 abbrev pub back_code : Plan → ℕ → List Inst
-back_code plan f =
-    less_code 3 (plan.frame f % 2 ^ 32) ++ (less_code 2 (4 * plan.words f) ++ (if plan.by_a then Addi 10 10 (negsuc 0) ∷ [] else []))
+back_code plan f = less_code 3 (plan.frame f % 2 ^ 32) ++ less_code 2 (4 * plan.words f)
 
 abbrev pub result_code : (ℕ → Home) → Option ℕ → List Inst
 result_code home None = []
 result_code home (Some v) = Addi (register_or 5 (home v)) 6 (pos 0) ∷ keep (home v)
 
--- the address to return to goes into the first word of the frame, but a leaf's, which stays in x1
-abbrev pub store_link : Bool → List Inst
-store_link leaf = if leaf then [] else Sw 2 1 (pos 0) ∷ []
+-- A counts so much more
+abbrev pub count_code : Bool → ℤ → List Inst
+count_code by_a more = if by_a then Addi 10 10 more ∷ [] else []
 
--- and comes from there into x1
-abbrev pub load_link : Bool → List Inst
-load_link leaf = if leaf then [] else Lw 1 2 (pos 0) ∷ []
+-- the address to return to goes into the first word of the frame, and A counts the function, but a leaf, whose address stays in
+-- x1
+abbrev pub prologue_code : Bool → Bool → List Inst
+prologue_code by_a leaf = if leaf then [] else Sw 2 1 (pos 0) ∷ count_code by_a (pos 1)
 
-abbrev pub leave_code : Bool → (ℕ → Home) → Option Operand → List Inst
-leave_code leaf home None = load_link leaf ++ Jalr 0 1 (pos 0) ∷ []
-leave_code leaf home (Some x) = move_code home 6 x ++ (load_link leaf ++ Jalr 0 1 (pos 0) ∷ [])
+-- and the address comes from there into x1
+abbrev pub epilogue_code : Bool → Bool → List Inst
+epilogue_code by_a leaf = if leaf then [] else Lw 1 2 (pos 0) ∷ count_code by_a (negsuc 0)
+
+abbrev pub leave_code : Bool → Bool → (ℕ → Home) → Option Operand → List Inst
+leave_code by_a leaf home None = epilogue_code by_a leaf ++ Jalr 0 1 (pos 0) ∷ []
+leave_code by_a leaf home (Some x) = move_code home 6 x ++ (epilogue_code by_a leaf ++ Jalr 0 1 (pos 0) ∷ [])

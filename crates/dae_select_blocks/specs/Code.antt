@@ -28,7 +28,7 @@ use Rattle.dae_select_walks.specs.Agrees.{Plan}
 use Rattle.dae_select_walks.specs.Compiled.{is_told}
 use Rattle.dae_select_walks.specs.declared.Standing.{Standing}
 use Rattle.dae_select_walks.specs.declared.Standing.TheVariants.{Settled, Early, Late}
-use Rattle.dae_select_blocks.specs.Blocks.{number_code, register_or, source, fetch, keep, value_code, issue_code, address_code, take_code, own_code, move_code, call_number, system_code, hear_code, stop_code, check_code, bounds_code, residents_code, test_code, jump_over, jump_back, enter_code, goes_back, arguments_code, is_register, save_code, restore_code, deeper_code, back_code, result_code, store_link, leave_code, jump_words, one_way, goes_code, tell_number_code, against_zero, immediate_of}
+use Rattle.dae_select_blocks.specs.Blocks.{number_code, register_or, source, fetch, keep, value_code, issue_code, address_code, take_code, own_code, move_code, call_number, system_code, hear_code, stop_code, check_code, bounds_code, residents_code, test_code, jump_over, jump_back, enter_code, goes_back, arguments_code, is_register, save_code, restore_code, deeper_code, back_code, result_code, prologue_code, leave_code, jump_words, one_way, goes_code, tell_number_code, against_zero, immediate_of}
 use Rattle.dae_select_blocks.specs.Sizes.{most_words_in, is_short}
 
 -- ---- the registers that a call keeps
@@ -75,7 +75,7 @@ action_code plan variables f (Stop x) live leaves skips = stop_code plan.by_a (p
 action_code plan variables f Break live leaves skips = leaves
 action_code plan variables f Continue live leaves skips = skips
 action_code plan variables f (Call v g xs) live leaves skips = call_code plan variables f v g xs (λ u. live u && not (is v u))
-action_code plan variables f (Return x) live leaves skips = leave_code (plan.leaf f) (plan.home f) x
+action_code plan variables f (Return x) live leaves skips = leave_code plan.by_a (plan.leaf f) (plan.home f) x
 
 -- a test is told, and a branch follows: on its operands, which are still in their registers, or else on x7
 abbrev pub told_by : Option ℕ → (ℕ → Home) → (Comparison → ℕ → ℕ → List Inst) → Test → Bool → List Inst
@@ -284,9 +284,10 @@ abbrev mutual
 
 -- ---- functions
 
--- a function keeps the address to return to, unless it is a leaf, and gets the parameters that it reads into their registers
+-- a function keeps the address to return to and counts itself, unless it is a leaf, and gets the parameters that it reads into
+-- their registers
 abbrev pub entry_code : Plan → (ℕ → ℕ) → ℕ → VariableSet → List Inst
-entry_code plan variables f live = store_link (plan.leaf f) ++ restore_code (registers_in (plan.home f) (variables f) live)
+entry_code plan variables f live = prologue_code plan.by_a (plan.leaf f) ++ restore_code (registers_in (plan.home f) (variables f) live)
 
 -- its actions return or halt, so nothing stands behind them
 abbrev pub function_code : Plan → (ℕ → ℕ) → ℕ → Actions → List Inst
@@ -298,9 +299,9 @@ abbrev pub finish_code : Bool → List Inst
 finish_code true = Ecall ∷ []
 finish_code false = Addi 10 6 (pos 0) ∷ (Addi 17 0 (pos 0) ∷ (Ecall ∷ []))
 
--- the code that begins: where frames begin, the numbers that stay in registers, on A how many addresses common memory has and
--- that main stands at depth 1, and the call of main
+-- the code that begins: where frames begin, the numbers that stay in registers, on A how many addresses common memory has, and
+-- the call of main
 abbrev pub start_code : Plan → ℕ → ℕ → List Inst
 start_code plan main first =
-    (number_code 3 first ++ (residents_code 27 plan.residents ++ (if plan.by_a then number_code 4 (plan.memory - 16) ++ Addi 10 0 (pos 1) ∷ [] else [])))
+    (number_code 3 first ++ (residents_code 27 plan.residents ++ (if plan.by_a then number_code 4 (plan.memory - 16) else [])))
     ++ enter_code plan.near (plan.entry main)

@@ -1,6 +1,7 @@
 // What is settled before the code of a side is made.
 
 ghost use Rattle.std.specs.Prelude.{◌≡◌};
+ghost use Rattle.dae_select_walks.specs.Agrees.{counted_depth};
 ghost use Rattle.dae_select_calls.specs.Layouts.{plan_of, variables_of, AreSmall};
 ghost use Rattle.dae_select_values.specs.Tables.{AreNear, home_by};
 
@@ -90,6 +91,17 @@ impl Layouts {
         match self.functions.as_slice().get(function as usize) {
             Some(layout) => layout.leaf,
             None => false,
+        }
+    }
+
+    /// The call limit as it is counted in a function.
+    pub fn counted_limit(&self, function: u32) -> u16
+        ensures { result ≡ counted_depth (plan_of self.now) function self.now.limit }
+    {
+        if self.leaf(function) {
+            self.limit.saturating_sub(1)
+        } else {
+            self.limit
         }
     }
 

@@ -72,6 +72,10 @@ AreResident plan c = (n r : ℕ) → resident_register (resident_home 27 plan.re
 abbrev pub return_address : Plan → ℕ → Contents → ℕ → ℕ
 return_address plan f c base = if plan.leaf f then c.register 1 else c.word base
 
+-- what A has counted in a function at a depth: a leaf isn't counted
+abbrev pub counted_depth : Plan → ℕ → ℕ → ℕ
+counted_depth plan f depth = if plan.leaf f then depth - 1 else depth
+
 -- the calls that wait below a frame that begins at a word of private memory and at an address of common memory, and that is
 -- left to this address. A function that waits has made a call, so its own is in its frame
 abbrev pub AreWaiting : Plan → Contents → ℕ → ℕ → ℕ → List Waiting → Type 0
@@ -86,7 +90,7 @@ pub record Agrees (plan : Plan) (live : VariableSet) (m : Moment) (c : Contents)
   pub variables : AreIn (held c base) (plan.home m.function) live m.env
   pub pointer : c.register 2 ≡ 4 * base
   pub frame : c.register 3 ≡ m.frame
-  pub depth : plan.by_a ≡ true → c.register 10 ≡ depth_of m
+  pub depth : plan.by_a ≡ true → c.register 10 ≡ counted_depth plan m.function (depth_of m)
   pub addresses : plan.by_a ≡ true → c.register 4 ≡ plan.memory - 16
   pub residents : AreResident plan c
   pub waiting : AreWaiting plan c (return_address plan m.function c base) base m.frame m.waiting
