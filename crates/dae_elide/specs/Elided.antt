@@ -1,6 +1,6 @@
 -- Checks of places that are known to pass leave a form: in place of each the variable is set to itself. So the form has as many
 -- items as before, and each does as much.
-use Rattle.std.specs.Prelude.{ℕ, Bool, ◌&&◌, nat_lt, [], Some, if◌then◌else◌}
+use Rattle.std.specs.Prelude.{ℕ, Bool, ◌&&◌, nat_lt, [], Some, if◌then◌else◌, None}
 use Rattle.dae_base.specs.declared.Width.{Width}
 use Rattle.dae_ir.specs.Code.{Done, Do, If, Loop}
 use Rattle.dae_ir.specs.Classes.{VariableSet}
@@ -22,14 +22,14 @@ use Rattle.dae_select_walks.specs.Facts.{Facts, bounds_in, is_good, facts_behind
 abbrev pub as_action : Item → Action
 as_action (Assign v x) = Set v x
 as_action (Load v kind x) = Own v kind x
-as_action (Store width x y) = Hear
-as_action (Print spelling x) = Hear
+as_action (Store width x y) = Hear None
+as_action (Print spelling x) = Hear None
 as_action (Expect check) = Probe check
 as_action Break = Leave
 as_action Continue = Skip
 as_action (Call v f xs) = Enter (Some v) f []
 as_action (Return x) = Give (Some x)
-as_action (Halt x) = Hear
+as_action (Halt x) = Hear None
 
 abbrev pub as_actions : Form → Actions
 as_actions Done = Done
