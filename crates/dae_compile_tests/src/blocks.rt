@@ -15,7 +15,6 @@ static WORDS: [(u32, Inst); 116] = [
     (0x00029663, Inst::Bne(5, 0, 12)), // bne t0,zero,2c <.text+0x2c>
     (0x000e9663, Inst::Bne(29, 0, 12)), // bne t4,zero,30 <.text+0x30>
     (0x00041a63, Inst::Bne(8, 0, 20)), // bne s0,zero,3c <.text+0x3c>
-    (0x00028463, Inst::Beq(5, 0, 8)), // beq t0,zero,34 <.text+0x34>
     (0x00050663, Inst::Beq(10, 0, 12)), // beq a0,zero,3c <.text+0x3c>
     (0x00030663, Inst::Beq(6, 0, 12)), // beq t1,zero,40 <.text+0x40>
     (0x00736663, Inst::Bltu(6, 7, 12)), // bltu t1,t2,44 <.text+0x44>
@@ -116,6 +115,8 @@ static WORDS: [(u32, Inst); 116] = [
     (0x7a9460e3, Inst::Bltu(8, 9, 4000)), // bltu s0,s1,4000
     (0x00647263, Inst::Bgeu(8, 6, 4)), // bgeu s0,t1,4
     (0x000e8463, Inst::Beq(29, 0, 8)), // beq t4,zero,8
+    (0x000e8863, Inst::Beq(29, 0, 16)), // beq t4,zero,16
+    (0x00200513, Inst::Addi(10, 0, 2)), // addi a0,zero,2
     (0x06810113, Inst::Addi(2, 2, 104)), // addi sp,sp,104
     (0xf9810113, Inst::Addi(2, 2, -104)), // addi sp,sp,-104
     (0x00000073, Inst::Ecall), // ecall

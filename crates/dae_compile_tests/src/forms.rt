@@ -296,6 +296,23 @@ pub fn summed_locals(alloc: Global, locals: u32) -> Result<Ir, AllocError>
     printed_call(alloc, summed, 3, 100)
 }
 
+/// `printf("%d\n", *p);` where p is a pointer to a value of this width, and points there.
+pub fn printed_place(alloc: Global, width: Width, address: u32) -> Result<Ir, AllocError> {
+    let kind = match width {
+        Width::B1 => LoadKind::U8,
+        Width::B2 => LoadKind::U16,
+        Width::B4 => LoadKind::I32,
+    };
+    let body = [
+        copy(1, number(address)),
+        simple(Item::Expect(Check::Place(width, variable(1)))),
+        simple(Item::Load(2, kind, variable(1))),
+    ];
+    let mut body = Vec::from_array(alloc, body)?;
+    print_and_halt(&mut body, variable(2))?;
+    program(alloc, 3, body)
+}
+
 /// `putchar('a');` on line 2, `putchar('b');` twice on line 3, and behind them the end of main.
 pub fn letters_on_lines(alloc: Global) -> Result<Ir, AllocError> {
     let mut body = Vec::new(alloc);

@@ -6,7 +6,7 @@ ghost use Rattle.dae_image.specs.Contents.{is_name};
 ghost use Rattle.dae_core.specs.Held.{CanHold};
 
 use crate::forms;
-use dae_base::{Depths, Items, Side, Text};
+use dae_base::{Depths, Items, Side, Text, Width};
 use dae_image::{Image, LineMark};
 use dae_ir::{Ir, Pair, Stream};
 use dae_link::{CodeError, link};
@@ -282,6 +282,27 @@ fn calls_up_to_the_limit(rt: HostRuntime) -> Result<(), Fail> {
     check_ends(&rt, alloc, within, &[], budget, (End::Ended(0), b"98\n"))?;
     let past = forms::counted_calls(alloc, 100, 99)?;
     check_ends(&rt, alloc, past, &[], budget, (End::Trapped(4), b""))
+}
+
+fn check_place(
+    rt: &impl Abort,
+    alloc: Global,
+    width: Width,
+    address: u32,
+    due: (End, &[u8]),
+) -> Result<(), Fail> {
+    let ir = forms::printed_place(alloc, width, address)?;
+    check_ends(rt, alloc, ir, &[], [1, 0, 0, 0, 1, 0, 0], due)
+}
+
+// A byte is outside of the memory or not; a word may also be misaligned.
+#[test]
+fn good_and_bad_places(rt: HostRuntime) -> Result<(), Fail> {
+    let alloc = rt.alloc();
+    check_place(&rt, alloc, Width::B1, 4095, (End::Ended(0), b"0\n"))?;
+    check_place(&rt, alloc, Width::B1, 4096, (End::Trapped(2), b""))?;
+    check_place(&rt, alloc, Width::B4, 4096, (End::Trapped(2), b""))?;
+    check_place(&rt, alloc, Width::B4, 4094, (End::Trapped(3), b""))
 }
 
 fn is_register(home: &Home) -> bool {

@@ -92,7 +92,7 @@ module _ (p : Plan) (entry start : ℕ → ℕ) (finish : ℕ) (variables : ℕ 
     action_long (Emit spelling x) k l s m t = refl
     action_long (Probe check) k l s m t = ap length (check_same check)
     action_long (Tell x) k l s m t = refl
-    action_long Hear k l s m t = refl
+    action_long (Hear only) k l s m t = refl
     action_long (Stop x) k l s m t = refl
     action_long Break k l s m t = over_long short l m
     action_long Continue k l s m t = over_long short s t

@@ -17,7 +17,7 @@ use Rattle.dae_encode.specs.declared.Inst.{Inst}
 use Rattle.dae_encode.specs.declared.Inst.TheVariants.{Addi, Add, Sub, Slt, Sltu, Slti, Sltiu, Xori, Slli, Srli, Srai, Andi, Beq, Bne, Bltu, Bgeu, Ecall}
 use Rattle.dae_ir.specs.Code.{Done, Do, If, Loop}
 use Rattle.dae_ir.specs.Classes.{VariableSet}
-use Rattle.dae_ir.specs.Deeds.{told_on, heard_on}
+use Rattle.dae_ir.specs.Deeds.{told_on, heard_on, failure_code}
 use Rattle.dae_ir.specs.Programs.{side}
 use Rattle.dae_ir.specs.Streams.{Actions}
 use Rattle.dae_ir.specs.declared.form.Operand.{Operand}
@@ -32,6 +32,7 @@ use Rattle.dae_ir.specs.declared.stream.Action.{Action}
 use Rattle.dae_ir.specs.declared.stream.Action.TheVariants.{Set as Compute, Issue, Own, Receive, Address, Datum, Offer, Accept, Emit, Probe, Tell, Hear, Stop, Break, Continue, Call, Return}
 use Rattle.dae_ir.specs.declared.stream.Branch.{Branch}
 use Rattle.dae_ir.specs.declared.stream.Branch.TheVariants.{Silent, Tells, Hears}
+use Rattle.dae_ir.specs.declared.stream.Failure.{Failure}
 use Rattle.dae_meaning.specs.declared.Operator.{Operator}
 use Rattle.dae_meaning.specs.declared.Comparison.{Comparison}
 use Rattle.dae_meaning.specs.declared.Comparison.TheVariants.{Equal, NotEqual, LessSigned, AtLeastSigned, LessUnsigned, AtLeastUnsigned}
@@ -155,9 +156,12 @@ module _ (by_a : Bool) where
       by true = tt
       by false = (room_uses (memory - n)).only
 
-  hear_uses : (b : Bool) → Uses by_a (Some (heard_on by_a)) (hear_code b)
-  hear_uses true = first_uses _ (Addi 5 29 (pos 0)) (Beq 5 0 (pos 8) ∷ (Ecall ∷ [])) (takes_message by_a (Addi 5 29 (pos 0)) 5 refl (omega arith)) (quiet _ (Beq 5 0 (pos 8) ∷ (Ecall ∷ [])) ((omega arith, omega arith, omega arith), (tt, tt)))
-  hear_uses false = first_uses _ (Addi 10 29 (pos 0)) (Beq 10 0 (pos 12) ∷ (Addi 17 0 (pos 5) ∷ (Ecall ∷ []))) (takes_message by_a (Addi 10 29 (pos 0)) 10 refl (omega arith)) (quiet _ (Beq 10 0 (pos 12) ∷ (Addi 17 0 (pos 5) ∷ (Ecall ∷ []))) ((omega arith, omega arith, omega arith), ((omega arith, omega arith, omega arith), (tt, tt))))
+  hear_uses : (b : Bool) (only : Option Failure) → Uses by_a (Some (heard_on by_a)) (hear_code b only)
+  hear_uses true only = first_uses _ (Beq 29 0 (pos 8)) (Ecall ∷ []) (takes_message by_a (Beq 29 0 (pos 8)) 0 refl (omega arith)) (quiet _ (Ecall ∷ []) (tt, tt))
+  hear_uses false (Some failure) =
+      let behind : List Inst = Addi 10 0 (pos (failure_code failure)) ∷ (Addi 17 0 (pos 5) ∷ (Ecall ∷ [])) in
+      first_uses _ (Beq 29 0 (pos 16)) behind (takes_message by_a (Beq 29 0 (pos 16)) 0 refl (omega arith)) (quiet _ behind ((omega arith, omega arith, omega arith), ((omega arith, omega arith, omega arith), (tt, tt))))
+  hear_uses false None = first_uses _ (Addi 10 29 (pos 0)) (Beq 10 0 (pos 12) ∷ (Addi 17 0 (pos 5) ∷ (Ecall ∷ []))) (takes_message by_a (Addi 10 29 (pos 0)) 10 refl (omega arith)) (quiet _ (Beq 10 0 (pos 12) ∷ (Addi 17 0 (pos 5) ∷ (Ecall ∷ []))) ((omega arith, omega arith, omega arith), ((omega arith, omega arith, omega arith), (tt, tt))))
 
 issue_form : (kind : LoadKind) (q b : ℕ) → form_of (effect (issue_code kind q b)) ≡ Loads kind q b (word (pos 0))
 issue_form I8 q b = refl
@@ -254,7 +258,7 @@ module _ (plan : Plan) (variables : ℕ → ℕ) (good : (f v : ℕ) → IsHome 
     action_uses short (Emit spelling x) live leaves skips is = no_queue by_a' _ (system_plain (variables f) (plan.home f) (good f) (call_number spelling) x)
     action_uses short (Probe check) live leaves skips is = check_uses check
     action_uses short (Tell x) live leaves skips is = move_uses (Some (told_on by_a')) 29 x (λ r imm l. pushes_message by_a' (Addi 29 r imm) r refl l)
-    action_uses short Hear live leaves skips is = hear_uses by_a' by_a'
+    action_uses short (Hear only) live leaves skips is = hear_uses by_a' by_a' only
     action_uses short (Stop x) live leaves skips is = no_queue by_a' _ (stop_plain (variables f) (plan.home f) (good f) by_a' x)
     action_uses short Break live leaves skips is = no_queue by_a' _ (over_plain short leaves)
     action_uses short Continue live leaves skips is = no_queue by_a' _ (over_plain short skips)

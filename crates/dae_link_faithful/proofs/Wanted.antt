@@ -6,7 +6,7 @@ use Rattle.dae_ir.specs.Code.{Done, Do, If, Loop, Each}
 use Rattle.dae_ir.specs.Form.{Form}
 use Rattle.dae_ir.specs.Classes.{VariableSet, Classes, has_check}
 use Rattle.dae_ir.specs.Rounds.{Jump, Breaks, Continues, Enters, Gives, Halts, Round, Group, Alone, Region, Decision, Rounds, Joins, Closes, is_full, closed, placed, region, one_sided, rounds}
-use Rattle.dae_ir.specs.Streams.{Actions, mark, when, a_part, e_part, parts, message, gives_address, hears_check, e_last, group_of, set_of, kept, jump_action, arguments_in, branch_of, inside_of, has_loop, region_of, side_of}
+use Rattle.dae_ir.specs.Streams.{Actions, mark, when, a_part, e_part, parts, message, gives_address, hears_check, e_last, group_of, set_of, kept, jump_action, arguments_in, branch_of, inside_of, has_loop, region_of, side_of, only_failure}
 use Rattle.dae_ir.specs.declared.form.Item.{Item}
 use Rattle.dae_ir.specs.declared.form.Item.TheVariants.{Assign, Load, Store, Print, Expect, Break as Leave, Continue as Skip, Call as Enter, Return as Give, Halt}
 use Rattle.dae_ir.specs.declared.form.Operand.{Operand}
@@ -210,7 +210,7 @@ module _ (plan : Plan) (copies : Bool) (entries : ℕ → VariableSet) (of : ℕ
 
   group_wanted : (b : Bool) → plan.by_a ≡ b → (n : ℕ) (g : List Part) (last : Last) (k : Actions) → PartsWanted g → LastWanted last → Wanted k → Wanted (group_of b c n g last k)
   group_wanted true a n g last k h l i = parts_wanted (a_part c n) (a_part_wanted a n) g _ h (address_wanted a n last _ l (message_wanted n (Tell (Number 0)) g _ zero_small (hears_wanted n last k i)))
-  group_wanted false a n g last k h l i = message_wanted n Hear g _ tt (parts_wanted (e_part c n) (e_part_wanted a n) g _ h (last_wanted a n last k l i))
+  group_wanted false a n g last k h l i = message_wanted n (Hear (only_failure g)) g _ tt (parts_wanted (e_part c n) (e_part_wanted a n) g _ h (last_wanted a n last k l i))
 
   -- ---- the stream
 
@@ -248,7 +248,7 @@ module _ (plan : Plan) (copies : Bool) (entries : ℕ → VariableSet) (of : ℕ
 
   region_wanted : (b : Bool) → plan.by_a ≡ b → (n : ℕ) (place : Place) (d : Bool) (code : Form) (k : Actions) → FormWanted b code → Wanted k → Wanted (region_of b of c cap n place d code k)
   region_wanted true a n place true code k h i = inside_wanted true a n (rounds c cap false code []) _ (rounds_wanted true false code h [] tt) (when_wanted (has_loop code) (mark place n) (Tell (Number 0)) k (λ e. zero_small) i)
-  region_wanted false a n place true code k h i = when_wanted (has_loop code) (mark place n) Hear k (λ e. tt) i
+  region_wanted false a n place true code k h i = when_wanted (has_loop code) (mark place n) (Hear None) k (λ e. tt) i
   region_wanted true a n place false code k h i = i
   region_wanted false a n place false code k h i = inside_wanted false a n (rounds c cap false code []) k (rounds_wanted false false code h [] tt) i
 

@@ -111,7 +111,7 @@ fn action_code(
         }
         Action::Probe(check) => check_code(code, making, *check),
         Action::Tell(operand) => move_code(code, homes, 29, *operand),
-        Action::Hear => hear_code(code, side),
+        Action::Hear(only) => hear_code(code, side, *only),
         Action::Stop(status) => stop_code(code, side, homes, *status),
         Action::Break => jump_over(code, making.jumps, ahead, onward.exits.leaves),
         Action::Continue => jump_over(code, making.jumps, ahead, onward.exits.skips),

@@ -136,7 +136,7 @@ module _ (plan : Plan) (variables : ℕ → ℕ) (good : (f v : ℕ) → IsHome 
     action_fits f (Emit spelling x) live leaves skips = system_fits (variables f) (plan.home f) (good f) (call_number spelling) x (number_small spelling)
     action_fits f (Probe check) live leaves skips = check_fits plan (variables f) f check (good f)
     action_fits f (Tell x) live leaves skips = move_fits (variables f) (plan.home f) (good f) 29 x (omega arith)
-    action_fits f Hear live leaves skips = hear_fits plan.by_a
+    action_fits f (Hear only) live leaves skips = hear_fits plan.by_a only
     action_fits f (Stop x) live leaves skips = stop_fits (variables f) (plan.home f) (good f) plan.by_a x
     action_fits f Break live leaves skips = over_fits short leaves
     action_fits f Continue live leaves skips = over_fits short skips

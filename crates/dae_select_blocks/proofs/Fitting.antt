@@ -28,11 +28,13 @@ use Rattle.dae_ir.specs.declared.form.Value.{Value}
 use Rattle.dae_ir.specs.declared.form.Value.TheVariants.{Same, Extended, Binary, Holds, FrameAddress}
 use Rattle.dae_ir.specs.declared.stream.Branch.{Branch}
 use Rattle.dae_ir.specs.declared.stream.Branch.TheVariants.{Silent, Tells, Hears}
+use Rattle.dae_ir.specs.declared.stream.Failure.{Failure}
+use Rattle.dae_ir.specs.Deeds.{failure_code}
 use Rattle.dae_select_walks.specs.declared.Home.{Home}
 use Rattle.dae_select_walks.specs.Homes.{IsHome, number_key, resident_register}
 use Rattle.dae_select_blocks.specs.Blocks.{lower, is_immediate, number_code, register_or, source, fetch, move_code, operation_code, exponent, power_code, immediate_code, commutes, exchanged_code, behind_or, combine_registers, binary_code, extend_code, compare_code, compare_number_code, compare_registers, compare_operands, test_code, frame_code, value_code, issue_code, address_code, take_code, fail_code, over, align_code, bounds_code, room_code, check_code, system_code, hear_code, stop_code, leave_code, result_code, branch_inst, opposite, one_way, goes_by, goes_code, frames_room_code, tell_number_code, against_zero, immediate_of, back_offset, goes_back, number_or, as_immediate, epilogue_code}
 use Rattle.dae_select_blocks.specs.Code.{placed_code, branch_code, told_by, branch_by, ahead_by, before_branch, back_branch}
-use Rattle.dae_select_blocks.proofs.Ranges.{move_fit, AllFit, fit_append, fit_either, lower_fits, addi_fits, addi_small, lw_small, add_fits, number_fits, register_fits, fetch_fits, move_fits, keep_fits, over_fits}
+use Rattle.dae_select_blocks.proofs.Ranges.{move_fit, AllFit, fit_append, fit_either, lower_fits, addi_fits, addi_small, lw_small, add_fits, number_fits, register_fits, fetch_fits, move_fits, keep_fits, over_fits, failure_small}
 use Rattle.dae_select_blocks.proofs.Operands.{number_below}
 use Rattle.dae_select_blocks.proofs.Values.{power_of_two}
 
@@ -308,9 +310,10 @@ module _ (n : ℕ) (home : ℕ → Home) (good : (v : ℕ) → IsHome n (home v)
   result_fits None = tt
   result_fits (Some v) = (addi_small (register_or 5 (home v)) 6 0 (register_fits n 5 (home v) (good v) (omega arith)) (omega arith) (omega arith), keep_fits (home v))
 
-pub hear_fits : (b : Bool) → AllFit (hear_code b)
-hear_fits true = (addi_small 5 29 0 (omega arith) (omega arith) (omega arith), (beq_fits 5 0 8 (omega arith) (omega arith) (omega arith) refl, (ecall_fits, tt)))
-hear_fits false = (addi_small 10 29 0 (omega arith) (omega arith) (omega arith), (beq_fits 10 0 12 (omega arith) (omega arith) (omega arith) refl, (addi_small 17 0 5 (omega arith) (omega arith) (omega arith), (ecall_fits, tt))))
+pub hear_fits : (b : Bool) (only : Option Failure) → AllFit (hear_code b only)
+hear_fits true only = (beq_fits 29 0 8 (omega arith) (omega arith) (omega arith) refl, (ecall_fits, tt))
+hear_fits false (Some failure) = (beq_fits 29 0 16 (omega arith) (omega arith) (omega arith) refl, (addi_small 10 0 (failure_code failure) (omega arith) (omega arith) (failure_small failure), (addi_small 17 0 5 (omega arith) (omega arith) (omega arith), (ecall_fits, tt))))
+hear_fits false None = (addi_small 10 29 0 (omega arith) (omega arith) (omega arith), (beq_fits 10 0 12 (omega arith) (omega arith) (omega arith) refl, (addi_small 17 0 5 (omega arith) (omega arith) (omega arith), (ecall_fits, tt))))
 
 pub fail_fits : (b : Bool) (code : ℕ) → code < 2 ^ 11 → AllFit (fail_code b code)
 fail_fits true code h = (addi_small 29 0 code (omega arith) (omega arith) h, (ecall_fits, tt))

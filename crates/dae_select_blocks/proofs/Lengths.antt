@@ -25,6 +25,7 @@ use Rattle.dae_ir.specs.declared.stream.Action.{Action}
 use Rattle.dae_ir.specs.declared.stream.Action.TheVariants.{Set as Compute, Issue, Own, Receive, Address, Datum, Offer, Accept, Emit, Probe, Tell, Hear, Stop, Break, Continue, Call, Return}
 use Rattle.dae_ir.specs.declared.stream.Branch.{Branch}
 use Rattle.dae_ir.specs.declared.stream.Branch.TheVariants.{Silent, Tells, Hears}
+use Rattle.dae_ir.specs.declared.stream.Failure.{Failure}
 use Rattle.dae_select_walks.specs.declared.Home.{Home}
 use Rattle.dae_select_walks.specs.declared.Home.TheVariants.{Register, Slot}
 use Rattle.dae_select_walks.specs.Homes.{slot_at, kept_at, number_key, resident_register}
@@ -164,9 +165,10 @@ check_short plan f (Room g) =
 check_short plan f Frame = let l = room_short (plan.memory - plan.frame f) in either_short (nat_lt plan.memory (plan.frame f)) (fail_code true 4) (room_code (plan.memory - plan.frame f)) 13 (omega arith) (omega arith)
 check_short plan f Abort = omega arith
 
-hear_short : (b : Bool) → length (hear_code b) ≤ 4
-hear_short true = omega arith
-hear_short false = omega arith
+hear_short : (b : Bool) (only : Option Failure) → length (hear_code b only) ≤ 4
+hear_short true only = omega arith
+hear_short false None = omega arith
+hear_short false (Some failure) = omega arith
 
 stop_short : (b : Bool) (home : ℕ → Home) (x : Option Operand) → length (stop_code b home x) ≤ 6
 stop_short true home x = omega arith
@@ -188,7 +190,7 @@ simple_short plan variables f (Accept v) live leaves skips is = let k = keep_sho
 simple_short plan variables f (Emit spelling x) live leaves skips is = let l = moved_short (plan.home f) 10 2 x (Addi 17 0 (pos (call_number spelling)) ∷ (Ecall ∷ [])) (omega arith) in omega arith
 simple_short plan variables f (Probe check) live leaves skips is = check_short plan f check
 simple_short plan variables f (Tell x) live leaves skips is = let l = move_short (plan.home f) 29 x in omega arith
-simple_short plan variables f Hear live leaves skips is = let l = hear_short plan.by_a in omega arith
+simple_short plan variables f (Hear only) live leaves skips is = let l = hear_short plan.by_a only in omega arith
 simple_short plan variables f (Stop x) live leaves skips is = let l = stop_short plan.by_a (plan.home f) x in omega arith
 simple_short plan variables f Break live leaves skips is = elim is [ ]
 simple_short plan variables f Continue live leaves skips is = elim is [ ]

@@ -70,7 +70,7 @@ passed_on P t y (Accept v) e h g = absurd cc
 passed_on P t y (Emit spelling x) e h g = absurd cc
 passed_on P t y (Probe check) e h g = absurd cc
 passed_on P t y (Tell x) e h g = absurd cc
-passed_on P t y Hear e h g = absurd cc
+passed_on P t y (Hear only) e h g = absurd cc
 passed_on P t y (Stop x) e h g = absurd cc
 passed_on P t y Break e h g = absurd cc
 passed_on P t y Continue e h g = absurd cc
@@ -104,7 +104,7 @@ module _ (P : Action → Actions → Standing → Type 0) (x : Ways)
   taken a v m (Emit spelling y) k early = settled a (Do m (Emit spelling y) k)
   taken a v m (Probe check) k early = settled a (Do m (Probe check) k)
   taken a v m (Tell y) k early = settled a (Do m (Tell y) k)
-  taken a v m Hear k early = settled a (Do m Hear k)
+  taken a v m (Hear only) k early = settled a (Do m (Hear only) k)
   taken a v m (Stop y) k early = settled a (Do m (Stop y) k)
   taken a v m Break k early = settled a (Do m Break k)
   taken a v m Continue k early = settled a (Do m Continue k)
@@ -123,7 +123,7 @@ module _ (P : Action → Actions → Standing → Type 0) (x : Ways)
   in_pair (Emit spelling y) m b k e = settled (Emit spelling y) (Do m b k)
   in_pair (Probe check) m b k e = settled (Probe check) (Do m b k)
   in_pair (Tell y) m b k e = settled (Tell y) (Do m b k)
-  in_pair Hear m b k e = settled Hear (Do m b k)
+  in_pair (Hear only) m b k e = settled (Hear only) (Do m b k)
   in_pair (Stop y) m b k e = settled (Stop y) (Do m b k)
   in_pair Break m b k e = settled Break (Do m b k)
   in_pair Continue m b k e = settled Continue (Do m b k)

@@ -109,7 +109,7 @@ module _ (s : Setting) (plan : Plan) (variables : ℕ → ℕ) (fine : Fits s pl
         accept_done s plan variables fine live live' m (e_side wanted.0) v wanted.1 h ((λ u l ne. (round.stays u l (grind (arith, nat_tests)), round.apart u v (grind (arith, nat_tests)) l ne)), round.scope v (grind (arith, nat_tests)))
     simple_runs (Emit spelling x) leaves skips is wanted round h = emit_done s plan variables fine live live' m spelling x wanted.0 h round.reads wanted.1 (λ u l. round.stays u l refl)
     simple_runs (Tell x) leaves skips is wanted round h = tell_done s plan variables fine live live' m x h round.reads wanted (λ u l. round.stays u l refl)
-    simple_runs Hear leaves skips is wanted round h = hear_done s plan variables fine live live' m h (λ u l. round.stays u l refl)
+    simple_runs (Hear only) leaves skips is wanted round h = hear_done s plan variables fine live live' m only h (λ u l. round.stays u l refl)
     simple_runs (Probe (Zero x)) leaves skips is wanted round h = zero_done s plan variables fine live live' m x h round.reads wanted (λ u l. round.stays u l refl)
     simple_runs (Probe (Place width x)) leaves skips is wanted round h =
         rw world.memory (flagged (misplaced width (value x m.env) plan.memory) true wanted.0 (place_done s plan variables fine live live' m wanted.0 m.function width x refl h round.reads wanted.1 (λ u l. round.stays u l refl)))

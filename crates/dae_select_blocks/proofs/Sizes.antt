@@ -69,7 +69,7 @@ module _ (short : Bool) (plan : Plan) (variables : ℕ → ℕ) (f : ℕ) where
   action_length (Emit spelling x) k l s = simple (Emit spelling x) k l s tt (omega arith)
   action_length (Probe check) k l s = simple (Probe check) k l s tt (omega arith)
   action_length (Tell x) k l s = simple (Tell x) k l s tt (omega arith)
-  action_length Hear k l s = simple Hear k l s tt (omega arith)
+  action_length (Hear only) k l s = simple (Hear only) k l s tt (omega arith)
   action_length (Stop x) k l s = simple (Stop x) k l s tt (omega arith)
   action_length Break k l s = let h = over_short short l in omega arith
   action_length Continue k l s = let h = over_short short s in omega arith

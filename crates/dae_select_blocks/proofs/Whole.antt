@@ -149,7 +149,7 @@ module _ (s : Setting) (plan : Plan) (variables : ℕ → ℕ) (fine : Fits s pl
     action_done f known (Emit spelling y) k x leaves skips here settled to_leave to_skip low near close t = simply f known (Emit spelling y) k x leaves skips here tt (λ u. refl) t
     action_done f known (Probe check) k x leaves skips here settled to_leave to_skip low near close t = simply f known (Probe check) k x leaves skips here tt (λ u. refl) t
     action_done f known (Tell y) k x leaves skips here settled to_leave to_skip low near close t = simply f known (Tell y) k x leaves skips here tt (λ u. refl) t
-    action_done f known Hear k x leaves skips here settled to_leave to_skip low near close t = simply f known Hear k x leaves skips here tt (λ u. refl) t
+    action_done f known (Hear only) k x leaves skips here settled to_leave to_skip low near close t = simply f known (Hear only) k x leaves skips here tt (λ u. refl) t
 
     -- ---- actions in their lists, alone or in pairs
 

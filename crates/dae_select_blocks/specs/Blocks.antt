@@ -24,6 +24,8 @@ use Rattle.dae_meaning.specs.declared.Spelling.TheVariants.{Byte, Signed, Unsign
 use Rattle.dae_ir.specs.declared.form.Check.{Check}
 use Rattle.dae_ir.specs.declared.form.Check.TheVariants.{Place, Zero, Room, Frame, Abort}
 use Rattle.dae_ir.specs.declared.stream.Argument.{Argument}
+use Rattle.dae_ir.specs.declared.stream.Failure.{Failure}
+use Rattle.dae_ir.specs.Deeds.{failure_code}
 use Rattle.dae_select_walks.specs.declared.Home.{Home}
 use Rattle.dae_select_walks.specs.declared.Home.TheVariants.{Register, Slot}
 use Rattle.dae_select_walks.specs.Homes.{kept_at, slot_at, number_key, resident_register}
@@ -348,9 +350,12 @@ call_number Hexadecimal = 4
 abbrev pub system_code : (ℕ → Home) → ℕ → Operand → List Inst
 system_code home n x = move_code home 10 x ++ Addi 17 0 (pos n) ∷ (Ecall ∷ [])
 
-abbrev pub hear_code : Bool → List Inst
-hear_code true = Addi 5 29 (pos 0) ∷ (Beq 5 0 (pos 8) ∷ (Ecall ∷ []))
-hear_code false = Addi 10 29 (pos 0) ∷ (Beq 10 0 (pos 12) ∷ (Addi 17 0 (pos 5) ∷ (Ecall ∷ [])))
+-- a message is taken. Where it needn't be kept a branch takes it: A halts without a code, and E knows the code where the checks can
+-- fail in one way alone
+abbrev pub hear_code : Bool → Option Failure → List Inst
+hear_code true only = Beq 29 0 (pos 8) ∷ (Ecall ∷ [])
+hear_code false None = Addi 10 29 (pos 0) ∷ (Beq 10 0 (pos 12) ∷ (Addi 17 0 (pos 5) ∷ (Ecall ∷ [])))
+hear_code false (Some failure) = Beq 29 0 (pos 16) ∷ (Addi 10 0 (pos (failure_code failure)) ∷ (Addi 17 0 (pos 5) ∷ (Ecall ∷ [])))
 
 abbrev pub stop_code : Bool → (ℕ → Home) → Option Operand → List Inst
 stop_code true home x = Ecall ∷ []

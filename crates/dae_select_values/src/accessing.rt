@@ -1,6 +1,7 @@
 // The blocks of accesses to queues and memory, of printing and of halting.
 
 ghost use Rattle.std.specs.Prelude.{◌≡◌, ◌++◌, ◌∷◌, [], OnOk};
+ghost use Rattle.dae_ir.specs.Deeds.{failure_code};
 ghost use Rattle.dae_select_blocks.specs.Blocks.{source, fetch, issue_code, address_code, take_code, call_number, system_code, hear_code, stop_code};
 ghost use Rattle.dae_select_values.specs.Sides.{is_a};
 ghost use Rattle.dae_select_values.specs.Tables.{IsNear, AreNear, home_by};
@@ -9,7 +10,7 @@ use crate::fetching::{fetch, keep, move_code, register_or, source};
 use crate::tables::HomeTable;
 use dae_base::{LoadKind, Side, Width};
 use dae_encode::Inst;
-use dae_ir::Operand;
+use dae_ir::{Failure, Operand};
 use dae_meaning::Spelling;
 use dae_select_walks::Home;
 use std::alloc::AllocError;
@@ -105,18 +106,38 @@ pub fn system_code(
     code.extend_from_slice(&[Inst::Addi(17, 0, i32::from(number)), Inst::Ecall])
 }
 
-/// A message is taken, and for a code other than 0 the processor halts.
-pub fn hear_code(code: &mut Vec<Inst>, side: Side) -> Result<(), AllocError>
-    ensures { OnOk result (code.new.items ≡ code.old.items ++ hear_code (is_a side)) }
+/// The code of the trap of a check that fails so.
+fn failure_code(failure: Failure) -> u8
+    ensures { result ≡ failure_code failure }
 {
-    match side {
-        Side::A => code.extend_from_slice(&[Inst::Addi(5, 29, 0), Inst::Beq(5, 0, 8), Inst::Ecall]),
-        Side::E => code.extend_from_slice(&[
+    match failure {
+        Failure::OutOfBounds => 2,
+        Failure::OutOfRoom => 4,
+    }
+}
+
+/// A message is taken, and for a code other than 0 the processor halts: where that can be the code of one failure alone, a
+/// branch takes it.
+pub fn hear_code(code: &mut Vec<Inst>, side: Side, only: Option<Failure>) -> Result<(), AllocError>
+    ensures { OnOk result (code.new.items ≡ code.old.items ++ hear_code (is_a side) only) }
+{
+    match (side, only) {
+        (Side::A, _) => code.extend_from_slice(&[Inst::Beq(29, 0, 8), Inst::Ecall]),
+        (Side::E, None) => code.extend_from_slice(&[
             Inst::Addi(10, 29, 0),
             Inst::Beq(10, 0, 12),
             Inst::Addi(17, 0, 5),
             Inst::Ecall,
         ]),
+        (Side::E, Some(failure)) => {
+            let trap = i32::from(failure_code(failure));
+            code.extend_from_slice(&[
+                Inst::Beq(29, 0, 16),
+                Inst::Addi(10, 0, trap),
+                Inst::Addi(17, 0, 5),
+                Inst::Ecall,
+            ])
+        }
     }
 }
 
