@@ -2,7 +2,7 @@
 use dae_encode::{Inst, decode, encode, is_in_range};
 use std::process::Abort;
 
-static WORDS: [(u32, Inst); 116] = [
+static WORDS: [(u32, Inst); 119] = [
     (0x123452b7, Inst::Lui(5, 305_418_240)), // lui t0,0x12345
     (0xfffff437, Inst::Lui(8, -4096)), // lui s0,0xfffff
     (0x00001297, Inst::Auipc(5, 4096)), // auipc t0,0x1
@@ -70,12 +70,14 @@ static WORDS: [(u32, Inst); 116] = [
     (0x00029f03, Inst::Lh(30, 5, 0)), // lh t5,0(t0)
     (0x0002df83, Inst::Lhu(31, 5, 0)), // lhu t6,0(t0)
     (0x00042f03, Inst::Lw(30, 8, 0)), // lw t5,0(s0)
+    (0x04042f03, Inst::Lw(30, 8, 64)), // lw t5,64(s0)
     (0x7fc12403, Inst::Lw(8, 2, 2044)), // lw s0,2044(sp)
     (0x00012083, Inst::Lw(1, 2, 0)), // lw ra,0(sp)
     (0x80042403, Inst::Lw(8, 8, -2048)), // lw s0,-2048(s0)
     (0x01e40023, Inst::Sb(8, 30, 0)), // sb t5,0(s0)
     (0x01e41023, Inst::Sh(8, 30, 0)), // sh t5,0(s0)
     (0x01e42023, Inst::Sw(8, 30, 0)), // sw t5,0(s0)
+    (0x05e42023, Inst::Sw(8, 30, 64)), // sw t5,64(s0)
     (0x00112023, Inst::Sw(2, 1, 0)), // sw ra,0(sp)
     (0x05b12423, Inst::Sw(2, 27, 72)), // sw s11,72(sp)
     (0x8053a023, Inst::Sw(7, 5, -2048)), // sw t0,-2048(t2)

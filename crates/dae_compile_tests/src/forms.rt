@@ -171,6 +171,21 @@ pub fn loaded_index(alloc: Global) -> Result<Ir, AllocError> {
     program(alloc, 5, body)
 }
 
+/// `x[k] = 7; printf("%d\n", x[k]);` with a sum for each access, which the access can add up itself.
+pub fn accessed_sums(alloc: Global) -> Result<Ir, AllocError> {
+    let body = [
+        load(1, number(16)),
+        binary(2, Operator::Multiply, variable(1), number(4)),
+        add(3, variable(2), number(20)),
+        store(variable(3), number(7)),
+        add(3, variable(2), number(20)),
+        load(4, variable(3)),
+    ];
+    let mut body = Vec::from_array(alloc, body)?;
+    print_and_halt(&mut body, variable(4))?;
+    program(alloc, 5, body)
+}
+
 /// `n = 27; s = 0; while (n != 1) { if (n % 2) n = 3 * n + 1; else n = n / 2; s++; } printf("%d\n", s);`
 pub fn steps_to_one(alloc: Global) -> Result<Ir, AllocError> {
     let odd = [

@@ -254,6 +254,21 @@ fn copies(rt: HostRuntime) -> Result<(), Fail> {
 }
 
 #[test]
+fn sums_in_accesses(rt: HostRuntime) -> Result<(), Fail> {
+    let alloc = rt.alloc();
+    let sums = forms::accessed_sums(alloc)?;
+    let budget = [1, 1, 1, 1, 0, 0, 0];
+    check_ends(
+        &rt,
+        alloc,
+        sums,
+        &[2, 0, 0, 0],
+        budget,
+        (End::Ended(0), b"7\n"),
+    )
+}
+
+#[test]
 fn regions(rt: HostRuntime) -> Result<(), Fail> {
     let alloc = rt.alloc();
     let steps = forms::steps_to_one(alloc)?;

@@ -19,7 +19,7 @@ use Rattle.dae_select_blocks.specs.Blocks.{arguments_code, argument_code, save_c
 use Rattle.dae_select_blocks.specs.Sizes.{is_short}
 use Rattle.dae_select_walks.specs.declared.Standing.{Standing}
 use Rattle.dae_select_walks.specs.declared.Standing.TheVariants.{Settled, Early, Late}
-use Rattle.dae_select_blocks.specs.Code.{registers_in, standing_behind, needed_code, block_code, action_code, branch_code, does_nothing, past_code, call_code, back_branch, has_bottom, loop_code, bottom_code, code_of, function_code, entry_code}
+use Rattle.dae_select_blocks.specs.Code.{registers_in, standing_behind, is_dead, needed_code, block_code, action_code, branch_code, does_nothing, past_code, call_code, back_branch, has_bottom, loop_code, bottom_code, code_of, function_code, entry_code}
 
 -- lists with parts that are as long are as long
 pub both_long : (xs xs' ys ys' : List Inst) → length xs ≡ length xs' → length ys ≡ length ys' → length (xs ++ ys) ≡ length (xs' ++ ys')
@@ -104,16 +104,16 @@ module _ (p : Plan) (entry start : ℕ → ℕ) (finish : ℕ) (variables : ℕ 
     settled_long Ends a k l s m t = refl
     settled_long All a k l s m t = action_long a k l s m t
 
+    either_long : (c : Bool) (xs xs' ys ys' : List Inst) → length xs ≡ length xs' → length ys ≡ length ys' → length (if c then xs else ys) ≡ length (if c then xs' else ys')
+    either_long true xs xs' ys ys' h k = h
+    either_long false xs xs' ys ys' h k = k
+
     block_long : (need : Need) (g : Standing) (a : Action) (g' : Standing) (k : VariableSet) (l s m t : ℕ) → length (block_code q variables f need g a g' k (jump_over short l) (jump_over short s)) ≡ length (block_code p variables f need g a g' k (jump_over short m) (jump_over short t))
-    block_long need Settled a Settled k l s m t = settled_long need a k l s m t
+    block_long need Settled a Settled k l s m t = either_long (is_dead a k) [] [] _ _ refl (settled_long need a k l s m t)
     block_long need Settled a (Early v x) k l s m t = refl
     block_long need Settled a (Late v x) k l s m t = refl
     block_long need (Early v x) a g' k l s m t = refl
     block_long need (Late v x) a g' k l s m t = refl
-
-    either_long : (c : Bool) (xs xs' ys ys' : List Inst) → length xs ≡ length xs' → length ys ≡ length ys' → length (if c then xs else ys) ≡ length (if c then xs' else ys')
-    either_long true xs xs' ys ys' h k = h
-    either_long false xs xs' ys ys' h k = k
 
     -- however far what leaves it leads
     abbrev AreLong : (ℕ → ℕ → List Inst) → (ℕ → ℕ → List Inst) → Type 0

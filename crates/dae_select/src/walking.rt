@@ -6,7 +6,7 @@ ghost use Rattle.dae_select_walks.specs.Facts.{facts_at_turn, facts_at_step};
 ghost use Rattle.dae_select_facts.specs.Knowns.{facts_by};
 ghost use Rattle.dae_select_live.specs.Members.{member};
 ghost use Rattle.dae_select_blocks.specs.Blocks.{take_code, own_code, jump_over};
-ghost use Rattle.dae_select_blocks.specs.Code.{action_code, block_code, call_code, branch_code};
+ghost use Rattle.dae_select_blocks.specs.Code.{action_code, block_code, call_code, branch_code, is_dead};
 ghost use Rattle.dae_select_blocks.specs.Code.{does_nothing, past_code, leaves_first};
 ghost use Rattle.dae_select_walks.specs.Compiled.{is_told};
 ghost use Rattle.dae_select.specs.Grown.{glue, acting, in_front};
@@ -126,6 +126,16 @@ fn action_code(
     }
 }
 
+/// Whether an action only computes a variable that isn't live behind it.
+fn is_dead(action: &Action, live: &LiveSet) -> bool
+    ensures { result ≡ is_dead action.now (member live.now) }
+{
+    match action {
+        Action::Set(variable, _) => !live.contains(*variable),
+        _ => false,
+    }
+}
+
 /// The block of an action, around which things stand so, as `action_code` has the rest; or what is needed of it.
 fn block_code(
     code: &mut Vec<Inst>,
@@ -147,11 +157,16 @@ fn block_code(
         (Standing::Settled, Standing::Early(target, value)) => {
             taking_code(code, making.homes, action, target, value)
         }
-        (Standing::Settled, Standing::Settled) => match around.need {
-            Need::All => action_code(code, making, action, onward, ahead),
-            Need::Ends => placed_code(code, making.homes, action),
-            Need::Nothing => Ok(()),
-        },
+        (Standing::Settled, Standing::Settled) => {
+            if is_dead(action, onward.next) {
+                return Ok(());
+            }
+            match around.need {
+                Need::All => action_code(code, making, action, onward, ahead),
+                Need::Ends => placed_code(code, making.homes, action),
+                Need::Nothing => Ok(()),
+            }
+        }
     }
 }
 

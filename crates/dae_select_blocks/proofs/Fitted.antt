@@ -1,5 +1,5 @@
 -- The code of a whole function, and the code that begins, have instructions whose fields their words can hold.
-use Rattle.std.proofs.Common.{ℕ, ◌+◌, ◌-◌, ◌*◌, ◌%◌, ◌^◌, ◌<◌, ◌≤◌, ◌≡◌, Bool, true, false, ◌&&◌, List, [], ◌∷◌, ◌++◌, length, Option, arith, ◌||◌}
+use Rattle.std.proofs.Common.{ℕ, ◌+◌, ◌-◌, ◌*◌, ◌%◌, ◌^◌, ◌<◌, ◌≤◌, ◌≡◌, Bool, true, false, ◌&&◌, List, [], ◌∷◌, ◌++◌, length, Option, arith, pos, ◌||◌}
 use Rattle.std.specs.Prelude.{nat_eq, if◌then◌else◌}
 use Rattle.std.specs.List.{AllByRecursion}
 use Rattle.dae_base.specs.Words.{minus}
@@ -25,10 +25,10 @@ use Rattle.dae_select_walks.specs.Facts.{Facts, unknown, facts_behind, facts_in_
 use Rattle.dae_select_walks.specs.declared.Need.{Need}
 use Rattle.dae_select_walks.specs.declared.Need.TheVariants.{All, Ends, Nothing}
 use Rattle.dae_select_walks.specs.Agrees.{Plan}
-use Rattle.dae_select_blocks.specs.Blocks.{lower, is_immediate, more_code, less_code, is_register, number_code, register_or, source, call_number, jump_over, jump_back, enter_code, arguments_code, waits_at, save_code, restore_code, deeper_code, back_code, jump_words, residents_code, prologue_code}
-use Rattle.dae_select_blocks.specs.Code.{some_below, filtered, home_registers, registers_in, call_code, action_code, branch_code, standing_behind, with_home, early_code, late_code, needed_code, block_code, code_of, entry_code, function_code, finish_code, start_code, does_nothing, past_code, tail_of, has_bottom, leaves_first, is_near, bottom_test}
+use Rattle.dae_select_blocks.specs.Blocks.{lower, is_immediate, more_code, less_code, is_register, number_code, register_or, source, call_number, jump_over, jump_back, enter_code, arguments_code, waits_at, save_code, restore_code, deeper_code, back_code, jump_words, residents_code, prologue_code, issue_code, address_code, take_code}
+use Rattle.dae_select_blocks.specs.Code.{some_below, filtered, home_registers, registers_in, call_code, action_code, branch_code, standing_behind, with_home, early_code, late_code, needed_code, block_code, code_of, entry_code, function_code, finish_code, start_code, does_nothing, past_code, tail_of, has_bottom, leaves_first, is_near, bottom_test, is_dead}
 use Rattle.dae_select_blocks.proofs.Ranges.{AllFit, fit_append, fit_either, lui_fits, jalr_fits, addi_fits, addi_small, sw_small, add_fits, number_fits, load_fits, store_fits, register_fits, fetch_fits, move_fits, keep_fits, over_fits, back_fits}
-use Rattle.dae_select_blocks.proofs.Fitting.{ecall_fits, issue_fits, address_fits, source_fits, value_fit, value_fits, take_fits, branch_fits, back_branch_fits, system_fits, stop_fits, leave_fits, result_fits, hear_fits, placed_fits, check_fits}
+use Rattle.dae_select_blocks.proofs.Fitting.{ecall_fits, no_offset, issue_fits, address_fits, reach_fits, source_fits, value_fit, value_fits, take_fits, branch_fits, back_branch_fits, system_fits, stop_fits, leave_fits, result_fits, hear_fits, placed_fits, check_fits}
 use Rattle.dae_select_blocks.proofs.Pairs.{by_pairs}
 use Rattle.std.proofs.lemmas.Bool.Decides.{nat_tests}
 use Rattle.dae_select_blocks.specs.Sizes.{most_words_in, is_short}
@@ -124,12 +124,12 @@ module _ (plan : Plan) (variables : ℕ → ℕ) (good : (f v : ℕ) → IsHome 
     action_fits f (Compute v x) live leaves skips =
         fit_append _ _ (value_fits (variables f) (plan.home f) (good f) (register_or 5 (plan.home f v)) x (register_fits (variables f) 5 (plan.home f v) (good f v) (omega arith))) (keep_fits (plan.home f v))
     action_fits f (Issue kind x) live leaves skips =
-        fit_append _ _ (fetch_fits (variables f) (plan.home f) 5 x (omega arith)) (issue_fits kind 30 (source (plan.home f) 5 x) (omega arith) (source_fits (variables f) (plan.home f) (good f) 5 x (omega arith)), tt)
+        fit_append _ _ (fetch_fits (variables f) (plan.home f) 5 x (omega arith)) (issue_fits kind 30 (source (plan.home f) 5 x) (pos 0) (omega arith) (source_fits (variables f) (plan.home f) (good f) 5 x (omega arith)) no_offset, tt)
     action_fits f (Own v kind x) live leaves skips =
-        fit_append _ _ (fetch_fits (variables f) (plan.home f) 5 x (omega arith)) (issue_fits kind 31 (source (plan.home f) 5 x) (omega arith) (source_fits (variables f) (plan.home f) (good f) 5 x (omega arith)), take_fits (variables f) (plan.home f) (good f) 31 v (omega arith))
+        fit_append _ _ (fetch_fits (variables f) (plan.home f) 5 x (omega arith)) (issue_fits kind 31 (source (plan.home f) 5 x) (pos 0) (omega arith) (source_fits (variables f) (plan.home f) (good f) 5 x (omega arith)) no_offset, take_fits (variables f) (plan.home f) (good f) 31 v (omega arith))
     action_fits f (Receive v) live leaves skips = take_fits (variables f) (plan.home f) (good f) 30 v (omega arith)
     action_fits f (Address width x) live leaves skips =
-        fit_append _ _ (fetch_fits (variables f) (plan.home f) 5 x (omega arith)) (address_fits width (source (plan.home f) 5 x) (source_fits (variables f) (plan.home f) (good f) 5 x (omega arith)), tt)
+        fit_append _ _ (fetch_fits (variables f) (plan.home f) 5 x (omega arith)) (address_fits width (source (plan.home f) 5 x) (pos 0) (source_fits (variables f) (plan.home f) (good f) 5 x (omega arith)) no_offset, tt)
     action_fits f (Datum x) live leaves skips = move_fits (variables f) (plan.home f) (good f) 30 x (omega arith)
     action_fits f (Offer v) live leaves skips = move_fits (variables f) (plan.home f) (good f) 28 (Variable v) (omega arith)
     action_fits f (Accept v) live leaves skips = take_fits (variables f) (plan.home f) (good f) 28 v (omega arith)
@@ -154,6 +154,10 @@ module _ (plan : Plan) (variables : ℕ → ℕ) (good : (f v : ℕ) → IsHome 
     late_fits : (f t : ℕ) (y : Value) (a : Action) → AllFit (late_code (plan.home f) a y)
     late_fits f t y (Compute d z) = action_fits f (Compute d y) none 0 0
     late_fits f t y (Datum z) = value_fits (variables f) (plan.home f) (good f) 30 y (omega arith)
+    late_fits f t y (Issue kind z) = reach_fits (variables f) (plan.home f) (good f) y (issue_code kind 30) [] (λ b offset h k. issue_fits kind 30 b offset (omega arith) h k) tt
+    late_fits f t y (Own v kind z) =
+        reach_fits (variables f) (plan.home f) (good f) y (issue_code kind 31) (take_code 31 (plan.home f v)) (λ b offset h k. issue_fits kind 31 b offset (omega arith) h k) (take_fits (variables f) (plan.home f) (good f) 31 v (omega arith))
+    late_fits f t y (Address width z) = reach_fits (variables f) (plan.home f) (good f) y (address_code width) [] (λ b offset h k. address_fits width b offset h k) tt
     late_fits f t y a = tt
 
     settled_fits : (f : ℕ) (need : Need) (a : Action) (live : VariableSet) (l s : ℕ) → AllFit (needed_code plan variables f need a live (jump_over short l) (jump_over short s))
@@ -166,7 +170,7 @@ module _ (plan : Plan) (variables : ℕ → ℕ) (good : (f v : ℕ) → IsHome 
     block_fits f known (Late t y) x l s a k = late_fits f t y a
     block_fits f known Settled x l s a k =
         by_pairs (λ (a : Action) (k : Actions) (standing : Standing). AllFit (block_code plan variables f (need_of plan.memory known a k) Settled a standing (live k x) (jump_over short l) (jump_over short s))) x
-        (λ a k. settled_fits f (need_of plan.memory known a k) a (live k x) l s) (λ t y m b k e passes dead. tt) (λ v m d y k e once dead. early_fits f 30 v d y (omega arith)) (λ v m d y k e once dead. early_fits f 28 v d y (omega arith)) a k
+        (λ a k. fit_either (is_dead a (live k x)) [] (needed_code plan variables f (need_of plan.memory known a k) a (live k x) (jump_over short l) (jump_over short s)) (λ e. tt) (λ e. settled_fits f (need_of plan.memory known a k) a (live k x) l s)) (λ t y m b k e passes dead. tt) (λ v m d y k e once dead. early_fits f 30 v d y (omega arith)) (λ v m d y k e once dead. early_fits f 28 v d y (omega arith)) a k
 
     past_fits : (none : Bool) (n : ℕ) → AllFit (past_code short none n)
     past_fits true n = tt

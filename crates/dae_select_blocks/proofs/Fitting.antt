@@ -1,6 +1,6 @@
 -- The blocks of values, accesses and branches have instructions whose fields their words can hold.
 use Rattle.std.proofs.Common.{◌≡◌, ℕ, ◌+◌, ◌-◌, ◌%◌, ◌^◌, ◌<◌, ◌≤◌, zero, suc, Bool, true, false, List, [], ◌∷◌, ◌++◌, Option, Some, None, refl, subst, arith, pos, negsuc, ◌*◌}
-use Rattle.std.specs.Prelude.{nat_lt, nat_eq, if◌then◌else◌}
+use Rattle.std.specs.Prelude.{nat_lt, nat_eq, if◌then◌else◌, ℤ}
 use Rattle.std.proofs.lemmas.Option.{same_Some, cond_some}
 use Rattle.dae_ir.specs.declared.form.Check.{Check}
 use Rattle.dae_ir.specs.declared.form.Check.TheVariants.{Place, Zero, Room, Frame, Abort}
@@ -14,7 +14,7 @@ use Rattle.dae_base.specs.declared.Width.{Width}
 use Rattle.dae_base.specs.declared.Width.TheVariants.{B1, B2, B4}
 use Rattle.dae_base.specs.declared.LoadKind.{LoadKind}
 use Rattle.dae_base.specs.declared.LoadKind.TheVariants.{I8, U8, I16, U16, I32}
-use Rattle.dae_encode.specs.Spelling.{InRange, layout}
+use Rattle.dae_encode.specs.Spelling.{InRange, layout, IsSigned}
 use Rattle.dae_encode.specs.declared.Inst.{Inst}
 use Rattle.dae_encode.specs.declared.Inst.TheVariants.{Jalr, Beq, Bne, Bltu, Bgeu, Addi, Sltiu, Xori, Ori, Andi, Slli, Srli, Srai, Add, Sltu, Ecall}
 use Rattle.dae_ir.specs.declared.form.Operand.{Operand}
@@ -32,7 +32,7 @@ use Rattle.dae_ir.specs.declared.stream.Failure.{Failure}
 use Rattle.dae_ir.specs.Deeds.{failure_code}
 use Rattle.dae_select_walks.specs.declared.Home.{Home}
 use Rattle.dae_select_walks.specs.Homes.{IsHome, number_key, resident_register}
-use Rattle.dae_select_blocks.specs.Blocks.{lower, is_immediate, number_code, register_or, source, fetch, move_code, operation_code, exponent, power_code, immediate_code, commutes, exchanged_code, behind_or, combine_registers, binary_code, extend_code, compare_code, compare_number_code, compare_registers, compare_operands, test_code, frame_code, value_code, issue_code, address_code, take_code, fail_code, over, align_code, bounds_code, room_code, check_code, system_code, hear_code, stop_code, leave_code, result_code, branch_inst, opposite, one_way, goes_by, goes_code, frames_room_code, tell_number_code, against_zero, immediate_of, back_offset, goes_back, number_or, as_immediate, epilogue_code}
+use Rattle.dae_select_blocks.specs.Blocks.{lower, is_immediate, number_code, register_or, source, fetch, move_code, operation_code, exponent, power_code, immediate_code, commutes, exchanged_code, behind_or, combine_registers, binary_code, extend_code, compare_code, compare_number_code, compare_registers, compare_operands, test_code, frame_code, value_code, issue_code, address_code, take_code, fail_code, over, align_code, bounds_code, room_code, check_code, system_code, hear_code, stop_code, leave_code, result_code, branch_inst, opposite, one_way, goes_by, goes_code, frames_room_code, tell_number_code, against_zero, immediate_of, back_offset, goes_back, number_or, as_immediate, epilogue_code, reach_code}
 use Rattle.dae_select_blocks.specs.Code.{placed_code, branch_code, told_by, branch_by, ahead_by, before_branch, back_branch}
 use Rattle.dae_select_blocks.proofs.Ranges.{move_fit, AllFit, fit_append, fit_either, lower_fits, addi_fits, addi_small, lw_small, add_fits, number_fits, register_fits, fetch_fits, move_fits, keep_fits, over_fits, failure_small}
 use Rattle.dae_select_blocks.proofs.Operands.{number_below}
@@ -185,19 +185,22 @@ jalr_zero : (b : ℕ) → b < 32 → InRange (Jalr 0 b (pos 0))
 unfolding InRange layout
 jalr_zero b h = ((omega arith), h, (omega (arith, ints), omega (arith, ints)))
 
-pub issue_fits : (kind : LoadKind) (q b : ℕ) → q < 32 → b < 32 → InRange (issue_code kind q b)
-unfolding InRange layout
-issue_fits I8 q b h k = (h, k, (omega (arith, ints), omega (arith, ints)))
-issue_fits U8 q b h k = (h, k, (omega (arith, ints), omega (arith, ints)))
-issue_fits I16 q b h k = (h, k, (omega (arith, ints), omega (arith, ints)))
-issue_fits U16 q b h k = (h, k, (omega (arith, ints), omega (arith, ints)))
-issue_fits I32 q b h k = (h, k, (omega (arith, ints), omega (arith, ints)))
+pub no_offset : IsSigned 12 (pos 0)
+no_offset = (omega (arith, ints), omega (arith, ints))
 
-pub address_fits : (width : Width) (b : ℕ) → b < 32 → InRange (address_code width b)
+pub issue_fits : (kind : LoadKind) (q b : ℕ) (offset : ℤ) → q < 32 → b < 32 → IsSigned 12 offset → InRange (issue_code kind q b offset)
 unfolding InRange layout
-address_fits B1 b k = (k, (omega arith), (omega (arith, ints), omega (arith, ints)))
-address_fits B2 b k = (k, (omega arith), (omega (arith, ints), omega (arith, ints)))
-address_fits B4 b k = (k, (omega arith), (omega (arith, ints), omega (arith, ints)))
+issue_fits I8 q b offset h k l = (h, k, l)
+issue_fits U8 q b offset h k l = (h, k, l)
+issue_fits I16 q b offset h k l = (h, k, l)
+issue_fits U16 q b offset h k l = (h, k, l)
+issue_fits I32 q b offset h k l = (h, k, l)
+
+pub address_fits : (width : Width) (b : ℕ) (offset : ℤ) → b < 32 → IsSigned 12 offset → InRange (address_code width b offset)
+unfolding InRange layout
+address_fits B1 b offset k l = (k, (omega arith), l)
+address_fits B2 b offset k l = (k, (omega arith), l)
+address_fits B4 b offset k l = (k, (omega arith), l)
 
 -- where each home is a register of the machine, or a slot
 module _ (home : ℕ → Home) (low : (r v : ℕ) → r < 32 → register_or r (home v) < 32) where
@@ -264,6 +267,11 @@ module _ (n : ℕ) (home : ℕ → Home) (good : (v : ℕ) → IsHome n (home v)
 
   pub value_fits : (t : ℕ) (x : Value) → t < 32 → AllFit (value_code home t x)
   value_fits t x h = value_fit home low' t x h
+
+  -- an access that adds the number of a sum, and what is behind it
+  pub reach_fits : (y : Value) (access : ℕ → ℤ → Inst) (rest : List Inst) → ((b : ℕ) (offset : ℤ) → b < 32 → IsSigned 12 offset → InRange (access b offset)) → AllFit rest → AllFit (reach_code home y access rest)
+  reach_fits (Binary operator x (Number k)) access rest fits more = fetched_fit 5 x _ (omega arith) (fits (source home 5 x) (lower k) (source_fits 5 x (omega arith)) (lower_fits k), more)
+  reach_fits _ access rest fits more = tt
 
   pub take_fits : (q v : ℕ) → q < 32 → AllFit (take_code q (home v))
   take_fits q v h = (addi_small (register_or 5 (home v)) q 0 (register_fits n 5 (home v) (good v) (omega arith)) h (omega arith), keep_fits (home v))

@@ -17,7 +17,7 @@ use Rattle.dae_select_blocks.proofs.Whole.{Stood, Done', code_done}
 use Rattle.dae_select_blocks.proofs.Joined.{calls_done, returns_done}
 use Rattle.dae_select_blocks.specs.Sizes.{most_words_in, is_short}
 use Rattle.dae_select_blocks.proofs.Sizes.{code_length}
-use Rattle.dae_select_blocks.proofs.Lengths.{value_short, simple_short, placed_short, early_short, branch_short, back_branch_short, prepared_short, resumed_short, entry_short, leave_short}
+use Rattle.dae_select_blocks.proofs.Lengths.{late_short, simple_short, placed_short, early_short, branch_short, back_branch_short, prepared_short, resumed_short, entry_short, leave_short}
 
 short_is : (code : Actions) → is_short code ≡ true → most_words_in code < 2 ^ 17
 short_is code e = grind (arith, nat_tests)
@@ -35,7 +35,7 @@ code_does s plan variables program entries fine is_plan linked f code stands =
           (λ f a live leaves skips is. (let l = simple_short plan variables f a live leaves skips is in omega arith))
           (λ f a. (let l = placed_short (plan.home f) a in omega arith))
           (λ f q v d y. (let l = early_short (plan.home f) q v d y in omega arith))
-          (λ f y. (let l = value_short (plan.home f) 30 y in omega arith))
+          (λ f y a. (let l = late_short (plan.home f) y a in omega arith))
           (λ f b way n. (let l = branch_short (plan.home f) (is_short code) b way n in omega arith))
           (λ f b way n. (let l = back_branch_short (plan.home f) b way n in omega arith))
           (λ f g v xs k x leaves skips here t. calls_done s plan variables fine program is_plan entries linked 14 46 (is_short code) f g v xs k x leaves skips here

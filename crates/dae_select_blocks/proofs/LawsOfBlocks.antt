@@ -9,5 +9,5 @@ pub use Rattle.dae_select_blocks.proofs.Sizes.{append_short, code_length}
 pub use Rattle.dae_select_blocks.proofs.Agreement.{key_apart, resident_high}
 pub use Rattle.dae_select_blocks.proofs.Operands.{number_below}
 pub use Rattle.dae_select_blocks.proofs.Values.{operation_is}
-pub use Rattle.dae_select_blocks.proofs.Pairs.{passed_on, by_pairs, Suits, suits_behind}
+pub use Rattle.dae_select_blocks.proofs.Pairs.{ForAccesses, passed_on, offset_sum, by_pairs, Suits, suits_behind}
 pub use Rattle.dae_select_blocks.proofs.Uses.{low}

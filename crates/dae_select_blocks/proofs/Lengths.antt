@@ -1,7 +1,7 @@
 -- How long blocks are.
 use Rattle.std.specs.List.{AllByRecursion}
 use Rattle.std.proofs.Common.{◌≡◌, refl, ℕ, zero, suc, ◌+◌, ◌-◌, ◌*◌, ◌%◌, ◌^◌, ◌≤◌, Bool, true, false, ◌&&◌, List, [], ◌∷◌, ◌++◌, Option, Some, None, length, arith, length-append}
-use Rattle.std.specs.Prelude.{nat_lt, nat_eq, if◌then◌else◌, pos}
+use Rattle.std.specs.Prelude.{nat_lt, nat_eq, if◌then◌else◌, pos, ℤ}
 use Rattle.dae_base.specs.declared.Width.{Width}
 use Rattle.dae_base.specs.declared.Width.TheVariants.{B1, B2, B4}
 use Rattle.dae_base.specs.declared.LoadKind.{LoadKind}
@@ -30,8 +30,8 @@ use Rattle.dae_select_walks.specs.declared.Home.{Home}
 use Rattle.dae_select_walks.specs.declared.Home.TheVariants.{Register, Slot}
 use Rattle.dae_select_walks.specs.Homes.{slot_at, kept_at, number_key, resident_register}
 use Rattle.dae_select_walks.specs.Agrees.{Plan, counted_depth}
-use Rattle.dae_select_blocks.specs.Blocks.{operation_code, issue_code, address_code, call_number, over, is_register, number_code, load_code, store_code, register_or, source, fetch_home, fetch, keep, compare_code, test_code, extend_code, value_code, fail_code, align_code, bounds_code, room_code, check_code, take_code, hear_code, stop_code, arguments_code, save_code, restore_code, deeper_code, back_code, result_code, leave_code, waits_at, enter_code, more_code, less_code, is_immediate, move_code, immediate_code, exchanged_code, behind_or, combine_registers, binary_code, compare_number_code, compare_registers, compare_operands, frame_code, system_code, one_way, jump_over, jump_back, goes_by, goes_code, frames_room_code, tell_number_code, against_zero, immediate_of, goes_back, fetch_number, residents_code, as_immediate, prologue_code, epilogue_code, enter_words}
-use Rattle.dae_select_blocks.specs.Code.{placed_code, some_below, filtered, home_registers, registers_in, with_home, early_code, action_code, branch_code, entry_code, start_code, finish_code, past_code, told_by, branch_by, ahead_by, before_branch, back_branch}
+use Rattle.dae_select_blocks.specs.Blocks.{operation_code, issue_code, address_code, call_number, over, is_register, number_code, load_code, store_code, register_or, source, fetch_home, fetch, keep, compare_code, test_code, extend_code, value_code, fail_code, align_code, bounds_code, room_code, check_code, take_code, hear_code, stop_code, arguments_code, save_code, restore_code, deeper_code, back_code, result_code, leave_code, waits_at, enter_code, more_code, less_code, is_immediate, move_code, immediate_code, exchanged_code, behind_or, combine_registers, binary_code, compare_number_code, compare_registers, compare_operands, frame_code, system_code, one_way, jump_over, jump_back, goes_by, goes_code, frames_room_code, tell_number_code, against_zero, immediate_of, goes_back, fetch_number, residents_code, as_immediate, prologue_code, epilogue_code, enter_words, lower, reach_code}
+use Rattle.dae_select_blocks.specs.Code.{placed_code, some_below, filtered, home_registers, registers_in, with_home, early_code, action_code, branch_code, entry_code, start_code, finish_code, past_code, told_by, branch_by, ahead_by, before_branch, back_branch, late_code}
 use Rattle.dae_select_blocks.proofs.Simple.{IsSimple}
 
 either_short : (b : Bool) (x y : List Inst) (n : ℕ) → length x ≤ n → length y ≤ n → length (if b then x else y) ≤ n
@@ -180,10 +180,10 @@ pub simple_short : (plan : Plan) (variables : ℕ → ℕ) (f : ℕ) (a : Action
 simple_short plan variables f (Compute v x) live leaves skips is =
     let l = value_short (plan.home f) (register_or 5 (plan.home f v)) x in let k = keep_short (plan.home f v) in
     let both = length-append (value_code (plan.home f) (register_or 5 (plan.home f v)) x) (keep (plan.home f v)) in omega arith
-simple_short plan variables f (Issue kind x) live leaves skips is = let l = behind_short (plan.home f) 5 1 x (issue_code kind 30 (source (plan.home f) 5 x) ∷ []) (omega arith) in omega arith
-simple_short plan variables f (Own v kind x) live leaves skips is = let k = keep_short (plan.home f v) in let l = behind_short (plan.home f) 5 5 x (issue_code kind 31 (source (plan.home f) 5 x) ∷ take_code 31 (plan.home f v)) (omega arith) in omega arith
+simple_short plan variables f (Issue kind x) live leaves skips is = let l = behind_short (plan.home f) 5 1 x (issue_code kind 30 (source (plan.home f) 5 x) (pos 0) ∷ []) (omega arith) in omega arith
+simple_short plan variables f (Own v kind x) live leaves skips is = let k = keep_short (plan.home f v) in let l = behind_short (plan.home f) 5 5 x (issue_code kind 31 (source (plan.home f) 5 x) (pos 0) ∷ take_code 31 (plan.home f v)) (omega arith) in omega arith
 simple_short plan variables f (Receive v) live leaves skips is = let k = keep_short (plan.home f v) in omega arith
-simple_short plan variables f (Address width x) live leaves skips is = let l = behind_short (plan.home f) 5 1 x (address_code width (source (plan.home f) 5 x) ∷ []) (omega arith) in omega arith
+simple_short plan variables f (Address width x) live leaves skips is = let l = behind_short (plan.home f) 5 1 x (address_code width (source (plan.home f) 5 x) (pos 0) ∷ []) (omega arith) in omega arith
 simple_short plan variables f (Datum x) live leaves skips is = let l = move_short (plan.home f) 30 x in omega arith
 simple_short plan variables f (Offer v) live leaves skips is = let l = move_short (plan.home f) 28 (Variable v) in omega arith
 simple_short plan variables f (Accept v) live leaves skips is = let k = keep_short (plan.home f v) in omega arith
@@ -196,6 +196,25 @@ simple_short plan variables f Break live leaves skips is = elim is [ ]
 simple_short plan variables f Continue live leaves skips is = elim is [ ]
 simple_short plan variables f (Call v g xs) live leaves skips is = elim is [ ]
 simple_short plan variables f (Return x) live leaves skips is = elim is [ ]
+
+take_code_short : (queue : ℕ) (place : Home) → length (take_code queue place) ≤ 4
+take_code_short queue place = let k = keep_short place in omega arith
+
+-- an access that adds the number of a sum, and what is behind it
+reach_short : (home : ℕ → Home) (y : Value) (access : ℕ → ℤ → Inst) (rest : List Inst) → length rest ≤ 4 → length (reach_code home y access rest) ≤ 8
+reach_short home (Binary operator x (Number n)) access rest h = let l = behind_short home 5 5 x (access (source home 5 x) (lower n) ∷ rest) (omega arith) in omega arith
+reach_short home _ access rest h = omega arith
+
+-- the blocks of pairs that compute a value late
+pub late_short : (home : ℕ → Home) (y : Value) (a : Action) → length (late_code home a y) ≤ 13
+late_short home y (Compute d z) =
+    let l = value_short home (register_or 5 (home d)) y in let k = keep_short (home d) in
+    let both = length-append (value_code home (register_or 5 (home d)) y) (keep (home d)) in omega arith
+late_short home y (Datum z) = let l = value_short home 30 y in omega arith
+late_short home y (Issue kind z) = let l = reach_short home y (issue_code kind 30) [] (omega arith) in omega arith
+late_short home y (Own v kind z) = let l = reach_short home y (issue_code kind 31) (take_code 31 (home v)) (take_code_short 31 (home v)) in omega arith
+late_short home y (Address width z) = let l = reach_short home y (address_code width) [] (omega arith) in omega arith
+late_short home y _ = omega arith
 
 -- and that of a pair which takes a word
 pub early_short : (home : ℕ → Home) (q v d : ℕ) (y : Value) → length (early_code home q v d y) ≤ 13

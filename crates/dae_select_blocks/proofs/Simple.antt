@@ -76,7 +76,7 @@ around home variables a k x goes_on right = record {
     kept false false = refl
 
 module _ (s : Setting) (plan : Plan) (variables : ℕ → ℕ) (fine : Fits s plan variables) (program : Program) (is_plan : IsPlanOf program plan) (entries : ℕ → VariableSet) where
-  a_side : plan.by_a ≡ true → s.side ≡ A
+  pub a_side : plan.by_a ≡ true → s.side ≡ A
   a_side e = fine.side ∙ ap side e
 
   pub e_side : plan.by_a ≡ false → s.side ≡ E

@@ -19,11 +19,11 @@ use Rattle.dae_select_walks.specs.declared.Need.{Need}
 use Rattle.dae_select_walks.specs.declared.Need.TheVariants.{All, Ends, Nothing}
 use Rattle.dae_select_walks.specs.Agrees.{Plan}
 use Rattle.dae_select_blocks.specs.Blocks.{arguments_code, save_code, restore_code, deeper_code, back_code, result_code, enter_code, jump_words, jump_over, enter_words}
-use Rattle.dae_select_blocks.specs.Code.{registers_in, action_code, call_code, does_nothing, standing_behind, late_code, placed_code, needed_code, block_code, code_of, tail_of, loop_code, bottom_code, bottom_test, has_bottom, leaves_first, is_near}
+use Rattle.dae_select_blocks.specs.Code.{registers_in, action_code, call_code, does_nothing, standing_behind, late_code, placed_code, needed_code, block_code, code_of, tail_of, loop_code, bottom_code, bottom_test, has_bottom, leaves_first, is_near, is_dead}
 use Rattle.dae_select_blocks.specs.Sizes.{one_call, most_words_in}
 use Rattle.dae_select_blocks.proofs.Simple.{IsSimple}
 use Rattle.dae_select_blocks.proofs.Pairs.{by_pairs}
-use Rattle.dae_select_blocks.proofs.Lengths.{value_short, simple_short, early_short, branch_short, back_branch_short, over_short, back_short, past_short, placed_short, prepared_short, resumed_short, leave_short, enter_long, enter_few}
+use Rattle.dae_select_blocks.proofs.Lengths.{simple_short, early_short, branch_short, back_branch_short, over_short, back_short, past_short, placed_short, prepared_short, resumed_short, leave_short, enter_long, enter_few, late_short}
 
 pub append_short : (xs ys : List Inst) (m n : ℕ) → length xs ≤ m → length ys ≤ n → length (xs ++ ys) ≤ m + n
 append_short xs ys m n h k = let l = length-append xs ys in omega arith
@@ -82,7 +82,10 @@ module _ (short : Bool) (plan : Plan) (variables : ℕ → ℕ) (f : ℕ) where
 
   late_length : (t : ℕ) (y : Value) (a : Action) → length (late_code (plan.home f) a y) ≤ 14 * action_weight a + 42 * one_call a
   late_length t y (Compute d z) = action_length (Compute d y) none 0 0
-  late_length t y (Datum z) = let h = value_short (plan.home f) 30 y in omega arith
+  late_length t y (Datum z) = let h = late_short (plan.home f) y (Datum z) in omega arith
+  late_length t y (Issue kind z) = let h = late_short (plan.home f) y (Issue kind z) in omega arith
+  late_length t y (Own v kind z) = let h = late_short (plan.home f) y (Own v kind z) in omega arith
+  late_length t y (Address width z) = let h = late_short (plan.home f) y (Address width z) in omega arith
   late_length t y a = omega arith
 
   -- a test without that of the alignment is shorter than one with it
@@ -99,7 +102,7 @@ module _ (short : Bool) (plan : Plan) (variables : ℕ → ℕ) (f : ℕ) where
   block_length known (Early v y) x l s a k = omega arith
   block_length known (Late t y) x l s a k = late_length t y a
   block_length known Settled x l s a k =
-      by_pairs (BlockFits known Settled x l s) x (λ a k. settled_length (need_of plan.memory known a k) a (live k x) l s) (λ t y m b k e passes dead. omega arith)
+      by_pairs (BlockFits known Settled x l s) x (λ a k. either_length (is_dead a (live k x)) [] (needed_code plan variables f (need_of plan.memory known a k) a (live k x) (jump_over short l) (jump_over short s)) _ (λ e. omega arith) (settled_length (need_of plan.memory known a k) a (live k x) l s)) (λ t y m b k e passes dead. omega arith)
       (λ v m d y k e once dead. (let h = early_short (plan.home f) 30 v d y in omega arith)) (λ v m d y k e once dead. (let h = early_short (plan.home f) 28 v d y in omega arith)) a k
 
   mutual

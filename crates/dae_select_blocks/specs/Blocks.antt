@@ -319,19 +319,24 @@ check_code plan f (Room g) = call_room_code plan.memory (counted_depth plan f pl
 check_code plan f Frame = frame_room_code plan.memory (plan.frame f)
 check_code plan f Abort = fail_code true 5
 
--- ---- accesses
+-- ---- accesses, at the sum of a register and an offset
 
-abbrev pub issue_code : LoadKind → ℕ → ℕ → Inst
-issue_code I8 queue base = Lb queue base (pos 0)
-issue_code U8 queue base = Lbu queue base (pos 0)
-issue_code I16 queue base = Lh queue base (pos 0)
-issue_code U16 queue base = Lhu queue base (pos 0)
-issue_code I32 queue base = Lw queue base (pos 0)
+abbrev pub issue_code : LoadKind → ℕ → ℕ → ℤ → Inst
+issue_code I8 queue base offset = Lb queue base offset
+issue_code U8 queue base offset = Lbu queue base offset
+issue_code I16 queue base offset = Lh queue base offset
+issue_code U16 queue base offset = Lhu queue base offset
+issue_code I32 queue base offset = Lw queue base offset
 
-abbrev pub address_code : Width → ℕ → Inst
-address_code B1 base = Sb base 30 (pos 0)
-address_code B2 base = Sh base 30 (pos 0)
-address_code B4 base = Sw base 30 (pos 0)
+abbrev pub address_code : Width → ℕ → ℤ → Inst
+address_code B1 base offset = Sb base 30 offset
+address_code B2 base offset = Sh base 30 offset
+address_code B4 base offset = Sw base 30 offset
+
+-- an access that adds the number of a sum to the other operand, and then this
+abbrev pub reach_code : (ℕ → Home) → Value → (ℕ → ℤ → Inst) → List Inst → List Inst
+reach_code home (Binary operator x (Number n)) access rest = fetch home 5 x ++ access (source home 5 x) (lower n) ∷ rest
+reach_code home value access rest = []
 
 -- what is at the front of a queue goes home
 abbrev pub take_code : ℕ → Home → List Inst
@@ -339,7 +344,7 @@ take_code queue home = Addi (register_or 5 home) queue (pos 0) ∷ keep home
 
 -- A reserves a slot of its own loads, and takes it into a variable
 abbrev pub own_code : (ℕ → Home) → ℕ → LoadKind → Operand → List Inst
-own_code home v kind x = fetch home 5 x ++ issue_code kind 31 (source home 5 x) ∷ take_code 31 (home v)
+own_code home v kind x = fetch home 5 x ++ issue_code kind 31 (source home 5 x) (pos 0) ∷ take_code 31 (home v)
 
 abbrev pub call_number : Spelling → ℕ
 call_number Byte = 1
