@@ -1,6 +1,6 @@
 -- Sets by which variables are alike, and that keep what leads to addresses, keep it in code without its common subexpressions.
 use Rattle.std.proofs.Common.{◌≡◌, ℕ, ◌+◌, Bool, true, false, not, ◌&&◌, nat_eq, if◌then◌else◌, List, [], ◌∷◌, refl, ◌∙◌}
-use Rattle.std.proofs.lemmas.Bool.{and_parts}
+use Rattle.std.proofs.lemmas.Bool.{and_from, and_parts}
 use Rattle.std.specs.Bool.{beq}
 use Rattle.dae_base.proofs.Laws.{beq_same}
 use Rattle.dae_ir.specs.Code.{Done, Do, If, Loop, Each}
@@ -12,12 +12,14 @@ use Rattle.dae_ir.specs.declared.form.Operand.TheVariants.{Variable, Number}
 use Rattle.dae_ir.specs.declared.form.Value.{Value}
 use Rattle.dae_ir.specs.declared.form.Value.TheVariants as val
 use Rattle.dae_ir.specs.declared.form.Test.{Test}
+use Rattle.dae_meaning.specs.declared.Operator.TheVariants.{Add}
 use Rattle.dae_ir.specs.declared.form.Check.TheVariants.{Place as Good, Zero, Room, Frame, Abort}
 use Rattle.dae_ir.specs.declared.form.Item.{Item}
 use Rattle.dae_ir.specs.declared.form.Item.TheVariants.{Assign, Load, Store, Print, Expect, Break, Continue, Call, Return, Halt}
 use Rattle.dae_commons.specs.declared.equations.Equation.{Equation}
 use Rattle.dae_commons.specs.Equations.{equations_in}
 use Rattle.dae_commons.specs.Copies.{are_alike, source_in, is_copy, copy_source, propagated_operand, propagated_operands, propagated_test, propagated_value, holds_already, held_value, is_operand, computed_once}
+use Rattle.dae_commons.specs.Sums.{is_itself, fits_offset, base_sum_or, as_sum_or, held_sum, computed_again, assigned_value}
 use Rattle.dae_commons.specs.Commoned.{commoned_item, known_behind_both, commoned_code, known_after}
 
 module _ (c : Classes) where
@@ -64,13 +66,44 @@ module _ (c : Classes) where
     by true = has_x
     by false = held_kept q v x in_s has_x
 
+  -- of a sum that is computed again
+  sum_kept : (w n v : ℕ) → s v ≡ true → has_value s (base_sum_or c w n (val.Same (Variable v))) ≡ true
+  sum_kept w n v in_s = by (fits_offset n && s w) refl where
+    by : (b : Bool) → (fits_offset n && s w) ≡ b → has_value s (if b then val.Binary Add (Variable w) (Number n) else val.Same (Variable v)) ≡ true
+    by true h = and_from (s w) true (and_parts (fits_offset n) (s w) h).1 refl
+    by false h = in_s
+
+  as_sum_kept : (x : Value) (v : ℕ) → s v ≡ true → has_value s (as_sum_or c x (val.Same (Variable v))) ≡ true
+  as_sum_kept (val.Binary Add (Variable w) (Number n)) v in_s = sum_kept w n v in_s
+  as_sum_kept (val.Binary Add (Number n) (Variable w)) v in_s = sum_kept w n v in_s
+  as_sum_kept _ v in_s = in_s
+
+  held_sum_kept : (q : List Equation) (v : ℕ) → s v ≡ true → has_value s (held_sum c q v) ≡ true
+  held_sum_kept [] v in_s = in_s
+  held_sum_kept (e ∷ q) v in_s = by (nat_eq e.variable v) (held_sum_kept q v in_s) where
+    by : (b : Bool) → has_value s (held_sum c q v) ≡ true → has_value s (if b then as_sum_or c e.value (val.Same (Variable v)) else held_sum c q v) ≡ true
+    by true rest = as_sum_kept e.value v in_s
+    by false rest = rest
+
+  again_kept : (q : List Equation) (v : ℕ) → s v ≡ true → has_value s (computed_again c q v) ≡ true
+  again_kept q v in_s = by (s v && not (c.needs v)) where
+    by : (b : Bool) → has_value s (if b then held_sum c q v else val.Same (Variable v)) ≡ true
+    by true = held_sum_kept q v in_s
+    by false = in_s
+
+  assigned_kept : (q : List Equation) (v : ℕ) (x : Value) → s v ≡ true → has_value s x ≡ true → has_value s (assigned_value c q v x) ≡ true
+  assigned_kept q v x in_s has_x = by (is_itself v x) where
+    by : (b : Bool) → has_value s (if b then computed_again c q v else computed_once c q v (propagated_value c q x)) ≡ true
+    by true = again_kept q v in_s
+    by false = once_kept q v (propagated_value c q x) in_s (value_same q x ∙ has_x)
+
   arguments_kept : (callee : VariableSet) (q : List Equation) (xs : List Operand) (k : ℕ) → ArgumentsKept callee s k xs → ArgumentsKept callee s k (propagated_operands c q xs)
   arguments_kept callee q [] k h = tt
   arguments_kept callee q (x ∷ xs) k h = (λ b. has_same q x ∙ h.0 b, arguments_kept callee q xs (k + 1) h.1)
 
   module _ (of : ℕ → VariableSet) where
     item_kept : (q : List Equation) (item : Item) → AddressesKept of s item → AddressesKept of s (commoned_item c q item)
-    item_kept q (Assign v x) h = λ in_s. once_kept q v (propagated_value c q x) in_s (value_same q x ∙ h in_s)
+    item_kept q (Assign v x) h = λ in_s. assigned_kept q v x in_s (h in_s)
     item_kept q (Load v kind x) h = has_same q x ∙ h
     item_kept q (Store width x y) h = has_same q x ∙ h
     item_kept q (Print spelling x) h = tt

@@ -17,10 +17,11 @@ use Rattle.dae_ir.specs.declared.form.Item.TheVariants.{Assign, Load, Store, Pri
 use Rattle.dae_ir.proofs.Laws.{same_room}
 use Rattle.dae_commons.specs.declared.equations.Equation.{Equation}
 use Rattle.dae_commons.specs.Equations.{AreTrue, without_variable, with_equation, equations_in, met}
-use Rattle.dae_commons.specs.Copies.{propagated_operands, propagated_value, propagated_check, is_operand, computed_once}
+use Rattle.dae_commons.specs.Copies.{propagated_operands, propagated_check, is_operand}
+use Rattle.dae_commons.specs.Sums.{is_itself, assigned_value}
 use Rattle.dae_commons.specs.Commoned.{commoned_item, known_behind, commoned_code, known_after}
 use Rattle.dae_commons.proofs.Lists.{first_all, second_all}
-use Rattle.dae_commons.proofs.Truth.{Solves, true_without, true_with, value_same, holds_same, assigned_same, values_alike, same_length}
+use Rattle.dae_commons.proofs.Truth.{Solves, true_without, true_with, true_itself, value_same, holds_same, assigned_same, values_alike, same_length}
 
 -- ---- what goes on alike is alike
 
@@ -172,12 +173,14 @@ module _ (p q : Program) (frames : (g : ℕ) → q.frame g ≡ p.frame g) (limit
 
   -- what is true behind an item
   assigned_goes : (v : ℕ) (x : Value) (k : List Equation) (e : Env) (w : World) → AreTrue k w.frame e → Truth (known_after c k (Assign v x)) (put true v (computed x w.frame e) e) (ticked w)
-  assigned_goes v x k e w t = by (is_operand x) where
-    by : (b : Bool) → AreTrue (if b then without_variable v k else with_equation v (computed_once c k v (propagated_value c k x)) k) w.frame (put true v (computed x w.frame e) e)
-    by true = true_without v (computed x w.frame e) e k w.frame t
-    by false =
-        subst (λ (y : ℕ). AreTrue (with_equation v (computed_once c k v (propagated_value c k x)) k) w.frame (put true v y e)) (assigned_same c w.frame e k t v x)
-        (true_with v (computed_once c k v (propagated_value c k x)) k w.frame e t)
+  assigned_goes v x k e w t = by (is_itself v x) (is_operand x) refl where
+    by : (b o : Bool) → is_itself v x ≡ b
+        → AreTrue (if b then k else (if o then without_variable v k else with_equation v (assigned_value c k v x) k)) w.frame (put true v (computed x w.frame e) e)
+    by true o h = true_itself v x k w.frame e h t
+    by false true h = true_without v (computed x w.frame e) e k w.frame t
+    by false false h =
+        subst (λ (y : ℕ). AreTrue (with_equation v (assigned_value c k v x) k) w.frame (put true v y e)) (assigned_same c w.frame e k t v x)
+        (true_with v (assigned_value c k v x) k w.frame e t)
 
   item_goes : (item : Item) (k : List Equation) (e : Env) (w : World) → AreTrue k w.frame e → GoesTo (Truth (known_after c k item)) (does p every calls item e w)
   item_goes (Assign v x) k e w t = assigned_goes v x k e w t

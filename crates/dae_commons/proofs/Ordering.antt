@@ -11,16 +11,18 @@ use Rattle.dae_ir.specs.declared.form.Operand.TheVariants.{Variable, Number}
 use Rattle.dae_ir.specs.declared.form.Value.{Value}
 use Rattle.dae_ir.specs.declared.form.Value.TheVariants as val
 use Rattle.dae_ir.specs.declared.form.Test.{Test}
+use Rattle.dae_meaning.specs.declared.Operator.TheVariants.{Add}
 use Rattle.dae_ir.specs.declared.form.Check.{Check}
 use Rattle.dae_ir.specs.declared.form.Check.TheVariants.{Place as Good, Zero, Room, Frame, Abort}
 use Rattle.dae_ir.specs.declared.form.Item.{Item}
 use Rattle.dae_ir.specs.declared.form.Item.TheVariants.{Assign, Load, Store, Print, Expect, Break, Continue, Call, Return, Halt}
 use Rattle.dae_commons.specs.declared.equations.Equation.{Equation}
 use Rattle.dae_commons.specs.Equations.{equations_in, both_known, met, with_equation, without_variable}
-use Rattle.dae_commons.specs.Copies.{source_in, propagated_operand, propagated_operands, propagated_test, propagated_value, propagated_check, is_operand, computed_once}
+use Rattle.dae_commons.specs.Copies.{source_in, propagated_operand, propagated_operands, propagated_test, propagated_value, propagated_check, is_operand}
+use Rattle.dae_commons.specs.Sums.{is_itself, assigned_value}
 use Rattle.dae_commons.specs.Commoned.{commoned_item, known_behind, known_behind_both, commoned_code, known_after_set, known_after}
 use Rattle.dae_commons.proofs.Lists.{first_all, second_all, all_of_both}
-use Rattle.dae_commons.proofs.Names.{IsNamed, AreNamed, source_named, once_named, without_named, with_named, named_more}
+use Rattle.dae_commons.proofs.Names.{base_in, IsNamed, AreNamed, source_named, assigned_value_named, without_named, with_named, named_more}
 
 abbrev IsSet : VariableSet → ℕ → Type 0
 IsSet d v = d v ≡ true
@@ -43,7 +45,11 @@ met_set a b None (Some r) h g = named_more (IsSet b) (IsSet (both a b)) (λ u is
 met_set a b (Some q) None h g = named_more (IsSet a) (IsSet (both a b)) (λ u is. and_from (a u) (b u) is (g u)) q h
 met_set a b (Some q) (Some r) h g =
     all_of_both (IsNamed (IsSet a)) (IsNamed (IsSet b)) (IsNamed (IsSet (both a b)))
-    (λ e x y. (and_from (a e.variable) (b e.variable) x.0 y.0, and_from (a (source_in e.variable e.value)) (b (source_in e.variable e.value)) x.1 y.1)) (both_known q r)
+    (λ e x y. (
+      and_from (a e.variable) (b e.variable) x.0 y.0,
+      and_from (a (source_in e.variable e.value)) (b (source_in e.variable e.value)) x.1 y.1,
+      and_from (a (base_in e.variable e.value)) (b (base_in e.variable e.value)) x.2 y.2,
+    )) (both_known q r)
     (first_all (IsNamed (IsSet a)) q r h) (second_all (IsNamed (IsSet b)) q r g)
 
 set_here : (v : ℕ) (d : VariableSet) → with_set v d v ≡ true
@@ -73,8 +79,9 @@ module _ (c : Classes) where
     value_has (val.Holds t) h = test_has t h
     value_has (val.FrameAddress offset) h = refl
 
-    assigned_has : (v : ℕ) (x : Value) → has_value d x ≡ true → has_value d (computed_once c q v (propagated_value c q x)) ≡ true
-    assigned_has v x h = once_named (IsSet d) (λ (z : Value). has_value d z ≡ true) (λ u is. is) c q v (propagated_value c q x) all (value_has x h)
+    assigned_has : (v : ℕ) (x : Value) → has_value d x ≡ true → has_value d (assigned_value c q v x) ≡ true
+    assigned_has v x h =
+        assigned_value_named (IsSet d) (λ (z : Value). has_value d z ≡ true) (λ u is. is) (λ w n is low. and_from (d w) true is refl) c q v x all h (value_has x h)
 
     check_has : (check : Check) → has_check d check ≡ true → has_check d (propagated_check c q check) ≡ true
     check_has (Good width x) h = operand_has x h
@@ -109,16 +116,22 @@ module _ (c : Classes) where
     source_set v (val.Holds t) h = set_here v d
     source_set v (val.FrameAddress offset) h = set_here v d
 
+    base_set : (v : ℕ) (x : Value) → has_value d x ≡ true → with_set v d (base_in v x) ≡ true
+    base_set v (val.Binary Add (Variable w) (Number k)) h = set_more v d w (and_parts (d w) true h).0
+    base_set v (val.Binary Add (Number k) (Variable w)) h = set_more v d w h
+    base_set v _ h = set_here v d
+
     still_named : (v : ℕ) → AreNamed (IsSet (with_set v d)) q
     still_named v = named_more (IsSet d) (IsSet (with_set v d)) (λ u h. set_more v d u h) q all
 
-    assigned_named : (v : ℕ) (x : Value) → has_value d x ≡ true → AreNamed (IsSet (with_set v d)) (known_after_set q v x (computed_once c q v (propagated_value c q x)))
-    assigned_named v x h = by (is_operand x) where
-      by : (b : Bool) → AreNamed (IsSet (with_set v d)) (if b then without_variable v q else with_equation v (computed_once c q v (propagated_value c q x)) q)
-      by true = without_named (IsSet (with_set v d)) v q (still_named v)
-      by false =
-          with_named (IsSet (with_set v d)) v (computed_once c q v (propagated_value c q x)) q (set_here v d)
-          (source_set v (computed_once c q v (propagated_value c q x)) (assigned_has v x h)) (still_named v)
+    assigned_named : (v : ℕ) (x : Value) → has_value d x ≡ true → AreNamed (IsSet (with_set v d)) (known_after_set q v x (assigned_value c q v x))
+    assigned_named v x h = by (is_itself v x) (is_operand x) where
+      by : (b o : Bool) → AreNamed (IsSet (with_set v d)) (if b then q else (if o then without_variable v q else with_equation v (assigned_value c q v x) q))
+      by true o = still_named v
+      by false true = without_named (IsSet (with_set v d)) v q (still_named v)
+      by false false =
+          with_named (IsSet (with_set v d)) v (assigned_value c q v x) q (set_here v d) (source_set v (assigned_value c q v x) (assigned_has v x h))
+          (base_set v (assigned_value c q v x) (assigned_has v x h)) (still_named v)
 
     item_named : (item : Item) → ItemReads d item → AreSet (after_item d item) (known_after c q item)
     item_named (Assign v x) h = assigned_named v x h

@@ -1,5 +1,5 @@
 -- A form without its common subexpressions is as well made as before.
-use Rattle.std.proofs.Common.{◌≡◌, ℕ, ◌<◌, Bool, true, false, if◌then◌else◌, List, [], ◌∷◌, length, Option, Some, refl, sym, subst}
+use Rattle.std.proofs.Common.{◌≡◌, ℕ, ◌^◌, ◌<◌, Bool, true, false, if◌then◌else◌, List, [], ◌∷◌, length, Option, Some, refl, sym, subst, arith}
 use Rattle.std.specs.Prelude.{slice_get}
 use Rattle.std.specs.List.{AllByRecursion}
 use Rattle.dae_ir.specs.Code.{Done, Do, If, Loop, Each}
@@ -12,16 +12,21 @@ use Rattle.dae_ir.specs.declared.form.Operand.TheVariants.{Variable, Number}
 use Rattle.dae_ir.specs.declared.form.Value.{Value}
 use Rattle.dae_ir.specs.declared.form.Value.TheVariants as val
 use Rattle.dae_ir.specs.declared.form.Test.{Test}
+use Rattle.dae_meaning.specs.declared.Operator.TheVariants.{Add}
 use Rattle.dae_ir.specs.declared.form.Check.TheVariants.{Place as Good, Zero, Room, Frame, Abort}
 use Rattle.dae_ir.specs.declared.form.Function.{Function}
 use Rattle.dae_ir.specs.declared.form.Item.{Item}
 use Rattle.dae_ir.specs.declared.form.Item.TheVariants.{Assign, Load, Store, Print, Expect, Break, Continue, Call, Return, Halt}
 use Rattle.dae_commons.specs.declared.equations.Equation.{Equation}
 use Rattle.dae_commons.specs.Equations.{equations_in, with_equation, without_variable}
-use Rattle.dae_commons.specs.Copies.{source_in, propagated_operand, propagated_operands, propagated_test, propagated_value, is_operand, computed_once}
+use Rattle.dae_commons.specs.Copies.{source_in, propagated_operand, propagated_operands, propagated_test, propagated_value, is_operand}
+use Rattle.dae_commons.specs.Sums.{is_itself, assigned_value}
 use Rattle.dae_commons.specs.Commoned.{commoned_item, known_behind, known_behind_both, commoned_code, known_after_set, known_after}
 use Rattle.dae_commons.proofs.Truth.{same_length}
-use Rattle.dae_commons.proofs.Names.{AreNamed, source_named, once_named, without_named, with_named, met_named}
+use Rattle.dae_commons.proofs.Names.{base_in, AreNamed, source_named, assigned_value_named, without_named, with_named, met_named}
+
+below_word : (k : ℕ) → k < 2 ^ 11 → k < 2 ^ 32
+below_word k low = omega (arith, low)
 
 -- functions that take as many arguments, and are as many
 module _ (fs gs : List Function) (as_many : length gs ≡ length fs) (takes : (g count : ℕ) → TakesArguments (slice_get fs g) count → TakesArguments (slice_get gs g) count) (n : ℕ) (c : Classes) where
@@ -45,8 +50,8 @@ module _ (fs gs : List Function) (as_many : length gs ≡ length fs) (takes : (g
   value_in q all (val.Holds t) i = test_in q all t i
   value_in q all (val.FrameAddress offset) i = i
 
-  assigned_in : (q : List Equation) → Within q → (v : ℕ) (x : Value) → ValueIn n x → ValueIn n (computed_once c q v (propagated_value c q x))
-  assigned_in q all v x i = once_named IsBelow (ValueIn n) (λ u lt. lt) c q v (propagated_value c q x) all (value_in q all x i)
+  assigned_in : (q : List Equation) → Within q → (v : ℕ) (x : Value) → ValueIn n x → ValueIn n (assigned_value c q v x)
+  assigned_in q all v x i = assigned_value_named IsBelow (ValueIn n) (λ u lt. lt) (λ w k lt low. (lt, below_word k low)) c q v x all i (value_in q all x i)
 
   operands_in : (q : List Equation) → Within q → (xs : List Operand) → AllByRecursion (IsIn n) xs → AllByRecursion (IsIn n) (propagated_operands c q xs)
   operands_in q all [] i = tt
@@ -79,12 +84,19 @@ module _ (fs gs : List Function) (as_many : length gs ≡ length fs) (takes : (g
   source_below v (val.Holds t) lt i = lt
   source_below v (val.FrameAddress offset) lt i = lt
 
-  assigned_named : (q : List Equation) → Within q → (v : ℕ) (x : Value) → v < n → ValueIn n x → Within (known_after_set q v x (computed_once c q v (propagated_value c q x)))
-  assigned_named q all v x lt i = by (is_operand x) where
-    by : (b : Bool) → Within (if b then without_variable v q else with_equation v (computed_once c q v (propagated_value c q x)) q)
-    by true = without_named IsBelow v q all
-    by false =
-        with_named IsBelow v (computed_once c q v (propagated_value c q x)) q lt (source_below v (computed_once c q v (propagated_value c q x)) lt (assigned_in q all v x i)) all
+  base_below : (v : ℕ) (x : Value) → v < n → ValueIn n x → base_in v x < n
+  base_below v (val.Binary Add (Variable w) (Number k)) lt i = i.0
+  base_below v (val.Binary Add (Number k) (Variable w)) lt i = i.1
+  base_below v _ lt i = lt
+
+  assigned_named : (q : List Equation) → Within q → (v : ℕ) (x : Value) → v < n → ValueIn n x → Within (known_after_set q v x (assigned_value c q v x))
+  assigned_named q all v x lt i = by (is_itself v x) (is_operand x) where
+    by : (b o : Bool) → Within (if b then q else (if o then without_variable v q else with_equation v (assigned_value c q v x) q))
+    by true o = all
+    by false true = without_named IsBelow v q all
+    by false false =
+        with_named IsBelow v (assigned_value c q v x) q lt (source_below v (assigned_value c q v x) lt (assigned_in q all v x i))
+        (base_below v (assigned_value c q v x) lt (assigned_in q all v x i)) all
 
   item_named : (q : List Equation) → Within q → (item : Item) → ItemIn fs n item → Within (equations_in (known_after c q item))
   item_named q all (Assign v x) i = assigned_named q all v x (i.0).1 i.1

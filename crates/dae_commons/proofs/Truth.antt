@@ -1,8 +1,12 @@
 -- What equations that are true say of operands and values, and which are true behind what sets a variable.
-use Rattle.std.proofs.Common.{◌≡◌, ℕ, suc, Bool, true, false, not, ◌&&◌, nat_eq, if◌then◌else◌, List, [], ◌∷◌, length, refl, ap, sym, ◌∙◌, subst}
+use Rattle.std.proofs.Common.{◌≡◌, ℕ, suc, ◌%◌, ◌^◌, Bool, true, false, not, ◌&&◌, nat_eq, if◌then◌else◌, List, [], ◌∷◌, length, refl, ap, sym, ◌∙◌, subst}
+use Rattle.std.proofs.Math.Nat.{add_comm}
 use Rattle.std.proofs.lemmas.Bool.{eqb-true, eq-eqb, and_parts, or_parts}
-use Rattle.dae_base.specs.Words.{extended}
+use Rattle.dae_base.specs.Words.{plus, extended}
+use Rattle.dae_meaning.specs.Operations.{combined}
 use Rattle.dae_meaning.specs.Variables.{Env, put}
+use Rattle.dae_meaning.specs.declared.Operator.TheVariants.{Add}
+use Rattle.dae_meaning.proofs.Laws.{own_put}
 use Rattle.dae_ir.specs.Form.{value, values, holds, computed}
 use Rattle.dae_ir.specs.Classes.{Classes}
 use Rattle.dae_ir.specs.contracts.form.ValuePartialEq.TheImpl.{ghosts as of_values}
@@ -14,6 +18,7 @@ use Rattle.dae_ir.specs.declared.form.Test.{Test}
 use Rattle.dae_commons.specs.declared.equations.Equation.{Equation}
 use Rattle.dae_commons.specs.Equations.{AreTrue, operand_involves, value_involves, involves, without_variable, with_equation}
 use Rattle.dae_commons.specs.Copies.{are_alike, source_in, is_copy, copy_source, propagated_operand, propagated_operands, propagated_test, propagated_value, holds_already, held_value, is_operand, computed_once}
+use Rattle.dae_commons.specs.Sums.{is_itself, fits_offset, base_sum_or, as_sum_or, held_sum, computed_again, assigned_value}
 use Rattle.dae_commons.proofs.Values.{values_same}
 use Rattle.dae_commons.proofs.Lists.{without_all, with_all}
 
@@ -75,6 +80,16 @@ source_true frame env v (val.Binary operator x y) h = refl
 source_true frame env v (val.Holds t) h = refl
 source_true frame env v (val.FrameAddress offset) h = refl
 
+-- a variable that is set to itself gets what it has
+itself_is : (env : Env) (frame v : ℕ) (x : Value) → is_itself v x ≡ true → computed x frame env ≡ env v
+itself_is env frame v (val.Same (Variable u)) h = ap env (eqb-true u v h)
+itself_is env frame v _ h = absurd cc
+
+-- a variable that is set to itself changes nothing
+pub true_itself : (v : ℕ) (x : Value) (q : List Equation) (frame : ℕ) (env : Env) → is_itself v x ≡ true → AreTrue q frame env → AreTrue q frame (put true v (computed x frame env) env)
+true_itself v x q frame env h t =
+    subst (λ (e : Env). AreTrue q frame e) (sym (ap (λ (y : ℕ). put true v y env) (itself_is env frame v x h) ∙ own_put v env)) t
+
 module _ (c : Classes) (frame : ℕ) (env : Env) where
   copy_true : (q : List Equation) → AreTrue q frame env → (v : ℕ) → env (copy_source c q v) ≡ env v
   copy_true [] t v = refl
@@ -94,6 +109,34 @@ module _ (c : Classes) (frame : ℕ) (env : Env) where
         let p = and_parts (of_values.eq e.value x) (not (nat_eq e.variable v) && are_alike c e.variable v) h in
         t.0 ∙ ap (λ (z : Value). computed z frame env) (values_same e.value x p.0)
     by false h rest = rest
+
+  -- the sum that a variable holds
+  sum_true : (w n v : ℕ) → env v ≡ plus (env w) n → computed (base_sum_or c w n (val.Same (Variable v))) frame env ≡ env v
+  unfolding combined
+  sum_true w n v h = by (fits_offset n && c.s w) where
+    by : (b : Bool) → computed (if b then val.Binary Add (Variable w) (Number n) else val.Same (Variable v)) frame env ≡ env v
+    by true = sym h
+    by false = refl
+
+  as_sum_true : (x : Value) (v : ℕ) → env v ≡ computed x frame env → computed (as_sum_or c x (val.Same (Variable v))) frame env ≡ env v
+  unfolding combined
+  as_sum_true (val.Binary Add (Variable w) (Number n)) v h = sum_true w n v h
+  as_sum_true (val.Binary Add (Number n) (Variable w)) v h = sum_true w n v (h ∙ ap (λ (sum : ℕ). sum % 2 ^ 32) (add_comm n (env w)))
+  as_sum_true _ v h = refl
+
+  held_sum_true : (q : List Equation) → AreTrue q frame env → (v : ℕ) → computed (held_sum c q v) frame env ≡ env v
+  held_sum_true [] t v = refl
+  held_sum_true (e ∷ q) t v = by (nat_eq e.variable v) refl (held_sum_true q t.1 v) where
+    by : (b : Bool) → nat_eq e.variable v ≡ b → computed (held_sum c q v) frame env ≡ env v
+        → computed (if b then as_sum_or c e.value (val.Same (Variable v)) else held_sum c q v) frame env ≡ env v
+    by true h rest = as_sum_true e.value v (subst (λ (u : ℕ). env u ≡ computed e.value frame env) (eqb-true e.variable v h) t.0)
+    by false h rest = rest
+
+  again_true : (q : List Equation) → AreTrue q frame env → (v : ℕ) → computed (computed_again c q v) frame env ≡ env v
+  again_true q t v = by (c.s v && not (c.needs v)) where
+    by : (b : Bool) → computed (if b then held_sum c q v else val.Same (Variable v)) frame env ≡ env v
+    by true = held_sum_true q t v
+    by false = refl
 
   module _ (q : List Equation) (t : AreTrue q frame env) where
     pub value_same : (x : Operand) → value (propagated_operand c q x) env ≡ value x env
@@ -117,8 +160,11 @@ module _ (c : Classes) (frame : ℕ) (env : Env) where
       by false = held_true q t v x
 
     -- of what is assigned to v
-    pub assigned_same : (v : ℕ) (x : Value) → computed (computed_once c q v (propagated_value c q x)) frame env ≡ computed x frame env
-    assigned_same v x = once_same v (propagated_value c q x) ∙ computed_same x
+    pub assigned_same : (v : ℕ) (x : Value) → computed (assigned_value c q v x) frame env ≡ computed x frame env
+    assigned_same v x = by (is_itself v x) refl where
+      by : (b : Bool) → is_itself v x ≡ b → computed (if b then computed_again c q v else computed_once c q v (propagated_value c q x)) frame env ≡ computed x frame env
+      by true h = again_true q t v ∙ sym (itself_is env frame v x h)
+      by false h = once_same v (propagated_value c q x) ∙ computed_same x
 
     pub values_alike : (xs : List Operand) → values (propagated_operands c q xs) env ≡ values xs env
     values_alike [] = refl

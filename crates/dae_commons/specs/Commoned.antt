@@ -1,5 +1,6 @@
 -- Code without its common subexpressions. What is known at the start of a list is known in both branches of an If, and what is known at
--- the ends of both behind it. In a loop, and behind it, nothing is known that was before.
+-- the ends of both behind it. In a loop, and behind it, nothing is known that was before. A variable that is set to itself is computed
+-- again from the sum that it holds.
 use Rattle.std.specs.Prelude.{◌≡◌, ℕ, if◌then◌else◌, List, [], Option, Some, None}
 use Rattle.dae_ir.specs.Code.{Done, Do, If, Loop}
 use Rattle.dae_ir.specs.Form.{Form, before, form_of}
@@ -10,11 +11,12 @@ use Rattle.dae_ir.specs.declared.form.Statement.{Statement}
 use Rattle.dae_ir.specs.declared.form.Value.{Value}
 use Rattle.dae_commons.specs.declared.equations.Equation.{Equation}
 use Rattle.dae_commons.specs.Equations.{equations_in, met, with_equation, without_variable}
-use Rattle.dae_commons.specs.Copies.{propagated_operand, propagated_operands, propagated_test, propagated_value, propagated_check, computed_once, is_operand}
+use Rattle.dae_commons.specs.Copies.{propagated_operand, propagated_operands, propagated_test, propagated_check, is_operand}
+use Rattle.dae_commons.specs.Sums.{is_itself, assigned_value}
 
 -- by the equations that are known before it
 abbrev pub commoned_item : Classes → List Equation → Item → Item
-commoned_item c q (Assign v x) = Assign v (computed_once c q v (propagated_value c q x))
+commoned_item c q (Assign v x) = Assign v (assigned_value c q v x)
 commoned_item c q (Load v kind x) = Load v kind (propagated_operand c q x)
 commoned_item c q (Store width x y) =
     Store width (propagated_operand c q x) (propagated_operand c q y)
@@ -27,15 +29,17 @@ commoned_item c q (Return x) = Return (propagated_operand c q x)
 commoned_item c q (Halt x) = Halt (propagated_operand c q x)
 
 -- what is known behind an assignment of x to v that is written as y. What was an operand before isn't known: else it would be read in
--- place of v, and both be kept
+-- place of v, and both be kept. Where v is set to itself nothing changes
 abbrev pub known_after_set : List Equation → ℕ → (x y : Value) → List Equation
-known_after_set q v x y = if is_operand x then without_variable v q else with_equation v y q
+known_after_set q v x y =
+    if is_itself v x then q
+    else (if is_operand x then without_variable v q else with_equation v y q)
 
 -- what is known behind an item: nothing behind a call, so that no value is kept over one for its sake, and all that may be said where
 -- the code doesn't go on
 abbrev pub known_after : Classes → List Equation → Item → Option (List Equation)
 known_after c q (Assign v x) =
-    Some (known_after_set q v x (computed_once c q v (propagated_value c q x)))
+    Some (known_after_set q v x (assigned_value c q v x))
 known_after c q (Load v kind x) = Some (without_variable v q)
 known_after c q (Store width x y) = Some q
 known_after c q (Print spelling x) = Some q

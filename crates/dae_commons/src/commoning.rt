@@ -6,10 +6,12 @@ ghost use Rattle.dae_ir.specs.declared.form.Item.TheVariants as items;
 ghost use Rattle.dae_commons.specs.Commoned.{IsCommonedList, IsCommonedTo, known_after_set, commoned_item, known_after};
 
 use crate::copies::{
-    compute_once, is_operand, propagate_check, propagate_operand, propagate_operands,
-    propagate_test, propagate_value,
+    is_operand, propagate_check, propagate_operand, propagate_operands, propagate_test,
 };
-use crate::equations::{Equation, equations_in, meet, with_equation, without_variable};
+use crate::equations::{
+    Equation, copy_equations, equations_in, meet, with_equation, without_variable,
+};
+use crate::sums::{assigned_value, is_itself};
 use dae_base::Items;
 use dae_ir::{Class, Item, Statement, Value};
 use std::alloc::{AllocError, Global};
@@ -63,7 +65,9 @@ fn known_after_set(
 ) -> Result<Items<Equation>, AllocError>
     ensures { IfOk result (λ behind. behind ≡ known_after_set known.now variable old new) }
 {
-    if is_operand(old) {
+    if is_itself(variable, old) {
+        copy_equations(alloc, known)
+    } else if is_operand(old) {
         without_variable(alloc, known, variable)
     } else {
         with_equation(alloc, known, variable, new)
@@ -82,7 +86,7 @@ fn common_assignment(
     ensures known { IfOk result (λ new. new.known
         ≡ known_after (classes_in row.now) known.now (items.Assign variable value)) }
 {
-    let new = compute_once(row, known, variable, propagate_value(row, known, value));
+    let new = assigned_value(row, known, variable, value);
     let behind = known_after_set(alloc, known, variable, value, new)?;
     Ok(with_known(Item::Assign(variable, new), behind))
 }

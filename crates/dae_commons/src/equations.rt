@@ -44,6 +44,15 @@ fn involves(variable: u32, equation: Equation) -> bool
     equation.variable == variable || value_involves(variable, equation.value)
 }
 
+/// The equations that are known behind what changes no variable.
+pub fn copy_equations(alloc: Global, known: &[Equation]) -> Result<Items<Equation>, AllocError>
+    ensures { IfOk result (λ new. new ≡ known.now) }
+{
+    let mut new = Vec::new(alloc);
+    new.extend_from_slice(known)?;
+    Ok(Items::from_vec(new))
+}
+
 /// Those equations that don't involve a variable come behind others.
 fn push_without(
     kept: &mut Vec<Equation>,

@@ -7,7 +7,7 @@ ghost use Rattle.dae_commons.specs.Copies.{are_alike};
 use dae_ir::Class;
 
 /// The class of a variable: neither processor needs one that the row doesn't have.
-fn class_of(row: &[Class], variable: u32) -> Class
+pub fn class_of(row: &[Class], variable: u32) -> Class
     ensures a { result.a ≡ (classes_in row.now).s variable }
     ensures e { result.e ≡ (classes_in row.now).needs variable }
 {

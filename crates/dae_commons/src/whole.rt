@@ -33,8 +33,9 @@ fn common_function(alloc: Global, row: &[Class], function: Function) -> Result<F
 }
 
 /// The form in which no value is computed that is known to be held by a variable already, where just those processors need that
-/// variable that need the one which gets the value. The tables say who needs the variables of each function. The form is given up,
-/// also where memory is wanting.
+/// variable that need the one which gets the value; and in which a variable of the access side that was set to itself is computed
+/// again from a sum that it holds, where an access can add that. The tables say who needs the variables of each function. The form is
+/// given up, also where memory is wanting.
 pub fn eliminate_commons(alloc: Global, ir: Ir, tables: &[Items<Class>]) -> Result<Ir, AllocError>
     ensures { IfOk result (IsCommoningOf tables.now ir) }
 {

@@ -32,6 +32,16 @@ fn product(variable: u32) -> Statement {
     simple(Item::Assign(variable, value))
 }
 
+// 64 more than variable 1.
+fn sum(variable: u32) -> Statement {
+    let value = Value::Binary(Operator::Add, Operand::Number(64), Operand::Variable(1));
+    simple(Item::Assign(variable, value))
+}
+
+fn itself(variable: u32) -> Statement {
+    simple(Item::Assign(variable, Value::Same(Operand::Variable(variable))))
+}
+
 fn advance(variable: u32) -> Statement {
     let value = Value::Binary(
         Operator::Add,
@@ -171,6 +181,22 @@ fn one_list(rt: HostRuntime) -> Result<(), AllocError> {
     let body = [load(1), product(2), product(3), store(2), store(3), halt()];
     let body = Vec::from_array(alloc, body)?;
     assert!(rt; becomes(alloc, body, BOTH, &[1, 2, 1, 3, 1, 2, 3])?);
+    Ok(())
+}
+
+/// `c = 64 + a; c = c; *c = 7;`, the same where `a` is set between, and where E needs `c` too.
+#[test]
+fn sums(rt: HostRuntime) -> Result<(), AllocError> {
+    let alloc = rt.alloc();
+    let body = [load(1), sum(3), itself(3), store(3), halt()];
+    let body = Vec::from_array(alloc, body)?;
+    assert!(rt; becomes(alloc, body, ACCESS, &[1, 3, 1, 3, 1, 3])?);
+    let body = [load(1), sum(3), advance(1), itself(3), store(3), halt()];
+    let body = Vec::from_array(alloc, body)?;
+    assert!(rt; becomes(alloc, body, ACCESS, &[1, 3, 1, 1, 1, 3, 3, 3])?);
+    let body = [load(1), sum(3), itself(3), store(3), halt()];
+    let body = Vec::from_array(alloc, body)?;
+    assert!(rt; becomes(alloc, body, BOTH, &[1, 3, 1, 3, 3, 3])?);
     Ok(())
 }
 

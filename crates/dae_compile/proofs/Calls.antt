@@ -8,7 +8,7 @@ use Rattle.dae_ir.specs.Form.{Form, form_of}
 use Rattle.dae_ir.specs.Classes.{Classes, has_check, classes_of}
 use Rattle.dae_ir.specs.Rounds.{Jump, Breaks, Continues, Enters, Gives, Halts, Round, Group, Alone, Region, Rounds, Joins, Closes, is_full, decision, closed, placed, region, one_sided, rounds}
 use Rattle.dae_ir.specs.Sizes.{form_size}
-use Rattle.dae_ir.specs.Streams.{Actions, mark, when, a_part, e_part, parts, message, gives_address, hears_check, e_last, group_of, jump_action, inside_of, has_loop, region_of, side_of, stream_of, actions_of}
+use Rattle.dae_ir.specs.Streams.{Actions, mark, when, a_part, e_part, parts, message, gives_address, hears_check, e_last, group_of, jump_action, inside_of, has_loop, region_of, side_of, stream_of, actions_of, only_failure}
 use Rattle.dae_ir.specs.Programs.{IsFunctionOf, AreFunctionsOf, IsPairOf}
 use Rattle.dae_ir.specs.declared.form.Ir.{Ir}
 use Rattle.dae_ir.specs.declared.form.Function.{Function}
@@ -78,7 +78,7 @@ module _ (of : ℕ → Classes) (c : Classes) (cap : ℕ) where
 
   group_calls : (b : Bool) (n : ℕ) (g : List Part) (last : Last) (k : Actions) → calls_in (group_of b c n g last k) ≡ calls_in k
   group_calls true n g last k = parts_calls (a_part c n) (a_part_calls n) g _ ∙ address_calls n last _ ∙ message_calls n (Tell (Number 0)) g _ refl ∙ hears_calls n last k
-  group_calls false n g last k = message_calls n Hear g _ refl ∙ parts_calls (e_part c n) (e_part_calls n) g _ ∙ last_calls n last k
+  group_calls false n g last k = message_calls n (Hear (only_failure g)) g _ refl ∙ parts_calls (e_part c n) (e_part_calls n) g _ ∙ last_calls n last k
 
   -- ---- rounds
 
@@ -162,7 +162,7 @@ module _ (of : ℕ → Classes) (c : Classes) (cap : ℕ) where
   region_calls true n place true code k =
       let k' = when (has_loop code) (mark place n) (Tell (Number 0)) k in
       omega (arith, inside_calls true n (rounds c cap false code []) k', rounds_calls false code [], when_calls (has_loop code) (mark place n) (Tell (Number 0)) k refl)
-  region_calls false n place true code k = omega (arith, when_calls (has_loop code) (mark place n) Hear k refl)
+  region_calls false n place true code k = omega (arith, when_calls (has_loop code) (mark place n) (Hear None) k refl)
   region_calls true n place false code k = omega arith
   region_calls false n place false code k = omega (arith, inside_calls false n (rounds c cap false code []) k, rounds_calls false code [])
 

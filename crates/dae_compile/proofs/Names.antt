@@ -8,7 +8,7 @@ use Rattle.dae_ir.specs.Form.{Form}
 use Rattle.dae_ir.specs.Classes.{VariableSet, Classes, has_check}
 use Rattle.dae_ir.specs.Rounds.{Jump, Breaks, Continues, Enters, Gives, Halts, Round, Group, Alone, Region, Decision, Rounds, Joins, Closes, is_full, closed, placed, region, one_sided, rounds}
 use Rattle.dae_ir.specs.Scope.{IsIn, TestIn, ValueIn, ItemIn}
-use Rattle.dae_ir.specs.Streams.{Actions, mark, when, a_part, e_part, parts, message, gives_address, hears_check, e_last, group_of, set_of, kept, jump_action, arguments_in, branch_of, inside_of, has_loop, region_of, side_of, stream_of}
+use Rattle.dae_ir.specs.Streams.{Actions, mark, when, a_part, e_part, parts, message, gives_address, hears_check, e_last, group_of, set_of, kept, jump_action, arguments_in, branch_of, inside_of, has_loop, region_of, side_of, stream_of, only_failure}
 use Rattle.dae_ir.specs.declared.form.Function.{Function}
 use Rattle.dae_ir.specs.declared.form.Item.TheVariants.{Assign, Load, Store, Print, Expect, Break as Leave, Continue as Skip, Call as Enter, Return as Give, Halt}
 use Rattle.dae_ir.specs.declared.form.Operand.{Operand}
@@ -60,7 +60,7 @@ module _ (n : ℕ) where
   ActionIn (Emit spelling x) = IsIn n x
   ActionIn (Probe check) = ProbeIn check
   ActionIn (Tell x) = IsIn n x
-  ActionIn Hear = Unit {0}
+  ActionIn (Hear only) = Unit {0}
   ActionIn (Stop x) = OptionIn x
   ActionIn Break = Unit {0}
   ActionIn Continue = Unit {0}
@@ -208,7 +208,7 @@ module _ (n : ℕ) where
 
     group_in : (b : Bool) (m : ℕ) (g : List Part) (last : Last) (k : Actions) → AllByRecursion PartIn g → LastIn last → AreIn k → AreIn (group_of b c m g last k)
     group_in true m g last k h l i = parts_in (a_part c m) (a_part_in m) g _ h (address_in m last _ l (message_in m (Tell (Number 0)) g _ zero_in (hears_in m last k i)))
-    group_in false m g last k h l i = message_in m Hear g _ tt (parts_in (e_part c m) (e_part_in m) g _ h (last_in m last k l i))
+    group_in false m g last k h l i = message_in m (Hear (only_failure g)) g _ tt (parts_in (e_part c m) (e_part_in m) g _ h (last_in m last k l i))
 
     -- ---- the stream
 
@@ -254,7 +254,7 @@ module _ (n : ℕ) where
 
     region_in : (b : Bool) (m : ℕ) (place : Place) (d : Bool) (code : Form) (k : Actions) → FormIn code → AreIn k → AreIn (region_of b of c cap m place d code k)
     region_in true m place true code k h i = inside_in true m (rounds c cap false code []) _ (rounds_in false code h [] tt) (when_in (has_loop code) (mark place m) (Tell (Number 0)) k zero_in i)
-    region_in false m place true code k h i = when_in (has_loop code) (mark place m) Hear k tt i
+    region_in false m place true code k h i = when_in (has_loop code) (mark place m) (Hear None) k tt i
     region_in true m place false code k h i = i
     region_in false m place false code k h i = inside_in false m (rounds c cap false code []) k (rounds_in false code h [] tt) i
 

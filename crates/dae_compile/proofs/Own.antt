@@ -87,7 +87,7 @@ module _ (n : ℕ) where
   reads_below (Emit spelling x) h = operand_below x h
   reads_below (Probe check) h = check_below check h
   reads_below (Tell x) h = operand_below x h
-  reads_below Hear h = none_below
+  reads_below (Hear only) h = none_below
   reads_below (Stop x) h = option_below x h
   reads_below Break h = none_below
   reads_below Continue h = none_below
@@ -110,7 +110,7 @@ module _ (n : ℕ) where
   sets_below (Emit spelling x) h = none_below
   sets_below (Probe check) h = none_below
   sets_below (Tell x) h = none_below
-  sets_below Hear h = none_below
+  sets_below (Hear only) h = none_below
   sets_below (Stop x) h = none_below
   sets_below Break h = none_below
   sets_below Continue h = none_below
@@ -141,7 +141,7 @@ module _ (n : ℕ) where
   after_below (Emit spelling y) k x h w = h
   after_below (Probe check) k x h w = h
   after_below (Tell y) k x h w = h
-  after_below Hear k x h w = h
+  after_below (Hear only) k x h w = h
   after_below (Stop y) k x h w = none_below
   after_below Break k x h w = w.leaves
   after_below Continue k x h w = w.skips

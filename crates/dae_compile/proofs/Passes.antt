@@ -209,16 +209,21 @@ elided_behind law ir new scoped is =
 -- ---- all passes
 
 -- before loads are reused
-module _ (lowered named common bare : Ir) where
+module _ (lowered named common bare near : Ir) where
   pub up_to_commons : FormsAreRenamed → FormsAreCommoned → IsScoped lowered → IsRenamingOf lowered named → IsWithoutCommons named common → IsBehind lowered common
   up_to_commons webs commons scoped renamed without =
       let one = renamed_behind webs lowered named scoped renamed in
       behind_both lowered named common one (commoned_behind commons named common one.scoped without)
 
-  pub passes_before : FormsAreRenamed → FormsAreCommoned → ChecksAreElided → IsScoped lowered → IsRenamingOf lowered named → IsWithoutCommons named common → IsElisionOf common bare → IsBehind lowered bare
-  passes_before webs commons checks scoped renamed without elided =
+  pub up_to_checks : FormsAreRenamed → FormsAreCommoned → ChecksAreElided → IsScoped lowered → IsRenamingOf lowered named → IsWithoutCommons named common → IsElisionOf common bare → IsBehind lowered bare
+  up_to_checks webs commons checks scoped renamed without elided =
       let one = up_to_commons webs commons scoped renamed without in
       behind_both lowered common bare one (elided_behind checks common bare one.scoped elided)
+
+  pub passes_before : FormsAreRenamed → FormsAreCommoned → ChecksAreElided → IsScoped lowered → IsRenamingOf lowered named → IsWithoutCommons named common → IsElisionOf common bare → IsWithoutCommons bare near → IsBehind lowered near
+  passes_before webs commons checks scoped renamed without elided again =
+      let one = up_to_checks webs commons checks scoped renamed without elided in
+      behind_both lowered bare near one (commoned_behind commons bare near one.scoped again)
 
 -- and then they are
 module _ (lowered bare ir : Ir) (before : IsBehind lowered bare) (reused : IsReuseOf bare ir) (keeps : KeepsForm bare ir) where

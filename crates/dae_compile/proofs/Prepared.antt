@@ -193,12 +193,15 @@ elided_prepared sizes memory (f ∷ fs) (g ∷ gs) (h ∷ hs) made is =
 
 -- ---- all passes before loads are reused
 
-pub passes_prepared : (lowered named common bare : Ir) → RenamingKeepsSizes → CommoningKeepsCounts → ElisionKeepsSizes → IsRenamingOf lowered named → IsWithoutCommons named common → IsElisionOf common bare → ArePrepared lowered.functions bare.functions
-passes_prepared lowered named common bare webs commons checks renamed without elided =
+pub passes_prepared : (lowered named common bare near : Ir) → RenamingKeepsSizes → CommoningKeepsCounts → ElisionKeepsSizes
+    → IsRenamingOf lowered named → IsWithoutCommons named common → IsElisionOf common bare → IsWithoutCommons bare near → ArePrepared lowered.functions near.functions
+passes_prepared lowered named common bare near webs commons checks renamed without elided again =
     let made = without.commoning in
+    let last = again.commoning in
     let one = renamed_prepared webs lowered.functions named.functions renamed.functions in
-    let more = commoned_prepared commons without.tables lowered.functions named.functions common.functions one made.functions in
-    elided_prepared checks common.memory lowered.functions common.functions bare.functions more elided.functions
+    let two = commoned_prepared commons without.tables lowered.functions named.functions common.functions one made.functions in
+    let three = elided_prepared checks common.memory lowered.functions common.functions bare.functions two elided.functions in
+    commoned_prepared commons again.tables lowered.functions bare.functions near.functions three last.functions
 
 -- ---- loads reused
 

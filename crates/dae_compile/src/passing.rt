@@ -34,6 +34,15 @@ pub fn without_known_checks(alloc: Global, ir: Ir) -> Result<Ir, AllocError>
     Ok(new)
 }
 
+/// The form with sums computed where an access behind can stand for them, and without the common subexpressions that this makes, by its
+/// least classes. An error is want of memory.
+pub fn with_sums_at_accesses(alloc: Global, ir: Ir) -> Result<Ir, AllocError>
+    requires { IsScoped ir }
+    ensures { IfOk result (IsWithoutCommons ir) }
+{
+    without_commons(alloc, ir)
+}
+
 /// The form with its loads reused, where words number its variables and one more for each load. An error is want of memory.
 pub fn reuse_loads(alloc: Global, ir: Ir) -> Result<Ir, AllocError>
     requires { list_all is_reusable ir.functions ≡ true }

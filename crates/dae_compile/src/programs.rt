@@ -12,7 +12,7 @@ ghost use Rattle.dae_lower_programs.specs.Functions.{HaveNumbers};
 ghost use Rattle.dae_lower_programs.specs.Lowered.{HasRoom};
 ghost use Rattle.dae_compile.specs.Compiled.{AreCompiledFrom, HasFewVariables, HasTooMuchPrivate, HasTooMuchCode, IsFinalForm};
 
-use crate::passing::{reuse_loads, without_commons, without_known_checks};
+use crate::passing::{reuse_loads, with_sums_at_accesses, without_commons, without_known_checks};
 use crate::{Compiled, generate};
 use dae_alias::{forms_are_reused, reuse_stays_small};
 use dae_base::{Items, Text};
@@ -32,8 +32,9 @@ fn see_bytes(bytes: &[u8])
 {}
 
 /// A final form of a program, with at most so many calls inside one another: the lowered form with its variables renamed by webs,
-/// then without its common subexpressions, then without the checks that are known to pass, and then with its loads reused. It is well
-/// made, sets each variable before it reads it, and has room in its memory. An error is want of memory.
+/// then without its common subexpressions, then without the checks that are known to pass, then with sums computed where they are
+/// accessed, and then with its loads reused. It is well made, sets each variable before it reads it, and has room in its memory. An
+/// error is want of memory.
 fn final_form(alloc: Global, program: &Program, calls: u16) -> Result<Ir, AllocError>
     requires functions { length program.now.functions < 2 ^ 32 }
     requires numbers { HaveNumbers program.now program.now.functions }
@@ -55,7 +56,8 @@ fn final_form(alloc: Global, program: &Program, calls: u16) -> Result<Ir, AllocE
     let renamed = rename_webs(alloc, lowered)?;
     let common = without_commons(alloc, renamed)?;
     let bare = without_known_checks(alloc, common)?;
-    let ir = reuse_loads(alloc, bare)?;
+    let near = with_sums_at_accesses(alloc, bare)?;
+    let ir = reuse_loads(alloc, near)?;
     Ok(ir)
 }
 

@@ -2,7 +2,7 @@
 use dae_encode::{Inst, decode, encode, is_in_range};
 use std::process::Abort;
 
-static WORDS: [(u32, Inst); 115] = [
+static WORDS: [(u32, Inst); 119] = [
     (0x123452b7, Inst::Lui(5, 305_418_240)), // lui t0,0x12345
     (0xfffff437, Inst::Lui(8, -4096)), // lui s0,0xfffff
     (0x00001297, Inst::Auipc(5, 4096)), // auipc t0,0x1
@@ -11,10 +11,10 @@ static WORDS: [(u32, Inst); 115] = [
     (0x7f828067, Inst::Jalr(0, 5, 2040)), // jalr zero,2040(t0)
     (0x800280e7, Inst::Jalr(1, 5, -2048)), // jalr ra,-2048(t0)
     (0x00008067, Inst::Jalr(0, 1, 0)), // jalr zero,0(ra)
+    (0x7fc000e7, Inst::Jalr(1, 0, 2044)), // jalr ra,2044(zero) # 7fc <.text+0x7fc>
     (0x00029663, Inst::Bne(5, 0, 12)), // bne t0,zero,2c <.text+0x2c>
     (0x000e9663, Inst::Bne(29, 0, 12)), // bne t4,zero,30 <.text+0x30>
     (0x00041a63, Inst::Bne(8, 0, 20)), // bne s0,zero,3c <.text+0x3c>
-    (0x00028463, Inst::Beq(5, 0, 8)), // beq t0,zero,34 <.text+0x34>
     (0x00050663, Inst::Beq(10, 0, 12)), // beq a0,zero,3c <.text+0x3c>
     (0x00030663, Inst::Beq(6, 0, 12)), // beq t1,zero,40 <.text+0x40>
     (0x00736663, Inst::Bltu(6, 7, 12)), // bltu t1,t2,44 <.text+0x44>
@@ -70,12 +70,14 @@ static WORDS: [(u32, Inst); 115] = [
     (0x00029f03, Inst::Lh(30, 5, 0)), // lh t5,0(t0)
     (0x0002df83, Inst::Lhu(31, 5, 0)), // lhu t6,0(t0)
     (0x00042f03, Inst::Lw(30, 8, 0)), // lw t5,0(s0)
+    (0x04042f03, Inst::Lw(30, 8, 64)), // lw t5,64(s0)
     (0x7fc12403, Inst::Lw(8, 2, 2044)), // lw s0,2044(sp)
     (0x00012083, Inst::Lw(1, 2, 0)), // lw ra,0(sp)
     (0x80042403, Inst::Lw(8, 8, -2048)), // lw s0,-2048(s0)
     (0x01e40023, Inst::Sb(8, 30, 0)), // sb t5,0(s0)
     (0x01e41023, Inst::Sh(8, 30, 0)), // sh t5,0(s0)
     (0x01e42023, Inst::Sw(8, 30, 0)), // sw t5,0(s0)
+    (0x05e42023, Inst::Sw(8, 30, 64)), // sw t5,64(s0)
     (0x00112023, Inst::Sw(2, 1, 0)), // sw ra,0(sp)
     (0x05b12423, Inst::Sw(2, 27, 72)), // sw s11,72(sp)
     (0x8053a023, Inst::Sw(7, 5, -2048)), // sw t0,-2048(t2)
@@ -115,6 +117,8 @@ static WORDS: [(u32, Inst); 115] = [
     (0x7a9460e3, Inst::Bltu(8, 9, 4000)), // bltu s0,s1,4000
     (0x00647263, Inst::Bgeu(8, 6, 4)), // bgeu s0,t1,4
     (0x000e8463, Inst::Beq(29, 0, 8)), // beq t4,zero,8
+    (0x000e8863, Inst::Beq(29, 0, 16)), // beq t4,zero,16
+    (0x00200513, Inst::Addi(10, 0, 2)), // addi a0,zero,2
     (0x06810113, Inst::Addi(2, 2, 104)), // addi sp,sp,104
     (0xf9810113, Inst::Addi(2, 2, -104)), // addi sp,sp,-104
     (0x00000073, Inst::Ecall), // ecall

@@ -171,6 +171,21 @@ pub fn loaded_index(alloc: Global) -> Result<Ir, AllocError> {
     program(alloc, 5, body)
 }
 
+/// `x[k] = 7; printf("%d\n", x[k]);` with a sum for each access, which the access can add up itself.
+pub fn accessed_sums(alloc: Global) -> Result<Ir, AllocError> {
+    let body = [
+        load(1, number(16)),
+        binary(2, Operator::Multiply, variable(1), number(4)),
+        add(3, variable(2), number(20)),
+        store(variable(3), number(7)),
+        add(3, variable(2), number(20)),
+        load(4, variable(3)),
+    ];
+    let mut body = Vec::from_array(alloc, body)?;
+    print_and_halt(&mut body, variable(4))?;
+    program(alloc, 5, body)
+}
+
 /// `n = 27; s = 0; while (n != 1) { if (n % 2) n = 3 * n + 1; else n = n / 2; s++; } printf("%d\n", s);`
 pub fn steps_to_one(alloc: Global) -> Result<Ir, AllocError> {
     let odd = [
@@ -294,6 +309,23 @@ pub fn summed_locals(alloc: Global, locals: u32) -> Result<Ir, AllocError>
     body.push(simple(Item::Return(variable(value))))?;
     let summed = function(alloc, "f", 1, locals + 3, body)?;
     printed_call(alloc, summed, 3, 100)
+}
+
+/// `printf("%d\n", *p);` where p is a pointer to a value of this width, and points there.
+pub fn printed_place(alloc: Global, width: Width, address: u32) -> Result<Ir, AllocError> {
+    let kind = match width {
+        Width::B1 => LoadKind::U8,
+        Width::B2 => LoadKind::U16,
+        Width::B4 => LoadKind::I32,
+    };
+    let body = [
+        copy(1, number(address)),
+        simple(Item::Expect(Check::Place(width, variable(1)))),
+        simple(Item::Load(2, kind, variable(1))),
+    ];
+    let mut body = Vec::from_array(alloc, body)?;
+    print_and_halt(&mut body, variable(2))?;
+    program(alloc, 3, body)
 }
 
 /// `putchar('a');` on line 2, `putchar('b');` twice on line 3, and behind them the end of main.

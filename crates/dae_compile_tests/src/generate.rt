@@ -6,7 +6,7 @@ ghost use Rattle.dae_image.specs.Contents.{is_name};
 ghost use Rattle.dae_core.specs.Held.{CanHold};
 
 use crate::forms;
-use dae_base::{Depths, Items, Side, Text};
+use dae_base::{Depths, Items, Side, Text, Width};
 use dae_image::{Image, LineMark};
 use dae_ir::{Ir, Pair, Stream};
 use dae_link::{CodeError, link};
@@ -254,6 +254,21 @@ fn copies(rt: HostRuntime) -> Result<(), Fail> {
 }
 
 #[test]
+fn sums_in_accesses(rt: HostRuntime) -> Result<(), Fail> {
+    let alloc = rt.alloc();
+    let sums = forms::accessed_sums(alloc)?;
+    let budget = [1, 1, 1, 1, 0, 0, 0];
+    check_ends(
+        &rt,
+        alloc,
+        sums,
+        &[2, 0, 0, 0],
+        budget,
+        (End::Ended(0), b"7\n"),
+    )
+}
+
+#[test]
 fn regions(rt: HostRuntime) -> Result<(), Fail> {
     let alloc = rt.alloc();
     let steps = forms::steps_to_one(alloc)?;
@@ -282,6 +297,27 @@ fn calls_up_to_the_limit(rt: HostRuntime) -> Result<(), Fail> {
     check_ends(&rt, alloc, within, &[], budget, (End::Ended(0), b"98\n"))?;
     let past = forms::counted_calls(alloc, 100, 99)?;
     check_ends(&rt, alloc, past, &[], budget, (End::Trapped(4), b""))
+}
+
+fn check_place(
+    rt: &impl Abort,
+    alloc: Global,
+    width: Width,
+    address: u32,
+    due: (End, &[u8]),
+) -> Result<(), Fail> {
+    let ir = forms::printed_place(alloc, width, address)?;
+    check_ends(rt, alloc, ir, &[], [1, 0, 0, 0, 1, 0, 0], due)
+}
+
+// A byte is outside of the memory or not; a word may also be misaligned.
+#[test]
+fn good_and_bad_places(rt: HostRuntime) -> Result<(), Fail> {
+    let alloc = rt.alloc();
+    check_place(&rt, alloc, Width::B1, 4095, (End::Ended(0), b"0\n"))?;
+    check_place(&rt, alloc, Width::B1, 4096, (End::Trapped(2), b""))?;
+    check_place(&rt, alloc, Width::B4, 4096, (End::Trapped(2), b""))?;
+    check_place(&rt, alloc, Width::B4, 4094, (End::Trapped(3), b""))
 }
 
 fn is_register(home: &Home) -> bool {
@@ -343,16 +379,16 @@ fn has_marks(alloc: Global, ir: &Ir, marks: &[LineMark]) -> Result<bool, Fail> {
     }
 }
 
-// A mark at the first word of the first action of each line. Before the actions of main there are eight words of A, and seven of
-// E; a byte is printed by three words.
+// A mark at the first word of the first action of each line. Before the actions of main there are five words of each side; a
+// byte is printed by three words.
 #[test]
 fn marks_of_lines(rt: HostRuntime) -> Result<(), Fail> {
     let alloc = rt.alloc();
     let marks = [
-        mark(Side::A, 8, 5),
-        mark(Side::E, 7, 2),
-        mark(Side::E, 10, 3),
-        mark(Side::E, 16, 5),
+        mark(Side::A, 5, 5),
+        mark(Side::E, 5, 2),
+        mark(Side::E, 8, 3),
+        mark(Side::E, 14, 5),
     ];
     let form = forms::letters_on_lines(alloc)?;
     assert!(rt; has_marks(alloc, &form, marks.as_slice())?);

@@ -14,22 +14,23 @@ use Rattle.dae_ir.specs.declared.form.Item.TheVariants.{Assign, Load, Store, Pri
 use Rattle.dae_ir.specs.declared.form.Test.{Test}
 use Rattle.dae_ir.specs.declared.stream.Branch.TheVariants.{Silent}
 use Rattle.dae_select_walks.specs.Facts.{Facts, bounds_in, is_good, facts_behind, facts_in_first, facts_in_second, facts_past_if, facts_at_turn, facts_at_step, facts_past_loop}
-use Rattle.dae_elide.specs.Elided.{as_action, as_actions, is_known, itself, elided_item, elided}
+use Rattle.dae_elide.specs.Elided.{as_action, as_actions, is_known, itself, elided_item, elided, kept_width}
 
--- each item stays, or it is a check of a place, of a variable other than 0, which is set to itself then
+-- each item stays, or it is a check of a place: of a variable other than 0, which is set to itself then, or of another width then
 pub data Elides : Form → Form → Type 0 where
   Ends : Elides Done Done
   Keeps : (place : Position) (item : Item) (k k' : Form) → Elides k k' → Elides (Do place item k) (Do place item k')
   Drops : (place : Position) (width : Width) (v : ℕ) (k k' : Form) → 0 < v → Elides k k' → Elides (Do place (Expect (Place width (Variable v))) k) (Do place (itself v) k')
+  Narrows : (place : Position) (width width' : Width) (v : ℕ) (k k' : Form) → Elides k k' → Elides (Do place (Expect (Place width (Variable v))) k) (Do place (Expect (Place width' (Variable v))) k')
   Tests : (place : Position) (t : Test) (a a' b b' k k' : Form) → Elides a a' → Elides b b' → Elides k k' → Elides (If place t a b k) (If place t a' b' k')
   Turns : (place : Position) (b b' s s' k k' : Form) → Elides b b' → Elides s s' → Elides k k' → Elides (Loop place b s k) (Loop place b' s' k')
 
 module _ (memory : ℕ) (chosen : VariableSet) where
   item_elides : (place : Position) (item : Item) (facts : Facts) (k k' : Form) → Elides k k' → Elides (Do place item k) (Do place (elided_item memory chosen facts item) k')
   item_elides place (Expect (Place width (Variable v))) facts k k' h = by (is_known memory chosen facts width v) refl where
-    by : (b : Bool) → is_known memory chosen facts width v ≡ b → Elides (Do place (Expect (Place width (Variable v))) k) (Do place (if b then itself v else Expect (Place width (Variable v))) k')
+    by : (b : Bool) → is_known memory chosen facts width v ≡ b → Elides (Do place (Expect (Place width (Variable v))) k) (Do place (if b then itself v else Expect (Place (kept_width memory facts width v) (Variable v))) k')
     by true is = Drops place width v k k' (ltb-true 0 v (and_parts (chosen v) (nat_lt 0 v) (and_parts (chosen v && nat_lt 0 v) (is_good memory width (bounds_in facts v)) is).0).1) h
-    by false is = Keeps place (Expect (Place width (Variable v))) k k' h
+    by false is = Narrows place width (kept_width memory facts width v) v k k' h
   item_elides place (Expect (Place width (Number n))) facts k k' h = Keeps place (Expect (Place width (Number n))) k k' h
   item_elides place (Expect (Zero x)) facts k k' h = Keeps place (Expect (Zero x)) k k' h
   item_elides place (Expect (Room g)) facts k k' h = Keeps place (Expect (Room g)) k k' h

@@ -19,7 +19,7 @@ use Rattle.dae_ir.specs.declared.form.Item.TheVariants.{Assign, Load, Store, Pri
 use Rattle.dae_ir.specs.declared.form.Test.{Test}
 use Rattle.dae_ir.proofs.Laws.{KeepsArguments}
 use Rattle.dae_elide.specs.Elided.{itself}
-use Rattle.dae_elide.proofs.Elides.{Elides, Ends, Keeps, Drops, Tests, Turns}
+use Rattle.dae_elide.proofs.Elides.{Elides, Ends, Keeps, Drops, Narrows, Tests, Turns}
 
 -- ---- names
 
@@ -44,6 +44,7 @@ module _ (fs gs : List Function) (keeps : KeepsArguments fs gs) (n : ℕ) where
   names_in c d Ends i = tt
   names_in c d (Keeps place item k k' h) i = (item_in item i.0, names_in k k' h i.1)
   names_in c d (Drops place width v k k' some h) i = (((some, i.0), i.0), names_in k k' h i.1)
+  names_in c d (Narrows place width width' v k k' h) i = (i.0, names_in k k' h i.1)
   names_in c d (Tests place t a a' b b' k k' f g h) i = (i.0, names_in a a' f i.1, names_in b b' g i.2, names_in k k' h i.3)
   names_in c d (Turns place b b' s s' k k' f g h) i = (names_in b b' f i.0, names_in s s' g i.1, names_in k k' h i.2)
 
@@ -53,6 +54,7 @@ pub stays_same : (c d : Form) (inside : Bool) → Elides c d → stays inside d 
 stays_same c d inside Ends = refl
 stays_same c d inside (Keeps place item k k' h) = ap (λ (b : Bool). (inside || not (is_jump item)) && b) (stays_same k k' inside h)
 stays_same c d inside (Drops place width v k k' some h) = ap (λ (b : Bool). (inside || true) && b) (stays_same k k' inside h)
+stays_same c d inside (Narrows place width width' v k k' h) = ap (λ (b : Bool). (inside || true) && b) (stays_same k k' inside h)
 stays_same c d inside (Tests place t a a' b b' k k' f g h) = rw (stays_same a a' inside f, stays_same b b' inside g, stays_same k k' inside h) refl
 stays_same c d inside (Turns place b b' s s' k k' f g h) = rw (stays_same b b' true f, stays_same s s' true g, stays_same k k' inside h) refl
 
@@ -60,6 +62,7 @@ pub closes_same : (c d : Form) → Elides c d → closes d ≡ closes c
 closes_same c d Ends = refl
 closes_same c d (Keeps place item k k' h) = ap (λ (b : Bool). is_end item || b) (closes_same k k' h)
 closes_same c d (Drops place width v k k' some h) = closes_same k k' h
+closes_same c d (Narrows place width width' v k k' h) = closes_same k k' h
 closes_same c d (Tests place t a a' b b' k k' f g h) = closes_same k k' h
 closes_same c d (Turns place b b' s s' k k' f g h) = closes_same k k' h
 
@@ -67,6 +70,7 @@ pub never_same : (c d : Form) → Elides c d → never_returns d ≡ never_retur
 never_same c d Ends = refl
 never_same c d (Keeps place item k k' h) = ap (λ (b : Bool). not (is_return item) && b) (never_same k k' h)
 never_same c d (Drops place width v k k' some h) = never_same k k' h
+never_same c d (Narrows place width width' v k k' h) = never_same k k' h
 never_same c d (Tests place t a a' b b' k k' f g h) = rw (never_same a a' f, never_same b b' g, never_same k k' h) refl
 never_same c d (Turns place b b' s s' k k' f g h) = rw (never_same b b' f, never_same s s' g, never_same k k' h) refl
 
@@ -92,6 +96,7 @@ first_kept c d set (Drops place width v k k' some h) r =
       (r.0, subst (λ (z : VariableSet). IsSetFirst form_flow z k') same rest.0),
       subst (λ (z : VariableSet). assured form_flow z k' ≡ assured form_flow set k) same rest.1,
     )
+first_kept c d set (Narrows place width width' v k k' h) r = let rest = first_kept k k' set h r.1 in ((r.0, rest.0), rest.1)
 first_kept c d set (Tests place t a a' b b' k k' f g h) r =
     let in_a = first_kept a a' set f r.1 in
     let in_b = first_kept b b' set g r.2 in
@@ -114,6 +119,7 @@ module _ (of : ℕ → VariableSet) (set : VariableSet) where
   addresses_kept c d Ends r = tt
   addresses_kept c d (Keeps place item k k' h) r = (r.0, addresses_kept k k' h r.1)
   addresses_kept c d (Drops place width v k k' some h) r = ((λ is. is), addresses_kept k k' h r.1)
+  addresses_kept c d (Narrows place width width' v k k' h) r = (r.0, addresses_kept k k' h r.1)
   addresses_kept c d (Tests place t a a' b b' k k' f g h) r = (tt, addresses_kept a a' f r.1, addresses_kept b b' g r.2, addresses_kept k k' h r.3)
   addresses_kept c d (Turns place b b' s s' k k' f g h) r = (addresses_kept b b' f r.0, addresses_kept s s' g r.1, addresses_kept k k' h r.2)
 
@@ -123,6 +129,9 @@ module _ (f : Item → ℕ) (t : Test → ℕ) (alike : (width : Width) (v : ℕ
   counts_same c d Ends = refl
   counts_same c d (Keeps place item k k' h) = ap (λ (n : ℕ). f item + n) (counts_same k k' h)
   counts_same c d (Drops place width v k k' some h) = rw (alike width v, counts_same k k' h) refl
+  counts_same c d (Narrows place width width' v k k' h) =
+      let same : f (Expect (Place width' (Variable v))) ≡ f (Expect (Place width (Variable v))) = sym (alike width' v) ∙ alike width v in
+      rw (same, counts_same k k' h) refl
   counts_same c d (Tests place test a a' b b' k k' i j h) = rw (counts_same a a' i, counts_same b b' j, counts_same k k' h) refl
   counts_same c d (Turns place b b' s s' k k' i j h) = rw (counts_same b b' i, counts_same s s' j, counts_same k k' h) refl
 
@@ -130,5 +139,6 @@ pub size_same : (c d : Form) → Elides c d → form_size d ≡ form_size c
 size_same c d Ends = refl
 size_same c d (Keeps place item k k' h) = ap (λ (n : ℕ). item_weight item + n) (size_same k k' h)
 size_same c d (Drops place width v k k' some h) = ap (λ (n : ℕ). 1 + n) (size_same k k' h)
+size_same c d (Narrows place width width' v k k' h) = ap (λ (n : ℕ). 1 + n) (size_same k k' h)
 size_same c d (Tests place test a a' b b' k k' i j h) = rw (size_same a a' i, size_same b b' j, size_same k k' h) refl
 size_same c d (Turns place b b' s s' k k' i j h) = rw (size_same b b' i, size_same s s' j, size_same k k' h) refl

@@ -1,10 +1,12 @@
 -- A form without the checks that are known to pass does just what the form does.
-use Rattle.std.proofs.Common.{◌≡◌, ℕ, zero, suc, ◌+◌, Bool, true, false, ◌&&◌, nat_eq, if◌then◌else◌, List, [], length, Option, Some, None, refl, ap, sym, ◌∙◌, subst}
+use Rattle.std.proofs.Common.{◌≡◌, ℕ, zero, suc, ◌+◌, ◌%◌, Bool, true, false, ◌&&◌, nat_eq, if◌then◌else◌, List, [], length, Option, Some, None, refl, ap, sym, ◌∙◌, subst, arith}
 use Rattle.std.specs.Prelude.{nat_lt}
-use Rattle.std.proofs.lemmas.Bool.{and_parts}
-use Rattle.dae_base.specs.Words.{width_of, loaded}
+use Rattle.std.proofs.lemmas.Bool.{and_parts, lt-ltb, ltb-true}
+use Rattle.std.proofs.lemmas.Bool.Decides.{nat_tests}
+use Rattle.dae_base.specs.Words.{size as bytes, width_of, loaded}
 use Rattle.dae_base.specs.declared.Width.{Width}
-use Rattle.dae_base.proofs.Laws.{stored_length}
+use Rattle.dae_base.specs.declared.Width.TheVariants.{B1, B2, B4}
+use Rattle.dae_base.proofs.Laws.{same_tests, stored_length}
 use Rattle.dae_meaning.specs.Worlds.{World, KeepsMemory, ticked, fetched, back}
 use Rattle.dae_meaning.specs.Results.{Result, At, Over, Next, Leaves, Skips, Returns, Run, ◌▷◌, ◌↻◌, turns, world_of, within, checked}
 use Rattle.dae_meaning.specs.Variables.{Env, VariableSet, put, entered}
@@ -20,10 +22,37 @@ use Rattle.dae_ir.specs.declared.form.Item.TheVariants.{Assign, Load, Store, Pri
 use Rattle.dae_ir.specs.declared.stream.Action.TheVariants.{Set, Probe}
 use Rattle.dae_ir.specs.declared.stream.Branch.TheVariants.{Silent}
 use Rattle.dae_ir.proofs.Laws.{memory_kept, same_room}
-use Rattle.dae_select_walks.specs.Facts.{Facts, Hold, any, unknown, bounds_in, is_good, with_bounds, facts_behind, facts_in_first, facts_in_second, facts_past_if, facts_at_turn, facts_at_step, facts_past_loop, Outs, outs, FactsGo, LeavesOnly}
+use Rattle.dae_select_walks.specs.Facts.{Facts, LiesIn, Hold, any, unknown, bounds_in, is_aligned, is_good, with_bounds, facts_behind, facts_in_first, facts_in_second, facts_past_if, facts_at_turn, facts_at_step, facts_past_loop, Outs, outs, FactsGo, LeavesOnly}
 use Rattle.dae_ir.specs.Deeds.{probed}
-use Rattle.dae_select_walks.proofs.LawsOfWalks.{operand_is, good_is, returned_facts, deed_facts, facts_go, branch_lies}
-use Rattle.dae_elide.specs.Elided.{as_actions, is_known, itself, elided}
+use Rattle.dae_select_walks.proofs.LawsOfWalks.{operand_is, aligned_is, good_is, returned_facts, deed_facts, facts_go, branch_lies}
+use Rattle.dae_elide.specs.Elided.{as_actions, is_known, kept_width, itself, elided}
+
+-- ---- the first byte of an access
+
+-- where the address is a multiple of the width, and memory ends at one, the access stands in memory where its first byte does
+first_byte : (width : Width) (n size : ℕ) → n % bytes width ≡ 0 → size % 4 ≡ 0 → misplaced B1 n size ≡ misplaced width n size
+unfolding misplaced
+first_byte B1 n size i j = refl
+first_byte B2 n size i j =
+    let a : nat_eq (n % 1) 0 ≡ true = grind (arith, nat_tests) in
+    let b : nat_eq (n % 2) 0 ≡ true = rw i refl in
+    let c : nat_lt size (n + 1) ≡ nat_lt size (n + 2) = same_tests (nat_lt size (n + 1)) (nat_lt size (n + 2)) (λ e. lt-ltb size (n + 2) (omega (arith, ltb-true size (n + 1) e))) (λ e. lt-ltb size (n + 1) (omega (arith, i, j, ltb-true size (n + 2) e))) in
+    rw (a, b, c) refl
+first_byte B4 n size i j =
+    let a : nat_eq (n % 1) 0 ≡ true = grind (arith, nat_tests) in
+    let b : nat_eq (n % 4) 0 ≡ true = rw i refl in
+    let c : nat_lt size (n + 1) ≡ nat_lt size (n + 4) = same_tests (nat_lt size (n + 1)) (nat_lt size (n + 4)) (λ e. lt-ltb size (n + 4) (omega (arith, ltb-true size (n + 1) e))) (λ e. lt-ltb size (n + 1) (omega (arith, i, j, ltb-true size (n + 4) e))) in
+    rw (a, b, c) refl
+
+-- what is left of a check fails as the check does
+narrow_is : (memory : ℕ) (facts : Facts) (width : Width) (v n size : ℕ) → LiesIn (bounds_in facts v) n → size ≡ memory → misplaced (kept_width memory facts width v) n size ≡ misplaced width n size
+narrow_is memory facts width v n size lies same = by (is_aligned width (bounds_in facts v) && nat_eq (memory % 4) 0) refl where
+  by : (c : Bool) → (is_aligned width (bounds_in facts v) && nat_eq (memory % 4) 0) ≡ c → misplaced (if c then B1 else width) n size ≡ misplaced width n size
+  by true is =
+      let both = and_parts (is_aligned width (bounds_in facts v)) (nat_eq (memory % 4) 0) is in
+      let whole : memory % 4 ≡ 0 = (let t = both.1 in grind (arith, nat_tests)) in
+      first_byte width n size (aligned_is width (bounds_in facts v) n lies both.0) (rw same whole)
+  by false is = refl
 
 module _ (p q : Program) (frames : (g : ℕ) → q.frame g ≡ p.frame g) (limits : q.limit ≡ p.limit) (memory : ℕ) (chosen : VariableSet) (counted : ℕ → Bool) (calls calls' : Calls)
     (enters : (g : ℕ) (xs : List ℕ) (w : World) → length w.memory ≡ memory → calls' g xs w ≡ calls g xs w)
@@ -88,6 +117,13 @@ module _ (p q : Program) (frames : (g : ℕ) → q.frame g ≡ p.frame g) (limit
       checked_ends (misplaced width (e v) (length w.memory)) (facts_behind memory (Probe (Good width (Variable v))) facts) o f g e w
       (λ none. subst (λ (c : Option ℕ). LeavesOnly (Hold (facts_behind memory (Probe (Good width (Variable v))) facts)) (probed true c e)) none (deed_facts p true (Probe (Good width (Variable v))) w e facts memory size h)) size k
 
+  -- of one of which the first byte may be left
+  narrow_ends : (width : Width) (v : ℕ) (facts : Facts) (o : Outs) (f g : Run Env) (e : Env) (w : World) → Hold facts e → length w.memory ≡ memory → Goes (facts_behind memory (Probe (Good width (Variable v))) facts) o f g
+      → Ends o (checked (misplaced width (e v) (length w.memory)) e (ticked w) ▷ f) (checked (misplaced (kept_width memory facts width v) (e v) (length w.memory)) e (ticked w) ▷ g)
+  narrow_ends width v facts o f g e w h size k =
+      subst (λ (c : Option ℕ). Ends o (checked (misplaced width (e v) (length w.memory)) e (ticked w) ▷ f) (checked c e (ticked w) ▷ g))
+      (sym (narrow_is memory facts width v (e v) (length w.memory) (operand_is facts e (Variable v) h) size)) (stays width v facts o f g e w h size k)
+
   -- and one that is known to pass
   leaves : (width : Width) (v : ℕ) (facts : Facts) (o : Outs) (f g : Run Env) (e : Env) (w : World) → is_good memory width (bounds_in facts v) ≡ true → Hold facts e → length w.memory ≡ memory
       → Goes (facts_behind memory (Probe (Good width (Variable v))) facts) o f g → Ends o (checked (misplaced width (e v) (length w.memory)) e (ticked w) ▷ f) (g (put true v (e v) e) (ticked w))
@@ -142,9 +178,9 @@ module _ (p q : Program) (frames : (g : ℕ) → q.frame g ≡ p.frame g) (limit
     known = facts_behind memory (Probe (Good width (Variable v))) facts
 
     by : Goes known o (old k) (new (elided memory chosen known k)) → (b : Bool) → is_known memory chosen facts width v ≡ b
-        → Ends o (old (Do place (Expect (Good width (Variable v))) k) e w) (new (Do place (if b then itself v else Expect (Good width (Variable v))) (elided memory chosen known k)) e w)
+        → Ends o (old (Do place (Expect (Good width (Variable v))) k) e w) (new (Do place (if b then itself v else Expect (Good (kept_width memory facts width v) (Variable v))) (elided memory chosen known k)) e w)
     by later true is = leaves width v facts o (old k) (new (elided memory chosen known k)) e w (and_parts (chosen v && nat_lt 0 v) (is_good memory width (bounds_in facts v)) is).1 h size later
-    by later false is = stays width v facts o (old k) (new (elided memory chosen known k)) e w h size later
+    by later false is = narrow_ends width v facts o (old k) (new (elided memory chosen known k)) e w h size later
   same_run (Do place (Expect (Good width (Number n))) k) facts o go e w h size =
       checked_ends (misplaced width n (length w.memory)) facts o (old k) (new (elided memory chosen facts k)) e w (λ none. h) size (same_run k facts o go)
   same_run (Do place (Expect (Zero x)) k) facts o go e w h size =

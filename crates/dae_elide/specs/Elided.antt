@@ -1,7 +1,9 @@
--- Checks of places that are known to pass leave a form: in place of each the variable is set to itself. So the form has as many
--- items as before, and each does as much.
-use Rattle.std.specs.Prelude.{ℕ, Bool, ◌&&◌, nat_lt, [], Some, if◌then◌else◌}
+-- Checks of places that are known to pass leave a form: in place of each the variable is set to itself. Of other checks whose
+-- address is known to be aligned the first byte is left, which can fail in one way alone. So the form has as many items as before,
+-- and each does as much.
+use Rattle.std.specs.Prelude.{ℕ, ◌%◌, Bool, ◌&&◌, nat_eq, nat_lt, [], Some, None, if◌then◌else◌}
 use Rattle.dae_base.specs.declared.Width.{Width}
+use Rattle.dae_base.specs.declared.Width.TheVariants.{B1}
 use Rattle.dae_ir.specs.Code.{Done, Do, If, Loop}
 use Rattle.dae_ir.specs.Classes.{VariableSet}
 use Rattle.dae_ir.specs.Form.{Form}
@@ -15,21 +17,21 @@ use Rattle.dae_ir.specs.declared.form.Item.TheVariants.{Assign, Load, Store, Pri
 use Rattle.dae_ir.specs.declared.stream.Action.{Action}
 use Rattle.dae_ir.specs.declared.stream.Action.TheVariants.{Set, Own, Probe, Hear, Break as Leave, Continue as Skip, Call as Enter, Return as Give}
 use Rattle.dae_ir.specs.declared.stream.Branch.TheVariants.{Silent}
-use Rattle.dae_select_walks.specs.Facts.{Facts, bounds_in, is_good, facts_behind, facts_in_first, facts_in_second, facts_past_if, facts_at_turn, facts_at_step, facts_past_loop}
+use Rattle.dae_select_walks.specs.Facts.{Facts, bounds_in, is_aligned, is_good, facts_behind, facts_in_first, facts_in_second, facts_past_if, facts_at_turn, facts_at_step, facts_past_loop}
 
 -- ---- what is known in a form is what is known in actions like its items
 
 abbrev pub as_action : Item → Action
 as_action (Assign v x) = Set v x
 as_action (Load v kind x) = Own v kind x
-as_action (Store width x y) = Hear
-as_action (Print spelling x) = Hear
+as_action (Store width x y) = Hear None
+as_action (Print spelling x) = Hear None
 as_action (Expect check) = Probe check
 as_action Break = Leave
 as_action Continue = Skip
 as_action (Call v f xs) = Enter (Some v) f []
 as_action (Return x) = Give (Some x)
-as_action (Halt x) = Hear
+as_action (Halt x) = Hear None
 
 abbrev pub as_actions : Form → Actions
 as_actions Done = Done
@@ -43,11 +45,16 @@ as_actions (Loop place body step k) = Loop (mark place 0) (as_actions body) (as_
 abbrev pub is_known : ℕ → VariableSet → Facts → Width → ℕ → Bool
 is_known memory chosen facts width v = (chosen v && nat_lt 0 v) && is_good memory width (bounds_in facts v)
 
+-- the width that is left of a check: memory ends at a multiple of each width, so that the access stands in it where its first
+-- byte does
+abbrev pub kept_width : ℕ → Facts → Width → ℕ → Width
+kept_width memory facts width v = if is_aligned width (bounds_in facts v) && nat_eq (memory % 4) 0 then B1 else width
+
 abbrev pub itself : ℕ → Item
 itself v = Assign v (Same (Variable v))
 
 abbrev pub elided_check : ℕ → VariableSet → Facts → Check → Item
-elided_check memory chosen facts (Place width (Variable v)) = if is_known memory chosen facts width v then itself v else Expect (Place width (Variable v))
+elided_check memory chosen facts (Place width (Variable v)) = if is_known memory chosen facts width v then itself v else Expect (Place (kept_width memory facts width v) (Variable v))
 elided_check memory chosen facts check = Expect check
 
 abbrev pub elided_item : ℕ → VariableSet → Facts → Item → Item

@@ -3,7 +3,7 @@
 ghost use Rattle.std.specs.Prelude.{◌≡◌, IfOk};
 ghost use Rattle.dae_ir.specs.Form.{form_of};
 ghost use Rattle.dae_select_facts.specs.Knowns.{facts_by};
-ghost use Rattle.dae_elide.specs.Elided.{elided, elided_check, elided_item, is_known};
+ghost use Rattle.dae_elide.specs.Elided.{elided, elided_check, elided_item, is_known, kept_width};
 ghost use Rattle.dae_elide.specs.Walked.{IsElided, chosen_by};
 
 use crate::likes::{action_like, steps_like};
@@ -11,7 +11,7 @@ use dae_base::{Items, Width};
 use dae_ir::{Branch, Check, Class, Item, Operand, Statement, Value};
 use dae_select_facts::{
     Known, bounds_in, facts_at_turn, facts_behind, facts_behind_turn, facts_in_list, facts_past_if,
-    facts_past_loop, is_good,
+    facts_past_loop, is_aligned, is_good,
 };
 use dae_select_walks::Edge;
 use std::alloc::{AllocError, Global};
@@ -36,6 +36,17 @@ fn is_known(memory: u32, classes: &[Class], known: &Known, width: Width, variabl
         && is_good(memory, width, bounds_in(known, variable))
 }
 
+/// The width that is left of a check: where the variable is known to hold multiples of the width, the first byte does.
+fn kept_width(memory: u32, known: &Known, width: Width, variable: u32) -> Width
+    ensures { result ≡ kept_width memory (facts_by known.now) width variable }
+{
+    if is_aligned(width, bounds_in(known, variable)) && memory % 4 == 0 {
+        Width::B1
+    } else {
+        width
+    }
+}
+
 fn elide_check(memory: u32, classes: &[Class], known: &Known, check: Check) -> Item
     ensures { result ≡ elided_check memory (chosen_by classes.now) (facts_by known.now) check }
 {
@@ -44,7 +55,8 @@ fn elide_check(memory: u32, classes: &[Class], known: &Known, check: Check) -> I
             if is_known(memory, classes, known, width, variable) {
                 Item::Assign(variable, Value::Same(Operand::Variable(variable)))
             } else {
-                Item::Expect(check)
+                let width = kept_width(memory, known, width, variable);
+                Item::Expect(Check::Place(width, Operand::Variable(variable)))
             }
         }
         Check::Place(_, Operand::Number(_)) => Item::Expect(check),

@@ -1,5 +1,6 @@
 // Checks of places that are known to pass leave a form: in place of each the variable is set to itself, which needs no code. So
-// fewer messages tell that checks have passed.
+// fewer messages tell that checks have passed. Of others whose address is known to be aligned the first byte is left, so that their
+// message is heard in one instruction.
 #![tactic(auto)]
 
 pub use theorems::{checks_are_elided, elision_keeps_sizes};

@@ -17,8 +17,8 @@ pub fn action_like(alloc: Global, item: &Item) -> Action
     match item {
         Item::Assign(variable, value) => Action::Set(*variable, *value),
         Item::Load(variable, kind, operand) => Action::Own(*variable, *kind, *operand),
-        Item::Store(_, _, _) => Action::Hear,
-        Item::Print(_, _) => Action::Hear,
+        Item::Store(_, _, _) => Action::Hear(None),
+        Item::Print(_, _) => Action::Hear(None),
         Item::Expect(check) => Action::Probe(*check),
         Item::Break => Action::Break,
         Item::Continue => Action::Continue,
@@ -26,7 +26,7 @@ pub fn action_like(alloc: Global, item: &Item) -> Action
             Action::Call(Some(*variable), *function, Items::new(alloc))
         }
         Item::Return(operand) => Action::Return(Some(*operand)),
-        Item::Halt(_) => Action::Hear,
+        Item::Halt(_) => Action::Hear(None),
     }
 }
 

@@ -10,6 +10,8 @@ use Rattle.dae_meaning.specs.Operations.{spelled}
 use Rattle.dae_meaning.specs.Variables.{Env, put}
 use Rattle.dae_ir.specs.Form.{Program, value, computed, fault}
 use Rattle.dae_ir.specs.declared.form.Operand.{Operand}
+use Rattle.dae_ir.specs.declared.stream.Failure.{Failure}
+use Rattle.dae_ir.specs.declared.stream.Failure.TheVariants.{OutOfBounds, OutOfRoom}
 use Rattle.dae_ir.specs.declared.stream.Action.{Action}
 use Rattle.dae_ir.specs.declared.stream.Action.TheVariants.{Set, Issue, Own, Receive, Address, Datum, Offer, Accept, Emit, Probe, Tell, Hear, Stop, Break, Continue, Call, Return}
 
@@ -50,6 +52,15 @@ abbrev pub probed : Bool → Option ℕ → Env → Deed
 probed by_a None env = Went env
 probed by_a (Some code) env = Push (told_on by_a) code (Halts (trapped by_a code))
 
+abbrev pub failure_code : Failure → ℕ
+failure_code OutOfBounds = 2
+failure_code OutOfRoom = 4
+
+-- the code of the trap for a word that is heard: where there is one way to fail alone, its code
+abbrev pub heard_code : Option Failure → ℕ → ℕ
+heard_code None word = word
+heard_code (Some failure) word = failure_code failure
+
 abbrev pub stopped : Option Operand → Env → Quit
 stopped None env = Plainly
 stopped (Some x) env = WithStatus (value x env)
@@ -67,7 +78,7 @@ deed p by_a (Accept v) w env = Take Cq (λ y. Went (put true v y env))
 deed p by_a (Emit spelling x) w env = Say (spelled spelling (value x env)) (Went env)
 deed p by_a (Probe check) w env = probed by_a (fault p check w env) env
 deed p by_a (Tell x) w env = Push (told_on by_a) (value x env) (Went env)
-deed p by_a Hear w env = Take (heard_on by_a) (λ y. if nat_eq y 0 then Went env else Halts (trapped by_a y))
+deed p by_a (Hear only) w env = Take (heard_on by_a) (λ y. if nat_eq y 0 then Went env else Halts (trapped by_a (heard_code only y)))
 deed p by_a (Stop x) w env = Halts (stopped x env)
 deed p by_a Break w env = Went env
 deed p by_a Continue w env = Went env

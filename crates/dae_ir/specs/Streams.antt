@@ -4,12 +4,17 @@
 -- one of A that holds a loop is followed by a message.
 use Rattle.std.specs.Prelude.{ℕ, ◌+◌, Bool, true, false, not, ◌&&◌, ◌||◌, Option, Some, None, List, [], ◌∷◌, if◌then◌else◌}
 use Rattle.dae_base.specs.declared.Place.{Place}
+use Rattle.dae_base.specs.declared.Width.TheVariants.{B1}
 use Rattle.dae_ir.specs.Code.{Code, Done, Do, If, Loop}
 use Rattle.dae_ir.specs.Form.{Form}
 use Rattle.dae_ir.specs.Classes.{VariableSet, Classes}
 use Rattle.dae_ir.specs.Rounds.{Jump, Breaks, Continues, Enters, Gives, Halts, Group, Alone, Region, Decision, Rounds, rounds}
 use Rattle.dae_ir.specs.declared.form.Operand.{Operand}
 use Rattle.dae_ir.specs.declared.form.Operand.TheVariants.{Number}
+use Rattle.dae_ir.specs.declared.form.Check.{Check}
+use Rattle.dae_ir.specs.declared.form.Check.TheVariants.{Place as Good, Room, Frame}
+use Rattle.dae_ir.specs.declared.stream.Failure.{Failure}
+use Rattle.dae_ir.specs.declared.stream.Failure.TheVariants.{OutOfBounds, OutOfRoom}
 use Rattle.dae_ir.specs.declared.stream.Part.{Part}
 use Rattle.dae_ir.specs.declared.stream.Part.TheVariants.{Sets, Loads, Tests}
 use Rattle.dae_ir.specs.declared.stream.Last.{Last}
@@ -55,12 +60,39 @@ abbrev pub parts : (Part → Actions → Actions) → List Part → Actions → 
 parts f [] k = k
 parts f (p ∷ g) k = f p (parts f g k)
 
+-- the check can fail in this way alone: one byte is never misaligned
+abbrev pub only_fails_by : Failure → Check → Bool
+only_fails_by OutOfBounds (Good B1 x) = true
+only_fails_by OutOfRoom (Room f) = true
+only_fails_by OutOfRoom Frame = true
+only_fails_by failure check = false
+
+abbrev pub part_fails_by : Failure → Part → Bool
+part_fails_by failure (Sets place v x) = true
+part_fails_by failure (Loads place v kind x) = true
+part_fails_by failure (Tests place check) = only_fails_by failure check
+
+-- each check of a group can
+abbrev pub all_fail_by : Failure → List Part → Bool
+all_fail_by failure [] = true
+all_fail_by failure (p ∷ g) = part_fails_by failure p && all_fail_by failure g
+
+-- how the checks of a group can fail, where that is in one way alone
+abbrev pub only_failure : List Part → Option Failure
+only_failure g =
+    if all_fail_by OutOfBounds g then Some OutOfBounds
+    else (if all_fail_by OutOfRoom g then Some OutOfRoom else None)
+
 -- the action, with the place of the first check, where the group has a check that A decides
 abbrev pub message : ℕ → Action → List Part → Actions → Actions
 message n x [] k = k
 message n x (Sets place v y ∷ g) k = message n x g k
 message n x (Loads place v kind y ∷ g) k = message n x g k
 message n x (Tests place check ∷ g) k = Do (mark place n) x k
+
+-- E takes the message of the group's checks
+abbrev pub hears_group : ℕ → List Part → Actions → Actions
+hears_group n g k = message n (Hear (only_failure g)) g k
 
 abbrev pub gives_address : ℕ → Last → Actions → Actions
 gives_address n Nothing k = k
@@ -72,7 +104,7 @@ abbrev pub hears_check : ℕ → Last → Actions → Actions
 hears_check n Nothing k = k
 hears_check n (Stores place width x y) k = k
 hears_check n (Prints place spelling x) k = k
-hears_check n (Decides place check) k = Do (mark place n) Hear k
+hears_check n (Decides place check) k = Do (mark place n) (Hear None) k
 
 abbrev pub e_last : ℕ → Last → Actions → Actions
 e_last n Nothing k = k
@@ -84,7 +116,7 @@ abbrev pub a_group : Classes → ℕ → List Part → Last → Actions → Acti
 a_group c n g last k = parts (a_part c n) g (gives_address n last (message n (Tell (Number 0)) g (hears_check n last k)))
 
 abbrev pub e_group : Classes → ℕ → List Part → Last → Actions → Actions
-e_group c n g last k = message n Hear g (parts (e_part c n) g (e_last n last k))
+e_group c n g last k = hears_group n g (parts (e_part c n) g (e_last n last k))
 
 abbrev pub group_of : Bool → Classes → ℕ → List Part → Last → Actions → Actions
 group_of by_a c n g last k = if by_a then a_group c n g last k else e_group c n g last k
@@ -144,7 +176,7 @@ has_loop (Loop place body step k) = true
 abbrev pub region_of : Bool → (ℕ → Classes) → Classes → ℕ → ℕ → Place → Bool → Form → Actions → Actions
 region_of true of c cap n place true code k =
     inside_of true of c n (rounds c cap false code []) (when (has_loop code) (mark place n) (Tell (Number 0)) k)
-region_of false of c cap n place true code k = when (has_loop code) (mark place n) Hear k
+region_of false of c cap n place true code k = when (has_loop code) (mark place n) (Hear None) k
 region_of true of c cap n place false code k = k
 region_of false of c cap n place false code k = inside_of false of c n (rounds c cap false code []) k
 

@@ -6,7 +6,7 @@
 
 pub use form::{Check, Function, Ir, Item, Operand, Statement, Test, Value};
 pub use stream::{
-    Action, Argument, Branch, Class, Last, Mark, Pair, Part, Step, Stream, StreamFunction,
+    Action, Argument, Branch, Class, Failure, Last, Mark, Pair, Part, Step, Stream, StreamFunction,
 };
 pub use theorems::{fewer_loads, going_takes_turns, memory_kept, more_turns};
 

@@ -12,6 +12,14 @@ pub struct Class {
     pub e: bool,
 }
 
+/// How a check fails: at an address that is outside of the memory (trap 2), or where a call or a frame has no room
+/// (trap 4).
+#[derive(Clone, Copy)]
+pub enum Failure {
+    OutOfBounds,
+    OutOfRoom,
+}
+
 /// What a group is made of: an assignment, a load, or a check that A decides.
 #[derive(Clone, Copy)]
 pub enum Part {
@@ -69,8 +77,9 @@ pub enum Action {
     Probe(Check),
     /// Both: pushes a message.
     Tell(Operand),
-    /// Both: takes a message, and for a code other than 0 halts, E with that trap.
-    Hear,
+    /// Both: takes a message, and for a code other than 0 halts, E with that trap. Where the checks of which it is told can
+    /// fail in one way alone, this says in which.
+    Hear(Option<Failure>),
     /// Both: halts, E with a status.
     Stop(Option<Operand>),
     /// Both: goes behind the loop.

@@ -132,7 +132,7 @@ module _ (c : Classes) (f : Action → Bool) (kind : Part → Bool) (others : (x
   hears_at n g Nothing k = refl
   hears_at n g (Stores place width x y) k = refl
   hears_at n g (Prints place spelling x) k = refl
-  hears_at n g (Decides place check) k = skip (mark place n) Hear k g refl
+  hears_at n g (Decides place check) k = skip (mark place n) (Hear None) k g refl
 
   group_at : (n g : ℕ) (ps : List Part) (last : Last) (k : Actions) → in_group f g (a_group c n ps last k) ≡ (if nat_eq n g then how_many kind ps else 0) + in_group f g k
   group_at n g ps last k =

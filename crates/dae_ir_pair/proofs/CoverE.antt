@@ -1,11 +1,11 @@
 -- Where each action of E's stream is within a budget, so is what E does in each round.
-use Rattle.std.proofs.Common.{◌≡◌, ℕ, ◌+◌, ◌≤◌, Bool, true, false, List, [], refl}
+use Rattle.std.proofs.Common.{◌≡◌, ℕ, ◌+◌, ◌≤◌, Bool, true, false, List, [], refl, None}
 use Rattle.dae_base.specs.declared.Depths.{Depths}
 use Rattle.dae_base.proofs.Laws.{no_true}
 use Rattle.dae_ir.specs.Code.{Done, Do, If, Loop, Each}
 use Rattle.dae_ir.specs.Classes.{Classes}
 use Rattle.dae_ir.specs.Rounds.{Group, Alone, Region, Rounds, rounds}
-use Rattle.dae_ir.specs.Streams.{Actions, mark, e_part, parts, e_last, e_group, side_of, has_loop, branch_of}
+use Rattle.dae_ir.specs.Streams.{Actions, mark, e_part, parts, e_last, e_group, side_of, has_loop, branch_of, only_failure}
 use Rattle.dae_ir.specs.Budgets.{is_datum, is_message, is_told}
 use Rattle.dae_ir_pair.specs.Budget.{is_store, is_decided, EWithin}
 use Rattle.dae_ir_pair.proofs.Tails.{IsTail, tail_each, tail_when, tail_message, tail_e_parts, tail_e_group, tail_inside}
@@ -38,7 +38,7 @@ module _ (c : Classes) (d : Depths) where
 
   group_within : (n : ℕ) (g : List Part) (last : Last) (k : Actions) → AllE d (e_group c n g last k) → EWithin d (Group g last)
   group_within n g last k h =
-      let l = tail (parts (e_part c n) g (e_last n last k)) _ (tail_message n Hear g (parts (e_part c n) g (e_last n last k))) h in
+      let l = tail (parts (e_part c n) g (e_last n last k)) _ (tail_message n (Hear (only_failure g)) g (parts (e_part c n) g (e_last n last k))) h in
       last_within n last k (tail (e_last n last k) _ (tail_e_parts c n g (e_last n last k)) l)
 
   told_within : (by : Bool) (t : Test) → (is_told (branch_of false (record { by_a = by; test = t })) ≡ true → 1 ≤ d.eb) → by ≡ false → 1 ≤ d.eb
@@ -53,7 +53,7 @@ module _ (c : Classes) (d : Depths) where
   side_within of cap (Do place (Alone jump) r) n k h = (tt, side_within of cap r n k h.1)
   side_within of cap (Do place (Region true code) r) n k h =
       let rest = side_of false of c cap n r k in
-      (tt, side_within of cap r n k (tail rest _ (tail_when (has_loop code) (mark place n) Hear rest) h))
+      (tt, side_within of cap r n k (tail rest _ (tail_when (has_loop code) (mark place n) (Hear None) rest) h))
   side_within of cap (Do place (Region false code) r) n k h =
       let rest = side_of false of c cap n r k in
       (tt, side_within of cap r n k (tail rest _ (tail_inside false of c n (rounds c cap false code []) rest) h))

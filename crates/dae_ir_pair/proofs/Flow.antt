@@ -1,9 +1,9 @@
 -- What a group reads was set before, on each side, where the form's statements set before they read.
-use Rattle.std.proofs.Common.{◌≡◌, ℕ, Bool, true, false, not, ◌&&◌, ◌||◌, nat_eq, List, [], ◌∷◌, ◌++◌, refl, arith}
+use Rattle.std.proofs.Common.{◌≡◌, ℕ, Bool, true, false, not, ◌&&◌, ◌||◌, nat_eq, List, [], ◌∷◌, ◌++◌, refl, arith, Option}
 use Rattle.std.proofs.lemmas.Bool.Decides.{nat_tests}
 use Rattle.dae_base.proofs.Laws.{and_true, same_number}
 use Rattle.dae_ir.specs.Classes.{VariableSet, Classes, has, has_value, has_test, has_check}
-use Rattle.dae_ir.specs.Streams.{Actions, mark, when, a_part, e_part, parts, message, gives_address, hears_check, e_last, group_of, set_of}
+use Rattle.dae_ir.specs.Streams.{Actions, mark, when, a_part, e_part, parts, message, gives_address, hears_check, e_last, group_of, set_of, only_failure}
 use Rattle.dae_ir.specs.SetFirst.{assured, IsSetFirst, with_set, stream_flow}
 use Rattle.dae_ir_pair.proofs.Groups.{PartKept, PartsKept}
 use Rattle.dae_ir.specs.declared.form.Operand.{Operand}
@@ -18,6 +18,7 @@ use Rattle.dae_ir.specs.declared.stream.Part.TheVariants.{Sets, Loads, Tests}
 use Rattle.dae_ir.specs.declared.stream.Last.{Last}
 use Rattle.dae_ir.specs.declared.stream.Last.TheVariants.{Nothing, Stores, Prints, Decides}
 use Rattle.dae_ir.specs.declared.stream.Action.TheVariants.{Set, Issue, Own, Receive, Offer, Accept, Tell, Hear}
+use Rattle.dae_ir.specs.declared.stream.Failure.{Failure}
 
 -- of what was set, a side has set what it needs
 abbrev pub Keeps : VariableSet → VariableSet → VariableSet → Type 0
@@ -152,11 +153,11 @@ module _ (c : Classes) (t : VariableSet) where
   tell_rest s d n (Loads place v kind x ∷ g) k r = tell_rest s d n g k r
   tell_rest s d n (Tests place check ∷ g) k r = λ d' keeps. let z = r d' keeps in ((refl, z.0), z.1)
 
-  hear_rest : (s d : VariableSet) (n : ℕ) (g : List Part) (k : Actions) → Rest s t d k → Rest s t d (message n Hear g k)
-  hear_rest s d n [] k r = r
-  hear_rest s d n (Sets place v x ∷ g) k r = hear_rest s d n g k r
-  hear_rest s d n (Loads place v kind x ∷ g) k r = hear_rest s d n g k r
-  hear_rest s d n (Tests place check ∷ g) k r = λ d' keeps. let z = r d' keeps in ((tt, z.0), z.1)
+  hear_rest : (only : Option Failure) (s d : VariableSet) (n : ℕ) (g : List Part) (k : Actions) → Rest s t d k → Rest s t d (message n (Hear only) g k)
+  hear_rest only s d n [] k r = r
+  hear_rest only s d n (Sets place v x ∷ g) k r = hear_rest only s d n g k r
+  hear_rest only s d n (Loads place v kind x ∷ g) k r = hear_rest only s d n g k r
+  hear_rest only s d n (Tests place check ∷ g) k r = λ d' keeps. let z = r d' keeps in ((tt, z.0), z.1)
 
 -- ---- what closes a group
 
@@ -201,5 +202,5 @@ module _ (c : Classes) (t : VariableSet) where
       (address_rest n last d1 m last_kept last_reads (tell_rest c t c.s d1 n g h (hears_rest n last d1 k r)))
   group_rest false n g last d k kept reads last_kept last_reads r =
       let l = e_last n last k in
-      hear_rest c t c.needs d n g (parts (e_part c n) g l)
+      hear_rest c t (only_failure g) c.needs d n g (parts (e_part c n) g l)
       (parts_rest c t c.needs (e_part c n) (e_part_rest c t n) g d l kept reads (e_last_rest n last (after_parts d g) k last_kept last_reads r))

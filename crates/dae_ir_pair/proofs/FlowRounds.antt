@@ -281,7 +281,7 @@ tell_rest : (s t d : VariableSet) (b : Bool) (m : Mark) (k : Actions) → Rest s
 tell_rest s t d true m k r d' keeps = let z = r d' keeps in ((refl, z.0), z.1)
 tell_rest s t d false m k r d' keeps = r d' keeps
 
-hear_rest : (s t d : VariableSet) (b : Bool) (m : Mark) (k : Actions) → Rest s t d k → Rest s t d (when b m Hear k)
+hear_rest : (s t d : VariableSet) (b : Bool) (m : Mark) (k : Actions) → Rest s t d k → Rest s t d (when b m (Hear None) k)
 hear_rest s t d true m k r d' keeps = let z = r d' keeps in ((tt, z.0), z.1)
 hear_rest s t d false m k r d' keeps = r d' keeps
 

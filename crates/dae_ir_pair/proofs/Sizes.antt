@@ -5,7 +5,7 @@ use Rattle.dae_ir.specs.Code.{Done, Do, If, Loop}
 use Rattle.dae_ir.specs.Form.{Form}
 use Rattle.dae_ir.specs.Classes.{VariableSet, Classes, has_check}
 use Rattle.dae_ir.specs.Rounds.{Jump, Breaks, Continues, Enters, Gives, Halts, Rounds, Group, Alone, Joins, Closes, Separates, stand, decision, closed, place_of, is_full, placed, region, one_sided, rounds}
-use Rattle.dae_ir.specs.Streams.{Actions, mark, when, a_part, e_part, parts, message, gives_address, hears_check, e_last, group_of, set_of, arguments_in, jump_action, inside_of, has_loop, region_of, side_of, stream_of}
+use Rattle.dae_ir.specs.Streams.{Actions, mark, when, a_part, e_part, parts, message, gives_address, hears_check, e_last, group_of, set_of, arguments_in, jump_action, inside_of, has_loop, region_of, side_of, stream_of, only_failure}
 use Rattle.dae_ir.specs.Sizes.{bit, form_size, actions_size}
 use Rattle.dae_ir_pair.specs.Budget.{is_test, any_part}
 use Rattle.dae_ir_pair.specs.Sizes.{StreamsAreSmall, calls_in, burden, WordsAreBounded}
@@ -124,7 +124,7 @@ module _ (extra : ℕ) where
   groups_are_small false c n g last k =
       let l = e_last n last k in
       let p = parts (e_part c n) g l in
-      omega (arith, message_size n Hear g p refl, parts_size (e_part c n) (e_part_size c n) g l, e_last_size n last k)
+      omega (arith, message_size n (Hear (only_failure g)) g p refl, parts_size (e_part c n) (e_part_size c n) g l, e_last_size n last k)
 
   -- ---- what stands between groups
 
@@ -218,7 +218,7 @@ module _ (extra : ℕ) where
     by true = omega (arith, h true (Do (mark place n) (Tell (Number 0)) k))
     by false = omega (arith, h true k)
   region_size false true of c cap n place code h some k = by (has_loop code) where
-    by : (b : Bool) → load (when b (mark place n) Hear k) ≤ cost code + load k
+    by : (b : Bool) → load (when b (mark place n) (Hear None) k) ≤ cost code + load k
     by true = omega (arith, some)
     by false = omega (arith)
   region_size true false of c cap n place code h some k = omega (arith)

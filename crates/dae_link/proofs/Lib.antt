@@ -10,5 +10,6 @@ mod Looked
 mod Settling
 mod Sizes
 mod Sided
+mod Ways
 mod Used
 mod Registers

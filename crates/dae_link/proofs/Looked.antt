@@ -1,5 +1,5 @@
 -- What is settled of the function of a number.
-use Rattle.std.proofs.Common.{◌≡◌, ℕ, zero, suc, ◌≤◌, ◌<◌, ◌^◌, Bool, true, false, List, [], ◌∷◌, length, refl, ap, sym, subst, arith}
+use Rattle.std.proofs.Common.{◌≡◌, ℕ, zero, suc, ◌≤◌, ◌<◌, ◌^◌, Bool, true, false, List, [], ◌∷◌, length, refl, ap, sym, subst, arith, ◌∙◌}
 use Rattle.std.specs.Prelude.{Option, Some, None, slice_get, nat_lt}
 use Rattle.std.specs.List.{AllByRecursion, AllZip}
 use Rattle.std.proofs.lemmas.Bool.Decides.{nat_tests}
@@ -12,10 +12,11 @@ use Rattle.dae_select_walks.specs.Homes.{IsHome, AreApart, frame_words, home_in,
 use Rattle.dae_select_walks.specs.Live.{live, lives, nowhere}
 use Rattle.dae_select_walks.specs.declared.Home.{Home}
 use Rattle.dae_select_walks.specs.declared.Home.TheVariants.{Register, Slot}
+use Rattle.dae_select_blocks.specs.Sizes.{calls_in}
 use Rattle.dae_select_blocks.specs.Wanted.{IsRight}
 use Rattle.dae_regalloc.specs.Seen.{AreBelow}
 use Rattle.dae_select_values.specs.Tables.{IsNear}
-use Rattle.dae_select_calls.specs.Layouts.{homes_at, variables_at, entry_at, frame_at}
+use Rattle.dae_select_calls.specs.Layouts.{homes_at, variables_at, entry_at, frame_at, leaf_at}
 use Rattle.dae_select_calls.specs.declared.layouts.FunctionLayout.{FunctionLayout}
 use Rattle.dae_link.specs.Settled.{IsLayoutOf, IsFrameWithin}
 use Rattle.dae_link.specs.Sides.{body_in, parameters_in, frame_in}
@@ -105,6 +106,16 @@ right_at numbers (Some f) None is = absurd is
 right_at numbers (Some f) (Some l) is =
     let few = is.few in
     among_right l.homes numbers l.variables (lives (actions_of f.body) nowhere) (omega arith) (rights (home_in l.homes) l.variables (lives (actions_of f.body) nowhere) is.homes.apart.1 is.inside.1)
+
+-- a leaf makes no call
+none_below_one : (n : ℕ) → nat_lt n 1 ≡ true → n ≡ 0
+none_below_one n e = (let low : n < 1 = grind (arith, nat_tests) in omega arith)
+
+pub calls_at : (f : Option StreamFunction) (l : Option FunctionLayout) → IsLayoutAt f l → leaf_at l ≡ true → calls_in (body_in f) ≡ 0
+calls_at None None is e = refl
+calls_at None (Some l) is e = absurd is
+calls_at (Some f) None is e = absurd is
+calls_at (Some f) (Some l) is e = none_below_one (calls_in (actions_of f.body)) (sym is.leaf ∙ e)
 
 pub reads_at : (f : Option StreamFunction) (l : Option FunctionLayout) → IsLayoutAt f l → (u : ℕ) → live (body_in f) nowhere u ≡ true → u < variables_at l
 reads_at None None is u h = absurd cc

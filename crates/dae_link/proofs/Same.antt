@@ -19,7 +19,7 @@ use Rattle.dae_select_blocks.specs.Blocks.{arguments_code, argument_code, save_c
 use Rattle.dae_select_blocks.specs.Sizes.{is_short}
 use Rattle.dae_select_walks.specs.declared.Standing.{Standing}
 use Rattle.dae_select_walks.specs.declared.Standing.TheVariants.{Settled, Early, Late}
-use Rattle.dae_select_blocks.specs.Code.{registers_in, standing_behind, needed_code, block_code, action_code, branch_code, does_nothing, past_code, call_code, back_branch, has_bottom, loop_code, bottom_code, code_of, function_code, entry_code}
+use Rattle.dae_select_blocks.specs.Code.{registers_in, standing_behind, is_dead, needed_code, block_code, action_code, branch_code, does_nothing, past_code, call_code, back_branch, has_bottom, loop_code, bottom_code, code_of, function_code, entry_code}
 
 -- lists with parts that are as long are as long
 pub both_long : (xs xs' ys ys' : List Inst) → length xs ≡ length xs' → length ys ≡ length ys' → length (xs ++ ys) ≡ length (xs' ++ ys')
@@ -33,6 +33,10 @@ back_long : (short : Bool) (m n : ℕ) → length (jump_back short m) ≡ length
 back_long true m n = refl
 back_long false m n = refl
 
+pub enter_same : (near : Bool) (v w : ℕ) → length (enter_code near v) ≡ length (enter_code near w)
+enter_same true v w = refl
+enter_same false v w = refl
+
 -- the plan with the functions at other words
 abbrev pub at_words : Plan → (ℕ → ℕ) → (ℕ → ℕ) → ℕ → Plan
 at_words p entry start finish = record {
@@ -43,6 +47,8 @@ at_words p entry start finish = record {
   start = start;
   words = p.words;
   frame = p.frame;
+  leaf = p.leaf;
+  near = p.near;
   finish = finish;
   largest = p.largest;
   private = p.private;
@@ -70,7 +76,7 @@ module _ (p : Plan) (entry start : ℕ → ℕ) (finish : ℕ) (variables : ℕ 
   call_long v g xs k =
       both_long (arguments_code q f g xs) (arguments_code p f g xs) _ _ (ap length (arguments_same g xs))
       (both_long (save_code (registers_in (p.home f) (variables f) k)) (save_code (registers_in (p.home f) (variables f) k)) _ _ refl
-      (both_long (deeper_code q f) (deeper_code p f) _ _ refl (both_long (enter_code (entry g)) (enter_code (p.entry g)) _ _ refl refl)))
+      (both_long (deeper_code q f) (deeper_code p f) _ _ refl (both_long (enter_code p.near (entry g)) (enter_code p.near (p.entry g)) _ _ (enter_same p.near (entry g) (p.entry g)) refl)))
 
   module _ (short : Bool) where
     -- nor on how far jumps lead
@@ -86,7 +92,7 @@ module _ (p : Plan) (entry start : ℕ → ℕ) (finish : ℕ) (variables : ℕ 
     action_long (Emit spelling x) k l s m t = refl
     action_long (Probe check) k l s m t = ap length (check_same check)
     action_long (Tell x) k l s m t = refl
-    action_long Hear k l s m t = refl
+    action_long (Hear only) k l s m t = refl
     action_long (Stop x) k l s m t = refl
     action_long Break k l s m t = over_long short l m
     action_long Continue k l s m t = over_long short s t
@@ -98,16 +104,16 @@ module _ (p : Plan) (entry start : ℕ → ℕ) (finish : ℕ) (variables : ℕ 
     settled_long Ends a k l s m t = refl
     settled_long All a k l s m t = action_long a k l s m t
 
+    either_long : (c : Bool) (xs xs' ys ys' : List Inst) → length xs ≡ length xs' → length ys ≡ length ys' → length (if c then xs else ys) ≡ length (if c then xs' else ys')
+    either_long true xs xs' ys ys' h k = h
+    either_long false xs xs' ys ys' h k = k
+
     block_long : (need : Need) (g : Standing) (a : Action) (g' : Standing) (k : VariableSet) (l s m t : ℕ) → length (block_code q variables f need g a g' k (jump_over short l) (jump_over short s)) ≡ length (block_code p variables f need g a g' k (jump_over short m) (jump_over short t))
-    block_long need Settled a Settled k l s m t = settled_long need a k l s m t
+    block_long need Settled a Settled k l s m t = either_long (is_dead a k) [] [] _ _ refl (settled_long need a k l s m t)
     block_long need Settled a (Early v x) k l s m t = refl
     block_long need Settled a (Late v x) k l s m t = refl
     block_long need (Early v x) a g' k l s m t = refl
     block_long need (Late v x) a g' k l s m t = refl
-
-    either_long : (c : Bool) (xs xs' ys ys' : List Inst) → length xs ≡ length xs' → length ys ≡ length ys' → length (if c then xs else ys) ≡ length (if c then xs' else ys')
-    either_long true xs xs' ys ys' h k = h
-    either_long false xs xs' ys ys' h k = k
 
     -- however far what leaves it leads
     abbrev AreLong : (ℕ → ℕ → List Inst) → (ℕ → ℕ → List Inst) → Type 0
@@ -180,4 +186,4 @@ module _ (p : Plan) (entry start : ℕ → ℕ) (finish : ℕ) (variables : ℕ 
         (code_long Settled (facts_at_turn p.memory (If mark' b y n u) step known) (If mark' b y n u) ways') (code_long Settled (facts_at_step p.memory (If mark' b y n u) step known) step ways'' (jump_words short) 0 (jump_words short) 0) more)
 
   pub function_long : (code : Actions) → length (function_code q variables f code) ≡ length (function_code p variables f code)
-  function_long code = both_long (entry_code p variables f (live code nowhere)) (entry_code p variables f (live code nowhere)) _ _ refl (both_long _ _ _ _ (code_long (is_short code) Settled unknown code nowhere 0 0 0 0) refl)
+  function_long code = both_long (entry_code p variables f (live code nowhere)) (entry_code p variables f (live code nowhere)) _ _ refl (code_long (is_short code) Settled unknown code nowhere 0 0 0 0)

@@ -1,19 +1,17 @@
 -- The code of a stream is a side of an image.
-use Rattle.std.proofs.Common.{◌≡◌, ℕ, ◌+◌, ◌-◌, ◌*◌, ◌≤◌, ◌<◌, ◌^◌, List, ◌∷◌, ◌++◌, length, map, refl, ap, sym, ◌∙◌, subst, arith, append_assoc, length-append, []}
+use Rattle.std.proofs.Common.{◌≡◌, ℕ, ◌+◌, ◌-◌, ◌*◌, ◌≤◌, ◌<◌, ◌^◌, List, ◌∷◌, ◌++◌, length, map, refl, ap, sym, ◌∙◌, subst, arith, append_assoc, length-append, [], Bool}
 use Rattle.std.proofs.lemmas.List.{length-map, map-append}
-use Rattle.std.specs.Prelude.{Some, slice_get, if◌then◌else◌, pos}
+use Rattle.std.specs.Prelude.{slice_get, if◌then◌else◌}
 use Rattle.std.specs.List.{AllByRecursion}
 use Rattle.std.proofs.Math.Path.{fun_ext}
 use Rattle.dae_base.specs.declared.Side.{Side}
 use Rattle.dae_base.specs.declared.Side.TheVariants.{A, E}
 use Rattle.dae_encode.specs.declared.Inst.{Inst}
-use Rattle.dae_encode.specs.declared.Inst.TheVariants.{Addi}
 use Rattle.dae_encode.specs.Spelling.{InRange, encoded}
 use Rattle.dae_machine.specs.Machine.{Setup, code}
 use Rattle.dae_ir.specs.Form.{Program}
 use Rattle.dae_ir.specs.Programs.{side}
 use Rattle.dae_ir.specs.Streams.{Actions, actions_of}
-use Rattle.dae_ir.specs.declared.form.Operand.TheVariants.{Number}
 use Rattle.dae_ir.specs.declared.stream.Stream.{Stream}
 use Rattle.dae_ir.specs.declared.stream.StreamFunction.{StreamFunction}
 use Rattle.dae_select_walks.specs.Homes.{IsHome, frame_words, home_among}
@@ -23,7 +21,7 @@ use Rattle.dae_select_walks.specs.Facts.{unknown}
 use Rattle.dae_select_walks.specs.Agrees.{Plan}
 use Rattle.dae_select_walks.proofs.LawsOfWalks.{number_home}
 use Rattle.dae_select_walks.specs.declared.Home.{Home}
-use Rattle.dae_select_blocks.specs.Blocks.{leave_code, number_code, residents_code, enter_code}
+use Rattle.dae_select_blocks.specs.Blocks.{number_code, residents_code, enter_code}
 use Rattle.dae_select_walks.specs.declared.Standing.TheVariants.{Settled}
 use Rattle.dae_select_blocks.specs.Code.{entry_code, code_of, function_code, start_code, finish_code}
 use Rattle.dae_select_blocks.specs.Sizes.{is_short}
@@ -33,19 +31,19 @@ use Rattle.dae_select_blocks.specs.Laws.{opened_with}
 use Rattle.dae_select_blocks.proofs.LawsOfBlocks.{words_are_code, fit_append, function_fits, start_fits, finish_fits, code_take, code_drop, opening_short}
 use Rattle.dae_select_values.specs.Tables.{IsNear}
 use Rattle.dae_select_values.specs.Sides.{is_a}
-use Rattle.dae_select_calls.specs.Layouts.{homes_at, variables_at, entry_at, start_at, frame_at, plan_of, variables_of, AreSmall}
+use Rattle.dae_select_calls.specs.Layouts.{homes_at, variables_at, entry_at, start_at, frame_at, leaf_at, plan_of, variables_of, AreSmall}
 use Rattle.dae_select_calls.specs.declared.layouts.FunctionLayout.{FunctionLayout}
 use Rattle.dae_select_calls.specs.declared.layouts.Layouts.{Layouts}
 use Rattle.dae_link_faithful.specs.Made.{IsSide, HasCode, HasStart, setting_of}
 use Rattle.dae_link.specs.Settled.{AreUnplaced}
 use Rattle.dae_link.specs.Placed.{functions_code, opening_code, whole_code, placed}
-use Rattle.dae_link.specs.Sides.{HasLimits, IsCodeOf, body_in, parameters_in, frame_in, at_places, code_at, end_of}
+use Rattle.dae_link.specs.Sides.{HasLimits, IsCodeOf, IsReached, body_in, parameters_in, frame_in, at_places, code_at, end_of}
 use Rattle.dae_link.specs.Sizes.{most_words}
-use Rattle.dae_link.proofs.Same.{both_long, at_words, function_long}
+use Rattle.dae_link.proofs.Same.{both_long, enter_same, at_words, function_long}
 use Rattle.dae_link.proofs.Standing.{placed_long, placed_same, start_behind, functions_long, ends_within, entries_within, stands_there}
 use Rattle.dae_link.proofs.Sizes.{functions_length}
 use Rattle.dae_link.proofs.Residing.{residents_few, residents_within, residents_apart, among_is_home}
-use Rattle.dae_link.proofs.Looked.{zip_long, layout_at, IsLayoutAt, each_home, is_near, is_few, is_first, same_frame, frame_within, right_at, reads_at, apart_at}
+use Rattle.dae_link.proofs.Looked.{zip_long, layout_at, IsLayoutAt, each_home, is_near, is_few, is_first, same_frame, frame_within, right_at, reads_at, apart_at, calls_at}
 
 pub same_side : (s : Side) → side (is_a s) ≡ s
 same_side A = refl
@@ -107,8 +105,8 @@ module _ (stream : Stream) (old : Layouts) (unplaced : AreUnplaced stream old) w
   abbrev Q : Plan
   Q = at_words P (λ g. entry_at (slice_get news g)) (λ g. start_at (slice_get news g)) (length (start_code P stream.main stream.frames))
 
-  abbrev with_parts : ℕ → (ℕ → ℕ → Home) → (ℕ → ℕ) → (ℕ → ℕ) → Plan
-  with_parts n home words frame = record {
+  abbrev with_parts : ℕ → (ℕ → ℕ → Home) → (ℕ → ℕ) → (ℕ → ℕ) → (ℕ → Bool) → Plan
+  with_parts n home words frame leaf = record {
     by_a = P.by_a;
     functions = n;
     home = home;
@@ -116,6 +114,8 @@ module _ (stream : Stream) (old : Layouts) (unplaced : AreUnplaced stream old) w
     start = Q.start;
     words = words;
     frame = frame;
+    leaf = leaf;
+    near = P.near;
     finish = Q.finish;
     largest = P.largest;
     private = P.private;
@@ -131,8 +131,10 @@ module _ (stream : Stream) (old : Layouts) (unplaced : AreUnplaced stream old) w
       let home : new.home ≡ P.home = fun_ext (λ g. ap (λ (hs : List Home). home_among hs old.residents) (placed_same P variables homes_at (λ l entry start. refl) fs old.functions first 0 g long)) in
       let words : new.words ≡ P.words = fun_ext (λ g. ap frame_words (placed_same P variables variables_at (λ l entry start. refl) fs old.functions first 0 g long)) in
       let frame : new.frame ≡ P.frame = fun_ext (λ g. placed_same P variables frame_at (λ l entry start. refl) fs old.functions first 0 g long) in
-      ap (λ (k : ℕ). with_parts k new.home new.words new.frame) n ∙ ap (λ (h : ℕ → ℕ → Home). with_parts P.functions h new.words new.frame) home
-      ∙ ap (λ (w : ℕ → ℕ). with_parts P.functions P.home w new.frame) words ∙ ap (λ (r : ℕ → ℕ). with_parts P.functions P.home P.words r) frame
+      let leaf : new.leaf ≡ P.leaf = fun_ext (λ g. placed_same P variables leaf_at (λ l entry start. refl) fs old.functions first 0 g long) in
+      ap (λ (k : ℕ). with_parts k new.home new.words new.frame new.leaf) n ∙ ap (λ (h : ℕ → ℕ → Home). with_parts P.functions h new.words new.frame new.leaf) home
+      ∙ ap (λ (w : ℕ → ℕ). with_parts P.functions P.home w new.frame new.leaf) words ∙ ap (λ (r : ℕ → ℕ). with_parts P.functions P.home P.words r new.leaf) frame
+      ∙ ap (λ (b : ℕ → Bool). with_parts P.functions P.home P.words P.frame b) leaf
 
   pub variables_are : variables_of (at_places stream old) ≡ variables
   variables_are = fun_ext (λ g. placed_same P variables variables_at (λ l entry start. refl) fs old.functions first 0 g long)
@@ -142,8 +144,8 @@ module _ (stream : Stream) (old : Layouts) (unplaced : AreUnplaced stream old) w
 
   start_same : length (start_code Q stream.main stream.frames) ≡ length (start_code P stream.main stream.frames)
   start_same =
-      let begins : List Inst = number_code 3 stream.frames ++ (residents_code 27 old.residents ++ (if P.by_a then number_code 4 (P.memory - 16) ++ Addi 10 0 (pos 1) ∷ [] else [])) in
-      both_long begins begins (enter_code (Q.entry stream.main)) (enter_code (P.entry stream.main)) refl refl
+      let begins : List Inst = number_code 3 stream.frames ++ (residents_code 27 old.residents ++ (if P.by_a then number_code 4 (P.memory - 16) else [])) in
+      both_long begins begins (enter_code P.near (Q.entry stream.main)) (enter_code P.near (P.entry stream.main)) refl (enter_same P.near (Q.entry stream.main) (P.entry stream.main))
 
   opening_same : length (opening_code Q stream.main stream.frames) ≡ first
   opening_same = both_long (start_code Q stream.main stream.frames) (start_code P stream.main stream.frames) (finish_code P.by_a) (finish_code P.by_a) start_same refl
@@ -199,7 +201,7 @@ module _ (stream : Stream) (old : Layouts) (unplaced : AreUnplaced stream old) w
         low : (f : ℕ) → Q.entry f < 2 ^ 30
         low f = let l = entry_low f in omega arith
 
-    module _ (limits : HasLimits stream) (p : Program) (setup : Setup) (is_limit : p.limit ≡ stream.calls) (is_frame : (f : ℕ) → p.frame f ≡ frame_in (slice_get fs f)) (is_code : code setup (side Q.by_a) ≡ map encoded (whole_code Q variables stream.main stream.frames fs)) (is_memory : setup.memory ≡ stream.memory) where
+    module _ (limits : HasLimits stream) (reached : IsReached stream old) (p : Program) (setup : Setup) (is_limit : p.limit ≡ stream.calls) (is_frame : (f : ℕ) → p.frame f ≡ frame_in (slice_get fs f)) (is_code : code setup (side Q.by_a) ≡ map encoded (whole_code Q variables stream.main stream.frames fs)) (is_memory : setup.memory ≡ stream.memory) where
       abbrev body : ℕ → Actions
       body f = body_in (slice_get fs f)
 
@@ -245,7 +247,7 @@ module _ (stream : Stream) (old : Layouts) (unplaced : AreUnplaced stream old) w
       starts g lt = start_behind P variables fs old.functions first 0 g g long lt (omega arith)
 
       abbrev own_code : ℕ → List Inst
-      own_code g = code_of (is_short (body g)) Q variables g Settled unknown (body g) nowhere 0 0 ++ leave_code (Q.home g) (Some (Number 0))
+      own_code g = code_of (is_short (body g)) Q variables g Settled unknown (body g) nowhere 0 0
 
       end_low : (g : ℕ) → g < length fs → Q.start g + length (own_code g) ≤ 2 ^ 25
       end_low g lt =
@@ -276,6 +278,7 @@ module _ (stream : Stream) (old : Layouts) (unplaced : AreUnplaced stream old) w
         entry = (λ g lt. code_take words (Q.entry g) (entry_code Q variables g (live (body g) nowhere)) (own_code g) (there g (subst (λ (n : ℕ). g < n) long lt)));
         start = (λ g lt. starts g (subst (λ (n : ℕ). g < n) long lt));
         near = (λ g lt. let e = end_low g (subst (λ (n : ℕ). g < n) long lt) in omega arith);
+        close = (λ g lt is. let e = entries_within P variables fs old.functions first 0 g in let r = reached is in omega (arith, e, r));
         reads = (λ g u h. reads_at (slice_get fs g) (slice_get old.functions g) (at g) u h);
         finish = finish_there;
         low = (let s = opening_short P stream.main stream.frames in let b = unplaced.residents.brief in omega arith);
@@ -286,6 +289,7 @@ module _ (stream : Stream) (old : Layouts) (unplaced : AreUnplaced stream old) w
           let inside : f < length fs = subst (λ (n : ℕ). f < n) long lt in
           record {
             right = right_at old.residents (slice_get fs f) (slice_get old.functions f) (at f);
+            leaf = calls_at (slice_get fs f) (slice_get old.functions f) (at f);
             there = subst (λ (n : ℕ). CodeAt words n (own_code f)) (sym (starts f inside)) (code_drop words (Q.entry f) (entry_code Q variables f (live (body f) nowhere)) (own_code f) (there f inside));
             small = (let e = end_low f inside in omega arith);
           }
@@ -315,11 +319,11 @@ module _ (stream : Stream) (old : Layouts) (unplaced : AreUnplaced stream old) w
       }
 
     -- whatever program has the stream
-    pub code_made : HasLimits stream → IsCodeOf stream (map encoded (code_at stream old)) old.private
-    code_made limits p body parameters setup has is_code is_memory =
+    pub code_made : HasLimits stream → IsReached stream old → IsCodeOf stream (map encoded (code_at stream old)) old.private
+    code_made limits reached p body parameters setup has is_code is_memory =
         let bodies : (λ (f : ℕ). body_in (slice_get fs f)) ≡ body = fun_ext (λ f. sym (has.bodies f)) in
         let counts : (λ (f : ℕ). parameters_in (slice_get fs f)) ≡ parameters = fun_ext (λ f. sym (has.counts f)) in
         let same_words : code setup (side Q.by_a) ≡ map encoded (whole_code Q variables stream.main stream.frames fs) = ap (code setup) (ap (λ (s : Side). side (is_a s)) unplaced.side ∙ same_side stream.side) ∙ is_code ∙ ap (map encoded) code_is in
         subst (λ (b : ℕ → Actions). IsSide (is_a stream.side) p b parameters (length fs) stream.main stream.frames setup (opened_with old.private)) bodies
         (subst (λ (n : ℕ → ℕ). IsSide (is_a stream.side) p (λ f. body_in (slice_get fs f)) n (length fs) stream.main stream.frames setup (opened_with old.private)) counts
-        (is_side limits p setup has.limit has.frame same_words is_memory))
+        (is_side limits reached p setup has.limit has.frame same_words is_memory))

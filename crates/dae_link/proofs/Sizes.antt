@@ -1,12 +1,10 @@
 -- How long code is at most.
-use Rattle.std.proofs.Common.{◌≡◌, ℕ, ◌+◌, ◌*◌, ◌^◌, ◌≤◌, ◌<◌, Bool, true, false, List, [], ◌∷◌, ◌++◌, length, length-append, refl, arith}
+use Rattle.std.proofs.Common.{◌≡◌, ℕ, ◌+◌, ◌*◌, ◌^◌, ◌≤◌, ◌<◌, Bool, true, false, List, [], ◌∷◌, length, length-append, refl, arith}
 use Rattle.std.specs.List.{list_all}
-use Rattle.std.specs.Prelude.{Some}
 use Rattle.std.proofs.lemmas.Bool.Decides.{nat_tests}
 use Rattle.dae_ir.specs.Code.{Done, Do, If, Loop}
 use Rattle.dae_ir.specs.Sizes.{action_weight, actions_size}
 use Rattle.dae_ir.specs.Streams.{Actions, actions_of}
-use Rattle.dae_ir.specs.declared.form.Operand.TheVariants.{Number}
 use Rattle.dae_ir.specs.declared.stream.Action.{Action}
 use Rattle.dae_ir.specs.declared.stream.Action.TheVariants.{Call}
 use Rattle.dae_ir.specs.declared.stream.Stream.{Stream}
@@ -15,11 +13,11 @@ use Rattle.dae_regalloc.specs.Seen.{count_places}
 use Rattle.dae_select_walks.specs.Facts.{unknown}
 use Rattle.dae_select_walks.specs.Live.{live, nowhere}
 use Rattle.dae_select_walks.specs.Agrees.{Plan}
-use Rattle.dae_select_blocks.specs.Blocks.{leave_code, residents_code}
+use Rattle.dae_select_blocks.specs.Blocks.{residents_code}
 use Rattle.dae_select_walks.specs.declared.Standing.TheVariants.{Settled}
 use Rattle.dae_select_blocks.specs.Code.{code_of, function_code, entry_code, start_code, finish_code}
 use Rattle.dae_select_blocks.specs.Sizes.{most_words_in, is_short}
-use Rattle.dae_select_blocks.proofs.LawsOfBlocks.{append_short, code_length, entry_short, leaves_zero, opening_short}
+use Rattle.dae_select_blocks.proofs.LawsOfBlocks.{append_short, code_length, entry_short, opening_short}
 use Rattle.dae_link.specs.Placed.{functions_code, opening_code}
 use Rattle.dae_link.specs.Settled.{is_numberable}
 use Rattle.dae_link.specs.Sizes.{most_of_functions, most_words}
@@ -34,9 +32,9 @@ start_low plan main frames brief = let s = opening_low plan main frames brief in
 module _ (plan : Plan) (variables : ℕ → ℕ) (f : ℕ) where
   function_length : (code : Actions) → length (function_code plan variables f code) ≤ most_words_in code + 22
   function_length code =
-      let h : length (function_code plan variables f code) ≤ 19 + (most_words_in code + 3)
-      = append_short (entry_code plan variables f (live code nowhere)) (code_of (is_short code) plan variables f Settled unknown code nowhere 0 0 ++ leave_code (plan.home f) (Some (Number 0))) 19 (most_words_in code + 3) (entry_short plan variables f (live code nowhere))
-      (append_short (code_of (is_short code) plan variables f Settled unknown code nowhere 0 0) (leave_code (plan.home f) (Some (Number 0))) (most_words_in code) 3 (code_length (is_short code) plan variables f Settled unknown code nowhere 0 0) (leaves_zero (plan.home f))) in omega arith
+      let h : length (function_code plan variables f code) ≤ 20 + most_words_in code
+      = append_short (entry_code plan variables f (live code nowhere)) (code_of (is_short code) plan variables f Settled unknown code nowhere 0 0) 20 (most_words_in code) (entry_short plan variables f (live code nowhere))
+      (code_length (is_short code) plan variables f Settled unknown code nowhere 0 0) in omega arith
 
 -- with three words less a function
 pub functions_length : (plan : Plan) (variables : ℕ → ℕ) (fs : List StreamFunction) (k : ℕ) → length (functions_code plan variables k fs) + 3 * length fs ≤ most_of_functions fs

@@ -6,6 +6,7 @@ use Rattle.dae_ir.specs.declared.stream.Stream.{Stream}
 use Rattle.dae_ir.specs.declared.stream.StreamFunction.{StreamFunction}
 use Rattle.dae_select_walks.specs.Homes.{AreHomes, frame_words, home_in}
 use Rattle.dae_select_walks.specs.Live.{function_lives}
+use Rattle.dae_select_blocks.specs.Sizes.{is_leaf}
 use Rattle.dae_regalloc.specs.Given.{AreFew, IsRegister}
 use Rattle.dae_regalloc.specs.Seen.{AreBelow, can_number}
 use Rattle.dae_select_calls.specs.declared.layouts.FunctionLayout.{FunctionLayout}
@@ -21,8 +22,8 @@ abbrev pub KeepsInRegisters : StreamFunction → FunctionLayout → Type 0
 KeepsInRegisters f l =
     AreFew 18 (function_lives f.parameters (actions_of f.body)) → (v : ℕ) → IsRegister (home_in l.homes v)
 
--- the homes are right, a variable that is live anywhere has one of them, and each has a register where these are enough. The
--- function is at word 0
+-- the homes are right, a variable that is live anywhere has one of them, and each has a register where these are enough. It is
+-- said whether the function is a leaf. The function is at word 0
 pub record IsLayoutOf (f : StreamFunction) (l : FunctionLayout) : Type 0 where
   pub count : l.variables ≡ length l.homes
   pub few : l.variables < 2 ^ 26 - 19
@@ -31,6 +32,7 @@ pub record IsLayoutOf (f : StreamFunction) (l : FunctionLayout) : Type 0 where
   pub least : (n : ℕ) → AllByRecursion (AreBelow n) (function_lives f.parameters (actions_of f.body)) → l.variables ≤ n
   pub registers : KeepsInRegisters f l
   pub frame : l.frame ≡ f.frame
+  pub leaf : l.leaf ≡ is_leaf (actions_of f.body)
   pub entry : l.entry ≡ 0
 
 abbrev pub IsFrameWithin : ℕ → FunctionLayout → Type 0

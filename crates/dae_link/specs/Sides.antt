@@ -1,5 +1,5 @@
 -- What the code of a stream is.
-use Rattle.std.specs.Prelude.{◌≡◌, ◌↔◌, ℕ, ◌+◌, ◌^◌, ◌≤◌, length, slice_get, map, Option, Some, None, List}
+use Rattle.std.specs.Prelude.{◌≡◌, ◌↔◌, ℕ, ◌+◌, ◌^◌, ◌≤◌, ◌<◌, true, length, slice_get, map, Option, Some, None, List}
 use Rattle.std.specs.List.{AllZip}
 use Rattle.dae_base.specs.declared.Queue.{Queue}
 use Rattle.dae_encode.specs.declared.Inst.{Inst}
@@ -13,6 +13,7 @@ use Rattle.dae_ir.specs.declared.stream.StreamFunction.{StreamFunction}
 use Rattle.dae_select_blocks.specs.Code.{start_code}
 use Rattle.dae_select_blocks.specs.Laws.{opened_with}
 use Rattle.dae_link_faithful.specs.Uses.{IsUnused, AllOfSide, AllUntouched}
+use Rattle.dae_select_values.specs.Jumps.{is_jalr}
 use Rattle.dae_select_values.specs.Sides.{is_a}
 use Rattle.dae_select_calls.specs.Layouts.{plan_of, variables_of}
 use Rattle.dae_select.specs.declared.growing.PlacedWord.{PlacedWord}
@@ -88,6 +89,7 @@ abbrev pub at_places : Stream → Layouts → Layouts
 at_places stream all = record {
   side = all.side;
   functions = placed_by all (length (opening_by all stream)) stream.functions;
+  calls = all.calls;
   finish = length (start_code (plan_of all) stream.main stream.frames);
   largest = all.largest;
   private = all.private;
@@ -99,6 +101,10 @@ at_places stream all = record {
 -- and the last of them ends there
 abbrev pub end_of : Stream → Layouts → ℕ
 end_of stream all = word_behind all (length (opening_by all stream)) stream.functions
+
+-- JALR alone enters functions only where it reaches the end of the last of them
+abbrev pub IsReached : Stream → Layouts → Type 0
+IsReached stream all = is_jalr all.calls ≡ true → end_of stream all < 512
 
 -- the whole code, with the functions at their places
 abbrev pub code_at : Stream → Layouts → List Inst

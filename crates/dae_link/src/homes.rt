@@ -2,6 +2,8 @@
 
 ghost use Rattle.std.specs.Prelude.{◌≡◌, true, ◌≢◌, ℕ, ◌-◌, ◌*◌, ◌≤◌, ◌<◌, ◌^◌, ◌∷◌, [], length, IfOk, IfErr};
 ghost use Rattle.std.specs.List.{AllByRecursion, AllZip, list_all};
+ghost use Rattle.dae_ir.specs.Streams.{actions_of};
+ghost use Rattle.dae_select_blocks.specs.Sizes.{is_leaf};
 ghost use Rattle.dae_select_calls.specs.Layouts.{AreSmall};
 ghost use Rattle.dae_link.specs.Settled.{IsLayoutOf, IsFrameWithin, AreTooMany, IsTooDeep, AreUnplaced, is_numberable};
 ghost use Rattle.dae_link.specs.declared.error.CodeError.TheVariants as errors;
@@ -12,7 +14,9 @@ use crate::{MOST_FRAME, MOST_PRIVATE};
 use dae_base::Items;
 use dae_ir::{Stream, StreamFunction};
 use dae_regalloc::{allocate, can_number};
+use dae_select::is_leaf;
 use dae_select_calls::{FunctionLayout, Layouts};
+use dae_select_values::CallForm;
 use std::alloc::Global;
 
 /// The words that a private frame has besides the slots.
@@ -47,6 +51,13 @@ pub fn are_numberable(stream: &Stream) -> bool
     true
 }
 
+/// Whether a function is a leaf.
+fn is_leaf_function(function: &StreamFunction) -> bool
+    ensures { result ≡ is_leaf (actions_of function.now.body) }
+{
+    is_leaf(function.body.as_slice())
+}
+
 /// The homes of a function's variables, at first at word 0.
 fn layout_of(alloc: Global, function: &StreamFunction) -> Result<FunctionLayout, CodeError>
     requires { is_numberable function.now ≡ true }
@@ -59,6 +70,7 @@ fn layout_of(alloc: Global, function: &StreamFunction) -> Result<FunctionLayout,
         variables: count_of(homes.len())?,
         homes: Items::from_vec(homes),
         frame: function.frame,
+        leaf: is_leaf_function(function),
         entry: 0,
         start: 0,
     })
@@ -104,10 +116,16 @@ fn private_words(calls: u16, largest: u32) -> Result<u32, CodeError>
     Ok(words as u32)
 }
 
-/// The homes and frames of a stream's functions, all at word 0, and the numbers that stay in registers.
-pub fn unplaced_layouts(alloc: Global, stream: &Stream) -> Result<Layouts, CodeError>
+/// The homes and frames of a stream's functions, all at word 0, the form of the ways into them, and the numbers that stay in
+/// registers.
+pub fn unplaced_layouts(
+    alloc: Global,
+    stream: &Stream,
+    calls: CallForm,
+) -> Result<Layouts, CodeError>
     requires { list_all is_numberable stream.now.functions ≡ true }
     ensures layouts { IfOk result (λ layouts. AreUnplaced stream.now layouts) }
+    ensures calls { IfOk result (λ layouts. layouts.calls ≡ calls) }
     ensures code { IfErr result (λ e. e ≢ errors.Code) }
     ensures private { IfErr result (λ e. e ≡ errors.Private → IsTooDeep stream.now) }
 {
@@ -118,6 +136,7 @@ pub fn unplaced_layouts(alloc: Global, stream: &Stream) -> Result<Layouts, CodeE
     Ok(Layouts {
         side: stream.side,
         functions: Items::from_vec(functions),
+        calls,
         finish: 0,
         largest,
         private,

@@ -11,6 +11,7 @@ mod homes;
 mod linking;
 mod marks;
 mod placing;
+mod reaching;
 mod residents;
 mod side;
 mod words;

@@ -42,6 +42,7 @@ fn layout_at(
         homes: Items::from_vec(homes),
         variables: layout.variables,
         frame: layout.frame,
+        leaf: layout.leaf,
         entry: word,
         start: word + entry,
     })

@@ -13,8 +13,9 @@ ghost use Rattle.dae_link.specs.Sides.{HasLimits, HasPlaces, HasRegisters, HasUs
 
 use crate::MOST_WORDS;
 use crate::error::CodeError;
-use crate::homes::{are_numberable, unplaced_layouts};
+use crate::homes::are_numberable;
 use crate::placing::place;
+use crate::reaching::settled_layouts;
 use crate::words::{encode_all, opening_code, whole_code};
 use dae_base::Items;
 use dae_encode::Inst;
@@ -71,6 +72,7 @@ fn placed_layouts(alloc: Global, layouts: &Layouts, stream: &Stream) -> Result<L
     Ok(Layouts {
         side: layouts.side,
         functions: Items::from_vec(functions),
+        calls: layouts.calls,
         finish,
         largest: layouts.largest,
         private: layouts.private,
@@ -125,7 +127,7 @@ pub fn side_code(alloc: Global, stream: &Stream) -> Result<SideCode, CodeError>
     if !are_numberable(stream) {
         return Err(CodeError::Code);
     }
-    let layouts = unplaced_layouts(alloc, stream)?;
+    let layouts = settled_layouts(alloc, stream)?;
     let mut places = Vec::new(alloc);
     let code = placed_code(alloc, &layouts, stream, &mut places)?;
     Ok(SideCode {

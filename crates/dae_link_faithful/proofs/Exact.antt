@@ -75,7 +75,7 @@ module _ (d : Depths) where
   placed_a (Emit spelling x) may n = λ q e. no_queue q e
   placed_a (Probe check) may n = at Ab (n.3 refl)
   placed_a (Tell x) may n = at Ab (n.3 refl)
-  placed_a Hear may n = at Eb may
+  placed_a (Hear only) may n = at Eb may
   placed_a (Stop x) may n = λ q e. no_queue q e
   placed_a Break may n = λ q e. no_queue q e
   placed_a Continue may n = λ q e. no_queue q e
@@ -94,7 +94,7 @@ module _ (d : Depths) where
   placed_e (Emit spelling x) may n = λ q e. no_queue q e
   placed_e (Probe check) may n = at Eb (n.1 refl)
   placed_e (Tell x) may n = at Eb (n.1 refl)
-  placed_e Hear may n = at Ab may
+  placed_e (Hear only) may n = at Ab may
   placed_e (Stop x) may n = λ q e. no_queue q e
   placed_e Break may n = λ q e. no_queue q e
   placed_e Continue may n = λ q e. no_queue q e
@@ -123,7 +123,7 @@ module _ (d : Depths) where
   side_a (Emit spelling x) may = tt
   side_a (Probe check) may = tt
   side_a (Tell x) may = tt
-  side_a Hear may = tt
+  side_a (Hear only) may = tt
   side_a (Stop x) may = tt
   side_a Break may = tt
   side_a Continue may = tt
@@ -142,7 +142,7 @@ module _ (d : Depths) where
   side_e (Emit spelling x) may = tt
   side_e (Probe check) may = tt
   side_e (Tell x) may = tt
-  side_e Hear may = tt
+  side_e (Hear only) may = tt
   side_e (Stop x) may = tt
   side_e Break may = tt
   side_e Continue may = tt
@@ -168,7 +168,7 @@ kinds by_a (Accept v) = ((λ e. no_true e), (λ e. no_true e), (λ e. no_true e)
 kinds by_a (Emit spelling x) = ((λ e. no_true e), (λ e. no_true e), (λ e. no_true e), (λ e. no_true e), (λ e. no_true e), (λ e. no_true e))
 kinds by_a (Probe check) = ((λ e. no_true e), (λ e. no_true e), (λ e. no_true e), (λ e. no_true e), (λ e. refl), (λ e. no_true e))
 kinds by_a (Tell x) = ((λ e. no_true e), (λ e. no_true e), (λ e. no_true e), (λ e. no_true e), (λ e. refl), (λ e. no_true e))
-kinds by_a Hear = ((λ e. no_true e), (λ e. no_true e), (λ e. no_true e), (λ e. no_true e), (λ e. no_true e), (λ e. no_true e))
+kinds by_a (Hear only) = ((λ e. no_true e), (λ e. no_true e), (λ e. no_true e), (λ e. no_true e), (λ e. no_true e), (λ e. no_true e))
 kinds by_a (Stop x) = ((λ e. no_true e), (λ e. no_true e), (λ e. no_true e), (λ e. no_true e), (λ e. no_true e), (λ e. no_true e))
 kinds by_a Break = ((λ e. no_true e), (λ e. no_true e), (λ e. no_true e), (λ e. no_true e), (λ e. no_true e), (λ e. no_true e))
 kinds by_a Continue = ((λ e. no_true e), (λ e. no_true e), (λ e. no_true e), (λ e. no_true e), (λ e. no_true e), (λ e. no_true e))

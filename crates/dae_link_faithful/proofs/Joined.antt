@@ -29,6 +29,7 @@ use Rattle.dae_link_faithful.specs.Made.{parameters_in, IsSide, IsMade, setting_
 use Rattle.dae_ir.specs.Streams.{set_of}
 use Rattle.dae_link_faithful.proofs.Streams.{are_whole}
 use Rattle.dae_link_faithful.proofs.Ready.{stream_is_wanted, main_is_alone}
+use Rattle.dae_link_faithful.proofs.Wanted.{leaf_wanted}
 use Rattle.dae_select_blocks.specs.Wanted.{IsWanted, IsWantedBranch}
 use Rattle.dae_ir.specs.Code.{Each}
 use Rattle.std.proofs.lemmas.Bool.Decides.{nat_tests}
@@ -40,7 +41,7 @@ use Rattle.dae_link_faithful.proofs.Moved.{nothing_goes, A, IsDone, implements}
 use Rattle.dae_link_faithful.proofs.Usable.{IsUsable}
 
 module _ (by_a : Bool) (p : Program) (body : ℕ → Actions) (parameters : ℕ → ℕ) (functions main frames : ℕ) (setup : Setup) (first : Processor) (c : IsSide by_a p body parameters functions main frames setup first) (answered : ℕ → Bool) (are_whole : AreWhole functions answered body)
-    (wanted : (f : ℕ) → f < c.plan.functions → Each (IsWanted c.plan setup.copies (λ g. live (body g) nowhere)) IsWantedBranch (body f)) (reads : (u : ℕ) → live (body main) nowhere u ≡ false) (within : main < functions) where
+    (wanted : (f : ℕ) → f < c.plan.functions → Each (IsWanted c.plan setup.copies (λ g. live (body g) nowhere) (c.plan.leaf f)) IsWantedBranch (body f)) (reads : (u : ℕ) → live (body main) nowhere u ≡ false) (within : main < functions) where
   there : main < c.plan.functions
   there = subst (λ (n : ℕ). main < n) (sym c.count) within
 
@@ -114,8 +115,10 @@ module _ (ir : Ir) (tables : List (List Class)) (cap : ℕ) (image : Image) (rea
   is_whole : (b : Bool) → AreWhole (length ir.functions) (has b) (stream ir tables cap b)
   is_whole b = are_whole ir tables cap least.closed b ready.scoped ready.closes'
 
-  wants : (b : Bool) (first : Processor) (c : Side b first) → (f : ℕ) → f < c.plan.functions → Each (IsWanted c.plan setup.copies (λ g. live (stream ir tables cap b g) nowhere)) IsWantedBranch (stream ir tables cap b f)
-  wants b first c f small = stream_is_wanted ir tables cap least.closed b ready c.plan c.count c.apart setup.copies image.budget.cq (allowed image.budget.cq) c.side f (budget_covers ir tables cap pair image.budget is_pair is_budget f).copies small
+  wants : (b : Bool) (first : Processor) (c : Side b first) → (f : ℕ) → f < c.plan.functions → Each (IsWanted c.plan setup.copies (λ g. live (stream ir tables cap b g) nowhere) (c.plan.leaf f)) IsWantedBranch (stream ir tables cap b f)
+  wants b first c f small =
+      leaf_wanted c.plan setup.copies (λ g. live (stream ir tables cap b g) nowhere) (c.plan.leaf f) (stream ir tables cap b f) (c.codes f small).leaf
+      (stream_is_wanted ir tables cap least.closed b ready c.plan c.count c.apart setup.copies image.budget.cq (allowed image.budget.cq) c.side f (budget_covers ir tables cap pair image.budget is_pair is_budget f).copies small)
 
   alone : (b : Bool) (first : Processor) (c : Side b first) → (u : ℕ) → live (stream ir tables cap b ir.main) nowhere u ≡ false
   alone b first c = main_is_alone ir tables cap least.closed b ready c.plan c.count c.apart

@@ -429,7 +429,7 @@ module _ (setup : Setup) (plan : Plan) (p : Program) (body : ℕ → Actions) (n
     moved q h (acts {x = Emit spelling y} w is size follows) fit = walked (most * 1) (omega arith) (acted q (Emit spelling y) w d size follows fit h h.placed.done.does.1 (λ g. g) (λ e. (λ t. t, λ t. t)))
     moved q h (acts {x = Probe check} w is size follows) fit = walked (most * 1) (omega arith) (acted q (Probe check) w d size follows fit h h.placed.done.does.1 (λ g. g) (λ e. (λ t. t, λ t. t)))
     moved q h (acts {x = Tell y} w is size follows) fit = walked (most * 1) (omega arith) (acted q (Tell y) w d size follows fit h h.placed.done.does.1 (λ g. g) (λ e. (λ t. t, λ t. t)))
-    moved q h (acts {x = Hear} w is size follows) fit = walked (most * 1) (omega arith) (acted q Hear w d size follows fit h h.placed.done.does.1 (λ g. g) (λ e. (λ t. t, λ t. t)))
+    moved q h (acts {x = Hear only} w is size follows) fit = walked (most * 1) (omega arith) (acted q (Hear only) w d size follows fit h h.placed.done.does.1 (λ g. g) (λ e. (λ t. t, λ t. t)))
     moved q h (acts {x = Stop y} w is size halts) fit = walked (most * 1) (omega arith) (acted q (Stop y) w d size halts fit h h.placed.done.does.1 (λ g. g) (λ e. absurd cc))
     moved q h (acts {x = Break} w is size follows) fit = absurd cc
     moved q h (acts {x = Continue} w is size follows) fit = absurd cc

@@ -10,7 +10,7 @@ use Rattle.dae_base.specs.declared.LoadKind.TheVariants.{I8, U8, I16, U16, I32}
 use Rattle.dae_encode.specs.Instructions.{effect, form_of}
 use Rattle.dae_encode.specs.declared.Form.TheVariants.{Computes}
 use Rattle.dae_encode.specs.declared.Inst.{Inst}
-use Rattle.dae_encode.specs.declared.Inst.TheVariants.{Lui, Addi, Slti, Sltiu, Xori, Ori, Andi, Slli, Srli, Srai, Add, Sub, Slt, Sltu}
+use Rattle.dae_encode.specs.declared.Inst.TheVariants.{Lui, Addi, Slti, Sltiu, Xori, Ori, Andi, Slli, Srli, Srai, Add, Sub, Slt, Sltu, Jalr}
 use Rattle.dae_ir.specs.Classes.{VariableSet}
 use Rattle.dae_ir.specs.declared.form.Operand.{Operand}
 use Rattle.dae_ir.specs.declared.form.Operand.TheVariants.{Variable, Number}
@@ -26,7 +26,7 @@ use Rattle.dae_select_walks.specs.Homes.{IsHome, is_home_register, slot_at, kept
 use Rattle.dae_select_walks.specs.Agrees.{Plan}
 use Rattle.dae_select_walks.specs.declared.Home.{Home}
 use Rattle.dae_select_walks.specs.declared.Home.TheVariants.{Register, Slot}
-use Rattle.dae_select_blocks.specs.Blocks.{upper, lower, is_immediate, more_code, less_code, number_code, load_code, store_code, register_or, source, fetch_home, fetch, move_code, keep, operation_code, exponent, power_code, immediate_code, commutes, exchanged_code, behind_or, combine_registers, binary_code, extend_code, compare_code, compare_number_code, tell_number_code, compare_registers, compare_operands, test_code, value_code, system_code, stop_code, jump_by, enter_code, arguments_code, waits_at, save_code, restore_code, deeper_code, back_code, result_code, leave_code, jump_words, jump_over, jump_back, branch_inst, opposite, goes_by, goes_code, number_or, fetch_number, as_immediate, residents_code}
+use Rattle.dae_select_blocks.specs.Blocks.{upper, lower, is_immediate, more_code, less_code, number_code, load_code, store_code, register_or, source, fetch_home, fetch, move_code, keep, operation_code, exponent, power_code, immediate_code, commutes, exchanged_code, behind_or, combine_registers, binary_code, extend_code, compare_code, compare_number_code, tell_number_code, compare_registers, compare_operands, test_code, value_code, system_code, stop_code, jump_by, enter_code, arguments_code, waits_at, save_code, restore_code, deeper_code, back_code, result_code, leave_code, jump_words, jump_over, jump_back, branch_inst, opposite, goes_by, goes_code, number_or, fetch_number, as_immediate, residents_code, prologue_code, epilogue_code}
 use Rattle.dae_select_blocks.specs.Code.{call_code, entry_code, start_code, finish_code, past_code}
 use Rattle.dae_select_blocks.proofs.LawsOfBlocks.{AreBelowQueues, live_registers, number_below}
 use Rattle.dae_link_faithful.proofs.Access.{IsPlain}
@@ -95,8 +95,9 @@ goes_by_plain false short relation x y n h k = (branch_plain (opposite relation)
 pub goes_plain : (short : Bool) (relation : Comparison) (x y n : ℕ) → x < 28 → y < 28 → AllPlain (goes_code short relation x y n)
 goes_plain short relation x y n h k = goes_by_plain (nat_lt n 1000) short relation x y n h k
 
-enter_plain : (word : ℕ) → AllPlain (enter_code word)
-enter_plain word = ((omega arith, omega arith, omega arith), ((omega arith, omega arith, omega arith), tt))
+enter_plain : (near : Bool) (word : ℕ) → AllPlain (enter_code near word)
+enter_plain true word = ((omega arith, omega arith, omega arith), tt)
+enter_plain false word = ((omega arith, omega arith, omega arith), ((omega arith, omega arith, omega arith), tt))
 
 operation_plain : (o : Operator) (t x y : ℕ) → t < 28 → x < 28 → y < 28 → IsPlain (form_of (effect (operation_code o t x y)))
 operation_plain Plus t x y a b c = (a, b, c)
@@ -322,9 +323,14 @@ module _ (n : ℕ) (home : ℕ → Home) (good : (v : ℕ) → IsHome n (home v)
   stop_plain false None = system_plain 0 (Number 0)
   stop_plain false (Some x) = system_plain 0 x
 
-  pub leave_plain : (y : Option Operand) → AllPlain (leave_code home y)
-  leave_plain None = ((omega arith, omega arith), ((omega arith, omega arith, omega arith), tt))
-  leave_plain (Some x) = plain_append _ _ (move_plain 6 x (omega arith)) ((omega arith, omega arith), ((omega arith, omega arith, omega arith), tt))
+  return_plain : (by_a leaf : Bool) → AllPlain (epilogue_code by_a leaf ++ Jalr 0 1 (pos 0) ∷ [])
+  return_plain by_a true = ((omega arith, omega arith, omega arith), tt)
+  return_plain true false = ((omega arith, omega arith), ((omega arith, omega arith, omega arith), ((omega arith, omega arith, omega arith), tt)))
+  return_plain false false = ((omega arith, omega arith), ((omega arith, omega arith, omega arith), tt))
+
+  pub leave_plain : (by_a leaf : Bool) (y : Option Operand) → AllPlain (leave_code by_a leaf home y)
+  leave_plain by_a leaf None = return_plain by_a leaf
+  leave_plain by_a leaf (Some x) = plain_append (move_code home 6 x) (epilogue_code by_a leaf ++ Jalr 0 1 (pos 0) ∷ []) (move_plain 6 x (omega arith)) (return_plain by_a leaf)
 
   result_plain : (v : Option ℕ) → AllPlain (result_code home v)
   result_plain None = tt
@@ -359,22 +365,26 @@ module _ (plan : Plan) (variables : ℕ → ℕ) (good : (f v : ℕ) → IsHome 
 
   deeper_plain : (f : ℕ) → AllPlain (deeper_code plan f)
   deeper_plain f =
-      plain_append _ _ (more_plain 3 (plan.frame f % 2 ^ 32) (omega arith)) (plain_append _ _ (more_plain 2 (4 * plan.words f) (omega arith))
-      (plain_either plan.by_a _ _ ((omega arith, omega arith, omega arith), tt) tt))
+      plain_append (more_code 3 (plan.frame f % 2 ^ 32)) (more_code 2 (4 * plan.words f)) (more_plain 3 (plan.frame f % 2 ^ 32) (omega arith)) (more_plain 2 (4 * plan.words f) (omega arith))
 
   back_plain : (f : ℕ) → AllPlain (back_code plan f)
   back_plain f =
-      plain_append _ _ (less_plain 3 (plan.frame f % 2 ^ 32) (omega arith)) (plain_append _ _ (less_plain 2 (4 * plan.words f) (omega arith))
-      (plain_either plan.by_a _ _ ((omega arith, omega arith, omega arith), tt) tt))
+      plain_append (less_code 3 (plan.frame f % 2 ^ 32)) (less_code 2 (4 * plan.words f)) (less_plain 3 (plan.frame f % 2 ^ 32) (omega arith)) (less_plain 2 (4 * plan.words f) (omega arith))
 
   pub call_plain : (f : ℕ) (v : Option ℕ) (g : ℕ) (xs : List Argument) (live : VariableSet) → AllPlain (call_code plan variables f v g xs live)
   call_plain f v g xs live =
       let rs = live_registers plan (variables f) f live in
-      plain_append _ _ (arguments_plain f g xs) (plain_append _ _ (save_plain _ rs) (plain_append (deeper_code plan f) _ (deeper_plain f) (plain_append (enter_code (plan.entry g)) _ (enter_plain (plan.entry g))
+      plain_append _ _ (arguments_plain f g xs) (plain_append _ _ (save_plain _ rs) (plain_append (deeper_code plan f) _ (deeper_plain f) (plain_append (enter_code plan.near (plan.entry g)) _ (enter_plain plan.near (plan.entry g))
       (plain_append (back_code plan f) _ (back_plain f) (plain_append _ _ (restore_plain _ rs) (result_plain (variables f) (plan.home f) (good f) v))))))
 
+  prologue_plain : (by_a leaf : Bool) → AllPlain (prologue_code by_a leaf)
+  prologue_plain by_a true = tt
+  prologue_plain true false = ((omega arith, omega arith), ((omega arith, omega arith, omega arith), tt))
+  prologue_plain false false = ((omega arith, omega arith), tt)
+
   pub entry_plain : (f : ℕ) (live : VariableSet) → AllPlain (entry_code plan variables f live)
-  entry_plain f live = ((omega arith, omega arith), restore_plain _ (live_registers plan (variables f) f live))
+  entry_plain f live =
+      plain_append (prologue_code plan.by_a (plan.leaf f)) (restore_code (registers_in (plan.home f) (variables f) live)) (prologue_plain plan.by_a (plan.leaf f)) (restore_plain (registers_in (plan.home f) (variables f) live) (live_registers plan (variables f) f live))
 
 pub finish_plain : (by_a : Bool) → AllPlain (finish_code by_a)
 finish_plain true = (tt, tt)
@@ -386,9 +396,9 @@ residents_plain r (n ∷ ns) h = plain_append (number_code r n) (residents_code 
 
 pub start_plain : (plan : Plan) (main frames : ℕ) → AllPlain (start_code plan main frames)
 start_plain plan main frames =
-    let addresses : List Inst = number_code 4 (plan.memory - 16) ++ Addi 10 0 (pos 1) ∷ [] in
-    let plain : AllPlain addresses = plain_append (number_code 4 (plan.memory - 16)) (Addi 10 0 (pos 1) ∷ []) (number_plain 4 (plan.memory - 16) (omega arith)) ((omega arith, omega arith, omega arith), tt) in
+    let addresses : List Inst = number_code 4 (plan.memory - 16) in
+    let plain : AllPlain addresses = number_plain 4 (plan.memory - 16) (omega arith) in
     let stay : List Inst = residents_code 27 plan.residents in
-    plain_append (number_code 3 frames ++ (stay ++ (if plan.by_a then addresses else []))) (enter_code (plan.entry main))
+    plain_append (number_code 3 frames ++ (stay ++ (if plan.by_a then addresses else []))) (enter_code plan.near (plan.entry main))
     (plain_append (number_code 3 frames) _ (number_plain 3 frames (omega arith)) (plain_append stay _ (residents_plain 27 plan.residents (omega arith)) (plain_either plan.by_a addresses [] plain tt)))
-    (enter_plain (plan.entry main))
+    (enter_plain plan.near (plan.entry main))

@@ -79,7 +79,7 @@ module _ (ir : Ir) (tables : List (List Class)) (cap : ℕ) (closed : AreClosed 
       let three = each_zip (ItemIn ir.functions n) ItemNumbers (λ (j : Item). ItemIn ir.functions n j × ItemNumbers j) (TestIn n) TestNumbers TestNumbers (λ j a c. (a, c)) (λ t a c. c) code names numbers in
       each_zip (AddressesKept (λ g. (of g).s) (of f).s) (λ (j : Item). ItemIn ir.functions n j × ItemNumbers j) (Wants f) (λ t. Unit {0}) TestNumbers TestNumbers (item_wanted f n) (λ t a c. c) code (closed.addresses f) three
 
-  pub stream_is_wanted : (copies : Bool) (cq : ℕ) → (1 ≤ cq → copies ≡ true) → plan.by_a ≡ b → (f : ℕ) → Each (AtMost (is_copied (of f)) cq) (λ (d : Decision). Unit {0}) (rounds (of f) cap true ((program_of ir).body f) []) → f < plan.functions → Each (IsWanted plan copies entries) IsWantedBranch (stream ir tables cap b f)
+  pub stream_is_wanted : (copies : Bool) (cq : ℕ) → (1 ≤ cq → copies ≡ true) → plan.by_a ≡ b → (f : ℕ) → Each (AtMost (is_copied (of f)) cq) (λ (d : Decision). Unit {0}) (rounds (of f) cap true ((program_of ir).body f) []) → f < plan.functions → Each (IsWanted plan copies entries false) IsWantedBranch (stream ir tables cap b f)
   stream_is_wanted copies cq enough e f few small =
       let r : Rounds = rounds (of f) cap true ((program_of ir).body f) [] in
       side_wanted plan copies entries of cap f b e 0 r Done (rounds_copied plan copies entries of cap f cq enough b r (rounds_wanted plan true entries of cap f b true ((program_of ir).body f) (body_wanted f (subst (λ (n : ℕ). f < n) count small)) [] tt) few (rounds_ok (of f) cap true ((program_of ir).body f) [])) tt

@@ -17,7 +17,7 @@ use Rattle.dae_encode.specs.declared.Inst.{Inst}
 use Rattle.dae_encode.specs.declared.Inst.TheVariants.{Addi, Add, Sub, Slt, Sltu, Slti, Sltiu, Xori, Slli, Srli, Srai, Andi, Beq, Bne, Bltu, Bgeu, Ecall}
 use Rattle.dae_ir.specs.Code.{Done, Do, If, Loop}
 use Rattle.dae_ir.specs.Classes.{VariableSet}
-use Rattle.dae_ir.specs.Deeds.{told_on, heard_on}
+use Rattle.dae_ir.specs.Deeds.{told_on, heard_on, failure_code}
 use Rattle.dae_ir.specs.Programs.{side}
 use Rattle.dae_ir.specs.Streams.{Actions}
 use Rattle.dae_ir.specs.declared.form.Operand.{Operand}
@@ -32,7 +32,9 @@ use Rattle.dae_ir.specs.declared.stream.Action.{Action}
 use Rattle.dae_ir.specs.declared.stream.Action.TheVariants.{Set as Compute, Issue, Own, Receive, Address, Datum, Offer, Accept, Emit, Probe, Tell, Hear, Stop, Break, Continue, Call, Return}
 use Rattle.dae_ir.specs.declared.stream.Branch.{Branch}
 use Rattle.dae_ir.specs.declared.stream.Branch.TheVariants.{Silent, Tells, Hears}
+use Rattle.dae_ir.specs.declared.stream.Failure.{Failure}
 use Rattle.dae_meaning.specs.declared.Operator.{Operator}
+use Rattle.dae_meaning.specs.declared.Operator.TheVariants.{Add as Plus}
 use Rattle.dae_meaning.specs.declared.Comparison.{Comparison}
 use Rattle.dae_meaning.specs.declared.Comparison.TheVariants.{Equal, NotEqual, LessSigned, AtLeastSigned, LessUnsigned, AtLeastUnsigned}
 use Rattle.dae_select_walks.specs.declared.Home.{Home}
@@ -43,15 +45,15 @@ use Rattle.dae_select_walks.specs.declared.Standing.TheVariants.{Settled, Early,
 use Rattle.dae_select_walks.specs.Live.{Ways, none, in_operand, live, behind, body_ways, step_ways, nowhere}
 use Rattle.dae_select_walks.specs.Facts.{Facts, unknown, only_leaves, operand_bounds, is_aligned, is_good, tells_within, facts_behind, facts_in_first, facts_in_second, facts_past_if, facts_at_turn, facts_at_step, facts_past_loop, need_of}
 use Rattle.dae_select_walks.specs.declared.Need.TheVariants.{All, Ends, Nothing}
-use Rattle.dae_select_walks.specs.Agrees.{Plan}
-use Rattle.dae_select_blocks.specs.Blocks.{number_code, register_or, source, operation_code, immediate_code, exchanged_code, behind_or, combine_registers, binary_code, value_code, fetch, move_code, keep, test_code, call_number, issue_code, address_code, take_code, fail_code, over, align_code, bounds_code, room_code, check_code, hear_code, jump_over, jump_back, leave_code, jump_words, branch_inst, opposite, one_way, goes_by, goes_code, frames_room_code, lower, is_immediate, tell_number_code, against_zero, immediate_of, extend_code, compare_code, compare_number_code, compare_registers, compare_operands, back_offset, goes_back, as_immediate}
+use Rattle.dae_select_walks.specs.Agrees.{Plan, counted_depth}
+use Rattle.dae_select_blocks.specs.Blocks.{number_code, register_or, source, operation_code, immediate_code, exchanged_code, behind_or, combine_registers, binary_code, value_code, fetch, move_code, keep, test_code, call_number, issue_code, address_code, take_code, fail_code, over, align_code, bounds_code, room_code, check_code, hear_code, jump_over, jump_back, jump_words, branch_inst, opposite, one_way, goes_by, goes_code, frames_room_code, lower, is_immediate, tell_number_code, against_zero, immediate_of, extend_code, compare_code, compare_number_code, compare_registers, compare_operands, back_offset, goes_back, as_immediate}
 use Rattle.dae_select_walks.specs.Compiled.{is_told}
-use Rattle.dae_select_blocks.specs.Code.{leaves_first, is_near, has_bottom, told_by, branch_by, ahead_by, before_branch, back_branch, either_one, reads_once, with_home, early_code, late_code, standing_behind, placed_code, needed_code, block_code, action_code, branch_code, code_of, entry_code, function_code, finish_code, start_code, does_nothing, past_code, written_last}
+use Rattle.dae_select_blocks.specs.Code.{leaves_first, is_near, has_bottom, told_by, branch_by, ahead_by, before_branch, back_branch, either_one, reads_once, with_home, early_code, is_offset_sum, late_code, standing_behind, placed_code, is_dead, needed_code, block_code, action_code, branch_code, code_of, entry_code, function_code, finish_code, start_code, does_nothing, past_code, written_last}
 use Rattle.dae_link_faithful.specs.Uses.{queue_in, action_queue, branch_queue, IsOfSide, AreOfSide, IsUntouched, LeavesAlone}
 use Rattle.dae_link_faithful.proofs.Access.{IsPlain, plain, loads_for_e, loads_own, gives_address, pushes_datum, pushes_copy, pushes_message, takes_load, takes_own, takes_copy, takes_message, takes_load_left, takes_load_right, takes_copy_left, takes_copy_right, pushes_flag, sends_datum}
 use Rattle.dae_link_faithful.proofs.Quiet.{immediate_form, exchanged_form, AllPlain, plain_append, number_plain, register_low, keep_plain, source_low, fetch_plain, move_is, value_plain, system_plain, stop_plain, leave_plain, call_plain, entry_plain, finish_plain, start_plain, over_plain, past_plain, back_jump_plain, branch_form, branch_plain, goes_plain, test_writes, Writes, tell_number_writes, number_fetched, number_low}
 use Rattle.dae_select_blocks.specs.Sizes.{is_short}
-use Rattle.dae_select_blocks.proofs.LawsOfBlocks.{operation_is, passed_on, by_pairs, Suits, suits_behind}
+use Rattle.dae_select_blocks.proofs.LawsOfBlocks.{operation_is, ForAccesses, passed_on, offset_sum, by_pairs, Suits, suits_behind}
 
 no_some : (q : Queue) → None ≢ Some q
 no_some q e = absurd (let x : None ≡ Some q = e in cc)
@@ -155,21 +157,24 @@ module _ (by_a : Bool) where
       by true = tt
       by false = (room_uses (memory - n)).only
 
-  hear_uses : (b : Bool) → Uses by_a (Some (heard_on by_a)) (hear_code b)
-  hear_uses true = first_uses _ (Addi 5 29 (pos 0)) (Beq 5 0 (pos 8) ∷ (Ecall ∷ [])) (takes_message by_a (Addi 5 29 (pos 0)) 5 refl (omega arith)) (quiet _ (Beq 5 0 (pos 8) ∷ (Ecall ∷ [])) ((omega arith, omega arith, omega arith), (tt, tt)))
-  hear_uses false = first_uses _ (Addi 10 29 (pos 0)) (Beq 10 0 (pos 12) ∷ (Addi 17 0 (pos 5) ∷ (Ecall ∷ []))) (takes_message by_a (Addi 10 29 (pos 0)) 10 refl (omega arith)) (quiet _ (Beq 10 0 (pos 12) ∷ (Addi 17 0 (pos 5) ∷ (Ecall ∷ []))) ((omega arith, omega arith, omega arith), ((omega arith, omega arith, omega arith), (tt, tt))))
+  hear_uses : (b : Bool) (only : Option Failure) → Uses by_a (Some (heard_on by_a)) (hear_code b only)
+  hear_uses true only = first_uses _ (Beq 29 0 (pos 8)) (Ecall ∷ []) (takes_message by_a (Beq 29 0 (pos 8)) 0 refl (omega arith)) (quiet _ (Ecall ∷ []) (tt, tt))
+  hear_uses false (Some failure) =
+      let behind : List Inst = Addi 10 0 (pos (failure_code failure)) ∷ (Addi 17 0 (pos 5) ∷ (Ecall ∷ [])) in
+      first_uses _ (Beq 29 0 (pos 16)) behind (takes_message by_a (Beq 29 0 (pos 16)) 0 refl (omega arith)) (quiet _ behind ((omega arith, omega arith, omega arith), ((omega arith, omega arith, omega arith), (tt, tt))))
+  hear_uses false None = first_uses _ (Addi 10 29 (pos 0)) (Beq 10 0 (pos 12) ∷ (Addi 17 0 (pos 5) ∷ (Ecall ∷ []))) (takes_message by_a (Addi 10 29 (pos 0)) 10 refl (omega arith)) (quiet _ (Beq 10 0 (pos 12) ∷ (Addi 17 0 (pos 5) ∷ (Ecall ∷ []))) ((omega arith, omega arith, omega arith), ((omega arith, omega arith, omega arith), (tt, tt))))
 
-issue_form : (kind : LoadKind) (q b : ℕ) → form_of (effect (issue_code kind q b)) ≡ Loads kind q b (word (pos 0))
-issue_form I8 q b = refl
-issue_form U8 q b = refl
-issue_form I16 q b = refl
-issue_form U16 q b = refl
-issue_form I32 q b = refl
+issue_form : (kind : LoadKind) (q b : ℕ) (offset : ℤ) → form_of (effect (issue_code kind q b offset)) ≡ Loads kind q b (word offset)
+issue_form I8 q b offset = refl
+issue_form U8 q b offset = refl
+issue_form I16 q b offset = refl
+issue_form U16 q b offset = refl
+issue_form I32 q b offset = refl
 
-address_form : (width : Width) (b : ℕ) → form_of (effect (address_code width b)) ≡ Stores width b 30 (word (pos 0))
-address_form B1 b = refl
-address_form B2 b = refl
-address_form B4 b = refl
+address_form : (width : Width) (b : ℕ) (offset : ℤ) → form_of (effect (address_code width b offset)) ≡ Stores width b 30 (word offset)
+address_form B1 b offset = refl
+address_form B2 b offset = refl
+address_form B4 b offset = refl
 
 -- ---- actions
 
@@ -226,9 +231,9 @@ module _ (plan : Plan) (variables : ℕ → ℕ) (good : (f v : ℕ) → IsHome 
         (next_uses by_a' (Some (told_on by_a')) (Bne (source (plan.home f) 5 x) 0 (over by_a')) (fail_code by_a' 1) (omega arith, low x, omega arith) (fail_uses by_a' by_a' 1))
     check_uses (Room g) =
         let frames : List Inst = frames_room_code plan.memory (plan.frame f + plan.frame g) in
-        either_uses by_a' (Some (told_on by_a')) (nat_lt plan.memory (plan.frame f + plan.frame g)) (fail_code true 4) (frames ++ (number_code 6 plan.limit ++ Bltu 10 6 (pos 12) ∷ fail_code true 4)) (fail_uses by_a' true 4)
-        (behind_only by_a' (Some (told_on by_a')) frames (number_code 6 plan.limit ++ Bltu 10 6 (pos 12) ∷ fail_code true 4) (frames_only by_a' plan.memory (plan.frame f + plan.frame g))
-        (behind_plain by_a' (Some (told_on by_a')) (number_code 6 plan.limit) (Bltu 10 6 (pos 12) ∷ fail_code true 4) (number_plain 6 plan.limit (omega arith)) (next_uses by_a' (Some (told_on by_a')) (Bltu 10 6 (pos 12)) (fail_code true 4) (omega arith, omega arith, omega arith) (fail_uses by_a' true 4))))
+        either_uses by_a' (Some (told_on by_a')) (nat_lt plan.memory (plan.frame f + plan.frame g)) (fail_code true 4) (frames ++ (number_code 6 (counted_depth plan f plan.limit) ++ Bltu 10 6 (pos 12) ∷ fail_code true 4)) (fail_uses by_a' true 4)
+        (behind_only by_a' (Some (told_on by_a')) frames (number_code 6 (counted_depth plan f plan.limit) ++ Bltu 10 6 (pos 12) ∷ fail_code true 4) (frames_only by_a' plan.memory (plan.frame f + plan.frame g))
+        (behind_plain by_a' (Some (told_on by_a')) (number_code 6 (counted_depth plan f plan.limit)) (Bltu 10 6 (pos 12) ∷ fail_code true 4) (number_plain 6 (counted_depth plan f plan.limit) (omega arith)) (next_uses by_a' (Some (told_on by_a')) (Bltu 10 6 (pos 12)) (fail_code true 4) (omega arith, omega arith, omega arith) (fail_uses by_a' true 4))))
     check_uses Frame = either_uses by_a' (Some (told_on by_a')) (nat_lt plan.memory (plan.frame f)) (fail_code true 4) (room_code (plan.memory - plan.frame f)) (fail_uses by_a' true 4) (room_uses by_a' (plan.memory - plan.frame f))
     check_uses Abort = fail_uses by_a' true 5
 
@@ -236,32 +241,63 @@ module _ (plan : Plan) (variables : ℕ → ℕ) (good : (f v : ℕ) → IsHome 
     action_uses short (Compute v x) live leaves skips is = no_queue by_a' _ (plain_append _ _ (value_plain (variables f) (plan.home f) (good f) (register_or 5 (plan.home f v)) x (home_low v)) (keep_plain (plan.home f v)))
     action_uses short (Issue kind x) live leaves skips is =
         let b = source (plan.home f) 5 x in
-        one_uses (Some Ld) x (issue_code kind 30 b) (on_a (issue_code kind 30 b) (Some Ld) is (loads_for_e (issue_code kind 30 b) kind b (word (pos 0)) (issue_form kind 30 b) (low x)))
+        one_uses (Some Ld) x (issue_code kind 30 b (pos 0)) (on_a (issue_code kind 30 b (pos 0)) (Some Ld) is (loads_for_e (issue_code kind 30 b (pos 0)) kind b (word (pos 0)) (issue_form kind 30 b (pos 0)) (low x)))
     action_uses short (Own v kind x) live leaves skips is =
         let b = source (plan.home f) 5 x in
         let t = register_or 5 (plan.home f v) in
-        let i = issue_code kind 31 b in
+        let i = issue_code kind 31 b (pos 0) in
         behind_plain by_a' (Some Al) (fetch (plan.home f) 5 x) (i ∷ take_code 31 (plan.home f v)) (fetches x)
-        (first_uses by_a' (Some Al) i (take_code 31 (plan.home f v)) (on_a i (Some Al) is (loads_own i kind b (word (pos 0)) (issue_form kind 31 b) (low x)))
+        (first_uses by_a' (Some Al) i (take_code 31 (plan.home f v)) (on_a i (Some Al) is (loads_own i kind b (word (pos 0)) (issue_form kind 31 b (pos 0)) (low x)))
         (take_uses (Some Al) 31 v (on_a (Addi t 31 (pos 0)) (Some Al) is (takes_own (Addi t 31 (pos 0)) t refl (home_low v)))).only)
     action_uses short (Receive v) live leaves skips is = let t = register_or 5 (plan.home f v) in take_uses (Some Ld) 30 v (on_e (Addi t 30 (pos 0)) (Some Ld) is (takes_load (Addi t 30 (pos 0)) t refl (home_low v)))
     action_uses short (Address width x) live leaves skips is =
         let b = source (plan.home f) 5 x in
-        one_uses (Some Sa) x (address_code width b) (on_a (address_code width b) (Some Sa) is (gives_address (address_code width b) width b (word (pos 0)) (address_form width b) (low x)))
+        one_uses (Some Sa) x (address_code width b (pos 0)) (on_a (address_code width b (pos 0)) (Some Sa) is (gives_address (address_code width b (pos 0)) width b (word (pos 0)) (address_form width b (pos 0)) (low x)))
     action_uses short (Datum x) live leaves skips is = move_uses (Some Sd) 30 x (λ r imm l. on_e (Addi 30 r imm) (Some Sd) is (pushes_datum (Addi 30 r imm) r refl l))
     action_uses short (Offer v) live leaves skips is = move_uses (Some Cq) 28 (Variable v) (λ r imm l. on_a (Addi 28 r imm) (Some Cq) is (pushes_copy (Addi 28 r imm) r refl l))
     action_uses short (Accept v) live leaves skips is = let t = register_or 5 (plan.home f v) in take_uses (Some Cq) 28 v (on_e (Addi t 28 (pos 0)) (Some Cq) is (takes_copy (Addi t 28 (pos 0)) t refl (home_low v)))
     action_uses short (Emit spelling x) live leaves skips is = no_queue by_a' _ (system_plain (variables f) (plan.home f) (good f) (call_number spelling) x)
     action_uses short (Probe check) live leaves skips is = check_uses check
     action_uses short (Tell x) live leaves skips is = move_uses (Some (told_on by_a')) 29 x (λ r imm l. pushes_message by_a' (Addi 29 r imm) r refl l)
-    action_uses short Hear live leaves skips is = hear_uses by_a' by_a'
+    action_uses short (Hear only) live leaves skips is = hear_uses by_a' by_a' only
     action_uses short (Stop x) live leaves skips is = no_queue by_a' _ (stop_plain (variables f) (plan.home f) (good f) by_a' x)
     action_uses short Break live leaves skips is = no_queue by_a' _ (over_plain short leaves)
     action_uses short Continue live leaves skips is = no_queue by_a' _ (over_plain short skips)
     action_uses short (Call v g xs) live leaves skips is = no_queue by_a' _ (call_plain plan variables good f v g xs _)
-    action_uses short (Return x) live leaves skips is = no_queue by_a' _ (leave_plain (variables f) (plan.home f) (good f) x)
+    action_uses short (Return x) live leaves skips is = no_queue by_a' _ (leave_plain (variables f) (plan.home f) (good f) plan.by_a (plan.leaf f) x)
 
     -- ---- pairs
+
+    -- an access at the sum of a variable and a number
+    module _ (v n : ℕ) where
+      abbrev base : ℕ
+      base = source (plan.home f) 5 (Variable v)
+
+      abbrev at_sum : Action → List Inst
+      at_sum a = late_code (plan.home f) a (Binary Plus (Variable v) (Number n))
+
+      issue_uses : (t : ℕ) (kind : LoadKind) → by_a' ≡ true → Uses by_a' (Some Ld) (at_sum (Issue kind (Variable t)))
+      issue_uses t kind is =
+          let i = issue_code kind 30 base (lower n) in
+          one_uses (Some Ld) (Variable v) i (on_a i (Some Ld) is (loads_for_e i kind base (word (lower n)) (issue_form kind 30 base (lower n)) (low (Variable v))))
+
+      address_uses : (t : ℕ) (width : Width) → by_a' ≡ true → Uses by_a' (Some Sa) (at_sum (Address width (Variable t)))
+      address_uses t width is =
+          let i = address_code width base (lower n) in
+          one_uses (Some Sa) (Variable v) i (on_a i (Some Sa) is (gives_address i width base (word (lower n)) (address_form width base (lower n)) (low (Variable v))))
+
+      own_uses : (t d : ℕ) (kind : LoadKind) → by_a' ≡ true → Uses by_a' (Some Al) (at_sum (Own d kind (Variable t)))
+      own_uses t d kind is =
+          let i = issue_code kind 31 base (lower n) in
+          let r = register_or 5 (plan.home f d) in
+          behind_plain by_a' (Some Al) (fetch (plan.home f) 5 (Variable v)) (i ∷ take_code 31 (plan.home f d)) (fetches (Variable v))
+          (first_uses by_a' (Some Al) i (take_code 31 (plan.home f d)) (on_a i (Some Al) is (loads_own i kind base (word (lower n)) (issue_form kind 31 base (lower n)) (low (Variable v))))
+          (take_uses (Some Al) 31 d (on_a (Addi r 31 (pos 0)) (Some Al) is (takes_own (Addi r 31 (pos 0)) r refl (home_low d)))).only)
+
+    reached_uses : (t : ℕ) (y : Value) → is_offset_sum y ≡ true → ForAccesses (λ (a : Action). IsOfSide by_a' a → Uses by_a' (action_queue by_a' a) (late_code (plan.home f) a y)) t
+    reached_uses t y adds =
+        offset_sum (λ (z : Value). ForAccesses (λ (a : Action). IsOfSide by_a' a → Uses by_a' (action_queue by_a' a) (late_code (plan.home f) a z)) t) y adds
+        (λ v n fits. record { issue = λ kind is. issue_uses v n t kind is; own = λ d kind is. own_uses v n t d kind is; address = λ width is. address_uses v n t width is })
 
     -- a value that goes into the queue of store data
     module _ (is : by_a' ≡ false) where
@@ -457,12 +493,26 @@ module _ (plan : Plan) (variables : ℕ → ℕ) (good : (f v : ℕ) → IsHome 
     itself_uses short told true v u live leaves skips is = before_any (no_queue by_a' [] tt)
     itself_uses short told false v u live leaves skips is = before_any (action_uses short (Compute v (Same (Variable u))) live leaves skips is)
 
-    alone_uses : (short : Bool) (known : Facts) (a : Action) (k : Actions) (live : VariableSet) (leaves skips : ℕ) → IsOfSide by_a' a →
+    those_uses : (short : Bool) (known : Facts) (a : Action) (k : Actions) (live : VariableSet) (leaves skips : ℕ) → IsOfSide by_a' a →
         UsesBefore by_a' (tells_within 24 k) (action_queue by_a' a) (needed_code plan variables f (need_of plan.memory known a k) a live (jump_over short leaves) (jump_over short skips))
-    alone_uses short known (Probe (Place width x)) k live leaves skips is =
+    those_uses short known (Probe (Place width x)) k live leaves skips is =
         needed_uses short (tells_within 24 k) (is_good plan.memory width (operand_bounds known x)) (is_aligned width (operand_bounds known x)) width x live leaves skips is
-    alone_uses short known (Compute v (Same (Variable u))) k live leaves skips is = itself_uses short (tells_within 24 k) (nat_eq u v) v u live leaves skips is
-    alone_uses short known a k live leaves skips is = before_any (action_uses short a live leaves skips is)
+    those_uses short known (Compute v (Same (Variable u))) k live leaves skips is = itself_uses short (tells_within 24 k) (nat_eq u v) v u live leaves skips is
+    those_uses short known a k live leaves skips is = before_any (action_uses short a live leaves skips is)
+
+    -- what computes a variable that isn't live uses none
+    dead_uses : (told : Bool) (a : Action) (live : VariableSet) → is_dead a live ≡ true → UsesBefore by_a' told (action_queue by_a' a) []
+    dead_uses told (Compute v y) live e = before_any (no_queue by_a' [] tt)
+    dead_uses told _ live e = absurd cc
+
+    alone_uses : (short : Bool) (known : Facts) (a : Action) (k : Actions) (live : VariableSet) (leaves skips : ℕ) → IsOfSide by_a' a →
+        UsesBefore by_a' (tells_within 24 k) (action_queue by_a' a) (block_code plan variables f (need_of plan.memory known a k) Settled a Settled live (jump_over short leaves) (jump_over short skips))
+    alone_uses short known a k live leaves skips is = by (is_dead a live) refl
+      where
+        by : (b : Bool) → is_dead a live ≡ b
+            → UsesBefore by_a' (tells_within 24 k) (action_queue by_a' a) (if b then [] else needed_code plan variables f (need_of plan.memory known a k) a live (jump_over short leaves) (jump_over short skips))
+        by true e = dead_uses (tells_within 24 k) a live e
+        by false e = those_uses short known a k live leaves skips is
 
     -- the block of an action, where things stand so before it and so behind it
     block_uses : (short : Bool) (known : Facts) (standing : Standing) (m : Mark) (x : Ways) (leaves skips : ℕ) (a : Action) (k : Actions) → Suits standing (Do m a k) x → IsOfSide by_a' a →
@@ -475,7 +525,7 @@ module _ (plan : Plan) (variables : ℕ → ℕ) (good : (f v : ℕ) → IsHome 
         (λ v n d y k e once dead is. before_any (early_uses (Some Cq) 28 (λ i t r form a b. on_e i (Some Cq) is (takes_copy_left i t r form a b)) (λ i t r form a b. on_e i (Some Cq) is (takes_copy_right i t r form a b)) v d y once))
         a k is
     block_uses short known (Late t y) m x leaves skips a k suits is =
-        before_any (passed_on (λ (b : Action). IsOfSide by_a' b → Uses by_a' (action_queue by_a' b) (late_code (plan.home f) b y)) t y a suits.0 (λ d is. action_uses short (Compute d y) none 0 0 tt) (λ last is. send_value is y last) is)
+        before_any (passed_on (λ (b : Action). IsOfSide by_a' b → Uses by_a' (action_queue by_a' b) (late_code (plan.home f) b y)) t y a suits.0 (λ d is. action_uses short (Compute d y) none 0 0 tt) (λ last is. send_value is y last) (λ adds. reached_uses t y adds) is)
     block_uses short known (Early v y) m x leaves skips a k suits is = before_any (subst (λ (b : Action). Uses by_a' (action_queue by_a' b) []) (sym suits.0) (no_queue by_a' [] tt))
 
     -- a branch on what is heard
@@ -662,11 +712,9 @@ module _ (plan : Plan) (variables : ℕ → ℕ) (good : (f v : ℕ) → IsHome 
       function_both code is =
           let enters = entry_code plan variables f (live code nowhere) in
           let does = code_of (is_short code) plan variables f Settled unknown code nowhere 0 0 in
-          let leaves = leave_code (plan.home f) (Some (Number 0)) in
           let both = code_both (is_short code) Settled unknown code nowhere 0 0 tt is in (
-            (λ alone. both.0 (alone_split by_a' q does leaves (alone_split by_a' q enters (does ++ leaves) alone).1).0),
-            (λ free. alone_append by_a' q enters (does ++ leaves) (silent enters (entry_plain plan variables good f (live code nowhere)))
-                (alone_append by_a' q does leaves (both.1 free) (silent leaves (leave_plain (variables f) (plan.home f) (good f) (Some (Number 0)))))),
+            (λ alone. both.0 (alone_split by_a' q enters does alone).1),
+            (λ free. alone_append by_a' q enters does (silent enters (entry_plain plan variables good f (live code nowhere))) (both.1 free)),
           )
 
 pub function_uses : (plan : Plan) (variables : ℕ → ℕ) → ((f v : ℕ) → IsHome (variables f) (plan.home f v)) → (f : ℕ) (code : Actions) → AreOfSide plan.by_a code → (q : Queue) → LeavesAlone plan.by_a q (function_code plan variables f code) ↔ IsUntouched plan.by_a q code

@@ -1,5 +1,5 @@
 -- Each action of a pair is of its side, and what it takes from a queue of the other side has its place in the budget.
-use Rattle.std.proofs.Common.{◌≡◌, ℕ, ◌+◌, ◌≤◌, Bool, true, false, not, ◌&&◌, List, [], ◌∷◌, if◌then◌else◌, refl}
+use Rattle.std.proofs.Common.{◌≡◌, ℕ, ◌+◌, ◌≤◌, Bool, true, false, not, ◌&&◌, List, [], ◌∷◌, if◌then◌else◌, refl, Option, None}
 use Rattle.std.specs.List.{AllByRecursion}
 use Rattle.dae_base.proofs.Laws.{and_true, no_true}
 use Rattle.dae_base.specs.declared.Place.{Place}
@@ -8,7 +8,7 @@ use Rattle.dae_ir.specs.Code.{Done, Do, If, Loop, Each, every}
 use Rattle.dae_ir.specs.Form.{Form}
 use Rattle.dae_ir.specs.Classes.{Classes, is_by_a}
 use Rattle.dae_ir.specs.Rounds.{Jump, Breaks, Continues, Enters, Gives, Halts, Group, Alone, Region, Rounds, stand, is_a_item, is_e_item, rounds}
-use Rattle.dae_ir.specs.Streams.{Actions, mark, when, a_part, e_part, parts, message, gives_address, hears_check, e_last, a_group, e_group, jump_action, inside_of, has_loop, side_of, stream_of}
+use Rattle.dae_ir.specs.Streams.{Actions, mark, when, a_part, e_part, parts, message, gives_address, hears_check, e_last, a_group, e_group, jump_action, inside_of, has_loop, side_of, stream_of, only_failure}
 use Rattle.dae_ir.specs.declared.form.Test.{Test}
 use Rattle.dae_ir.specs.declared.form.Item.{Item}
 use Rattle.dae_ir.specs.declared.form.Item.TheVariants.{Assign, Load, Store, Print, Expect, Break as Leave, Continue as Skip, Call as Enter, Return as Give, Halt}
@@ -22,6 +22,7 @@ use Rattle.dae_ir.specs.declared.stream.Action.{Action}
 use Rattle.dae_ir.specs.declared.stream.Action.TheVariants.{Set, Issue, Own, Receive, Address, Datum, Offer, Accept, Tell, Hear}
 use Rattle.dae_ir.specs.declared.stream.Branch.{Branch}
 use Rattle.dae_ir.specs.declared.stream.Branch.TheVariants.{Silent, Tells, Hears}
+use Rattle.dae_ir.specs.declared.stream.Failure.{Failure}
 use Rattle.dae_ir_pair.specs.Budget.{Covers}
 use Rattle.dae_link_faithful.proofs.Rounds.{regions_ok, Has, StandOk, rounds_have, every_each, PartTaken, LastTaken, ETakes, ATakes, e_takes, a_takes}
 
@@ -31,7 +32,7 @@ module _ (d : Depths) where
   AMay (Receive v) = ⊥
   AMay (Datum x) = ⊥
   AMay (Accept v) = ⊥
-  AMay Hear = 1 ≤ d.eb
+  AMay (Hear only) = 1 ≤ d.eb
   AMay action = Unit {0}
 
   abbrev pub EMay : Action → Type 0
@@ -41,7 +42,7 @@ module _ (d : Depths) where
   EMay (Offer v) = ⊥
   EMay (Receive v) = 1 ≤ d.ld
   EMay (Accept v) = 1 ≤ d.cq
-  EMay Hear = 1 ≤ d.ab
+  EMay (Hear only) = 1 ≤ d.ab
   EMay action = Unit {0}
 
   abbrev pub HearsWith : ℕ → Branch → Type 0
@@ -160,11 +161,11 @@ module _ (d : Depths) where
     parts_e n [] k t h = h
     parts_e n (p ∷ g) k t h = part_e n p _ t.0 (parts_e n g k t.1 h)
 
-    message_e : (n : ℕ) (g : List Part) (k : Actions) → AllByRecursion (PartTaken c d) g → AllE k → AllE (message n Hear g k)
-    message_e n [] k t h = h
-    message_e n (Sets place v y ∷ g) k t h = message_e n g k t.1 h
-    message_e n (Loads place v kind y ∷ g) k t h = message_e n g k t.1 h
-    message_e n (Tests place check ∷ g) k t h = (t.0.2 refl, h)
+    message_e : (only : Option Failure) (n : ℕ) (g : List Part) (k : Actions) → AllByRecursion (PartTaken c d) g → AllE k → AllE (message n (Hear only) g k)
+    message_e only n [] k t h = h
+    message_e only n (Sets place v y ∷ g) k t h = message_e only n g k t.1 h
+    message_e only n (Loads place v kind y ∷ g) k t h = message_e only n g k t.1 h
+    message_e only n (Tests place check ∷ g) k t h = (t.0.2 refl, h)
 
     last_e : (n : ℕ) (last : Last) (k : Actions) → AllE k → AllE (e_last n last k)
     last_e n Nothing k h = h
@@ -173,7 +174,7 @@ module _ (d : Depths) where
     last_e n (Decides place check) k h = (tt, (tt, h))
 
     group_e : (n : ℕ) (g : List Part) (last : Last) (k : Actions) → AllByRecursion (PartTaken c d) g → AllE k → AllE (e_group c n g last k)
-    group_e n g last k t h = message_e n g _ t (parts_e n g _ t (last_e n last k h))
+    group_e n g last k t h = message_e (only_failure g) n g _ t (parts_e n g _ t (last_e n last k h))
 
     jump_e : (jump : Jump) → EMay (jump_action false of c jump)
     jump_e Breaks = tt
@@ -222,7 +223,7 @@ module _ (d : Depths) where
     side_e n Done k is h = h
     side_e n (Do place (Group g last) r) k is h = group_e n g last _ is.0 (side_e (n + 1) r k is.1 h)
     side_e n (Do place (Alone jump) r) k is h = (jump_e jump, side_e n r k is.1 h)
-    side_e n (Do place (Region true code) r) k is h = when_e (has_loop code) (mark place n) Hear _ is.0 (side_e n r k is.1 h)
+    side_e n (Do place (Region true code) r) k is h = when_e (has_loop code) (mark place n) (Hear None) _ is.0 (side_e n r k is.1 h)
     side_e n (Do place (Region false code) r) k is h = inside_e n (rounds c cap false code []) _ (region_e code is.0) (side_e n r k is.1 h)
     side_e n (If place q x y r) k is h = (branch_e q.by_a q.test is.0, side_e 0 x Done is.1 tt, side_e 0 y Done is.2 tt, side_e n r k is.3 h)
     side_e n (Loop place x y r) k is h = (side_e 0 x Done is.0 tt, side_e 0 y Done is.1 tt, side_e n r k is.2 h)

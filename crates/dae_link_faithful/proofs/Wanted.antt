@@ -6,7 +6,7 @@ use Rattle.dae_ir.specs.Code.{Done, Do, If, Loop, Each}
 use Rattle.dae_ir.specs.Form.{Form}
 use Rattle.dae_ir.specs.Classes.{VariableSet, Classes, has_check}
 use Rattle.dae_ir.specs.Rounds.{Jump, Breaks, Continues, Enters, Gives, Halts, Round, Group, Alone, Region, Decision, Rounds, Joins, Closes, is_full, closed, placed, region, one_sided, rounds}
-use Rattle.dae_ir.specs.Streams.{Actions, mark, when, a_part, e_part, parts, message, gives_address, hears_check, e_last, group_of, set_of, kept, jump_action, arguments_in, branch_of, inside_of, has_loop, region_of, side_of}
+use Rattle.dae_ir.specs.Streams.{Actions, mark, when, a_part, e_part, parts, message, gives_address, hears_check, e_last, group_of, set_of, kept, jump_action, arguments_in, branch_of, inside_of, has_loop, region_of, side_of, only_failure}
 use Rattle.dae_ir.specs.declared.form.Item.{Item}
 use Rattle.dae_ir.specs.declared.form.Item.TheVariants.{Assign, Load, Store, Print, Expect, Break as Leave, Continue as Skip, Call as Enter, Return as Give, Halt}
 use Rattle.dae_ir.specs.declared.form.Operand.{Operand}
@@ -19,10 +19,11 @@ use Rattle.dae_ir.specs.declared.stream.Last.{Last}
 use Rattle.dae_ir.specs.declared.stream.Last.TheVariants.{Nothing, Stores, Prints, Decides}
 use Rattle.dae_ir.specs.declared.stream.Mark.{Mark}
 use Rattle.dae_ir.specs.declared.stream.Action.{Action}
-use Rattle.dae_ir.specs.declared.stream.Action.TheVariants.{Tell, Hear}
+use Rattle.dae_ir.specs.declared.stream.Action.TheVariants.{Tell, Hear, Call}
 use Rattle.dae_select_walks.specs.Homes.{AreApart}
 use Rattle.dae_link_faithful.proofs.Usable.{AllNumbers}
 use Rattle.dae_select_walks.specs.Agrees.{Plan}
+use Rattle.dae_select_blocks.specs.Sizes.{one_call, calls_in}
 use Rattle.dae_select_blocks.specs.Wanted.{IsNumber, AreNumbers, IsWantedCheck, IsWantedStop, IsWantedResult, AreGiven, gives, IsWanted, IsWantedBranch}
 
 numbers_given : (callee : VariableSet) (k : ℕ) (xs : List Operand) → AllNumbers xs → AreGiven (arguments_in callee k xs)
@@ -37,12 +38,29 @@ both : (a b : Bool) → (not a && b) ≡ true → a ≡ false
 both true b h = absurd cc
 both false b h = refl
 
+-- ---- leaves: where no call is made, none is wanted of a function that is no leaf
+
+module _ (plan : Plan) (copies : Bool) (entries : ℕ → VariableSet) where
+  no_call : (a : Action) → one_call a ≡ 0 → IsWanted plan copies entries false a → IsWanted plan copies entries true a
+  no_call (Call v g xs) none h = absurd (omega arith)
+  no_call a none h = h
+
+  no_calls : (code : Actions) → calls_in code ≡ 0 → Each (IsWanted plan copies entries false) IsWantedBranch code → Each (IsWanted plan copies entries true) IsWantedBranch code
+  no_calls Done none h = tt
+  no_calls (Do m a k) none h = (no_call a (omega arith) h.0, no_calls k (omega arith) h.1)
+  no_calls (If m b p q k) none h = (h.0, no_calls p (omega arith) h.1, no_calls q (omega arith) h.2, no_calls k (omega arith) h.3)
+  no_calls (Loop m body step k) none h = (no_calls body (omega arith) h.0, no_calls step (omega arith) h.1, no_calls k (omega arith) h.2)
+
+  pub leaf_wanted : (leaf : Bool) (code : Actions) → (leaf ≡ true → calls_in code ≡ 0) → Each (IsWanted plan copies entries false) IsWantedBranch code → Each (IsWanted plan copies entries leaf) IsWantedBranch code
+  leaf_wanted true code none h = no_calls code (none refl) h
+  leaf_wanted false code none h = h
+
 module _ (plan : Plan) (copies : Bool) (entries : ℕ → VariableSet) (of : ℕ → Classes) (cap f : ℕ) where
   abbrev c : Classes
   c = of f
 
   abbrev Wanted : Actions → Type 0
-  Wanted code = Each (IsWanted plan copies entries) IsWantedBranch code
+  Wanted code = Each (IsWanted plan copies entries false) IsWantedBranch code
 
   -- where a variable goes to both sides, copies are allowed
   abbrev pub Copied : ℕ → Type 0
@@ -145,7 +163,7 @@ module _ (plan : Plan) (copies : Bool) (entries : ℕ → VariableSet) (of : ℕ
 
   -- ---- groups
 
-  when_wanted : (b : Bool) (m : Mark) (a : Action) (k : Actions) → (b ≡ true → IsWanted plan copies entries a) → Wanted k → Wanted (when b m a k)
+  when_wanted : (b : Bool) (m : Mark) (a : Action) (k : Actions) → (b ≡ true → IsWanted plan copies entries false a) → Wanted k → Wanted (when b m a k)
   when_wanted true m a k h i = (h refl, i)
   when_wanted false m a k h i = i
 
@@ -163,7 +181,7 @@ module _ (plan : Plan) (copies : Bool) (entries : ℕ → VariableSet) (of : ℕ
   parts_wanted s keeps [] k h i = i
   parts_wanted s keeps (p ∷ g) k h i = keeps p (parts s g k) h.0 (parts_wanted s keeps g k h.1 i)
 
-  message_wanted : (n : ℕ) (a : Action) (g : List Part) (k : Actions) → IsWanted plan copies entries a → Wanted k → Wanted (message n a g k)
+  message_wanted : (n : ℕ) (a : Action) (g : List Part) (k : Actions) → IsWanted plan copies entries false a → Wanted k → Wanted (message n a g k)
   message_wanted n a [] k h i = i
   message_wanted n a (Sets place v y ∷ g) k h i = message_wanted n a g k h i
   message_wanted n a (Loads place v kind y ∷ g) k h i = message_wanted n a g k h i
@@ -192,7 +210,7 @@ module _ (plan : Plan) (copies : Bool) (entries : ℕ → VariableSet) (of : ℕ
 
   group_wanted : (b : Bool) → plan.by_a ≡ b → (n : ℕ) (g : List Part) (last : Last) (k : Actions) → PartsWanted g → LastWanted last → Wanted k → Wanted (group_of b c n g last k)
   group_wanted true a n g last k h l i = parts_wanted (a_part c n) (a_part_wanted a n) g _ h (address_wanted a n last _ l (message_wanted n (Tell (Number 0)) g _ zero_small (hears_wanted n last k i)))
-  group_wanted false a n g last k h l i = message_wanted n Hear g _ tt (parts_wanted (e_part c n) (e_part_wanted a n) g _ h (last_wanted a n last k l i))
+  group_wanted false a n g last k h l i = message_wanted n (Hear (only_failure g)) g _ tt (parts_wanted (e_part c n) (e_part_wanted a n) g _ h (last_wanted a n last k l i))
 
   -- ---- the stream
 
@@ -204,10 +222,10 @@ module _ (plan : Plan) (copies : Bool) (entries : ℕ → VariableSet) (of : ℕ
   stop_wanted true x h = tt
   stop_wanted false x h = h
 
-  jump_wanted : (b : Bool) → plan.by_a ≡ b → (j : Jump) → RoundWanted b (Alone j) → IsWanted plan copies entries (jump_action b of c j)
+  jump_wanted : (b : Bool) → plan.by_a ≡ b → (j : Jump) → RoundWanted b (Alone j) → IsWanted plan copies entries false (jump_action b of c j)
   jump_wanted b a Breaks h = tt
   jump_wanted b a Continues h = tt
-  jump_wanted b a (Enters v g xs) h = (numbers_given (set_of b (of g)) 1 xs h.0, h.1, h.2, h.3)
+  jump_wanted b a (Enters v g xs) h = (numbers_given (set_of b (of g)) 1 xs h.0, h.1, h.2, h.3, refl)
   jump_wanted b a (Gives x) h = result_wanted (set_of b c 0) x h
   jump_wanted b a (Halts x) h = subst (λ (z : Bool). IsWantedStop z (kept (not b) x)) (sym a) (stop_wanted b x h)
 
@@ -230,7 +248,7 @@ module _ (plan : Plan) (copies : Bool) (entries : ℕ → VariableSet) (of : ℕ
 
   region_wanted : (b : Bool) → plan.by_a ≡ b → (n : ℕ) (place : Place) (d : Bool) (code : Form) (k : Actions) → FormWanted b code → Wanted k → Wanted (region_of b of c cap n place d code k)
   region_wanted true a n place true code k h i = inside_wanted true a n (rounds c cap false code []) _ (rounds_wanted true false code h [] tt) (when_wanted (has_loop code) (mark place n) (Tell (Number 0)) k (λ e. zero_small) i)
-  region_wanted false a n place true code k h i = when_wanted (has_loop code) (mark place n) Hear k (λ e. tt) i
+  region_wanted false a n place true code k h i = when_wanted (has_loop code) (mark place n) (Hear None) k (λ e. tt) i
   region_wanted true a n place false code k h i = i
   region_wanted false a n place false code k h i = inside_wanted false a n (rounds c cap false code []) k (rounds_wanted false false code h [] tt) i
 

@@ -6,7 +6,7 @@ use Rattle.dae_ir.specs.Code.{Done, Do, If, Loop, Each}
 use Rattle.dae_ir.specs.Form.{Form}
 use Rattle.dae_ir.specs.Classes.{Classes, has_check}
 use Rattle.dae_ir.specs.Rounds.{Jump, Breaks, Continues, Enters, Gives, Halts, Round, Group, Alone, Region, Decision, Rounds, Joins, Closes, is_full, closed, placed, stays, region, one_sided, rounds}
-use Rattle.dae_ir.specs.Streams.{Actions, mark, when, a_part, e_part, parts, message, gives_address, hears_check, e_last, group_of, set_of, kept, jump_action, inside_of, has_loop, region_of, side_of, stream_of}
+use Rattle.dae_ir.specs.Streams.{Actions, mark, when, a_part, e_part, parts, message, gives_address, hears_check, e_last, group_of, set_of, kept, jump_action, inside_of, has_loop, region_of, side_of, stream_of, only_failure}
 use Rattle.dae_ir.specs.declared.form.Item.{Item}
 use Rattle.dae_ir.specs.declared.form.Item.TheVariants.{Assign, Load, Store, Print, Expect, Break as Leave, Continue as Skip, Call as Enter, Return as Give, Halt}
 use Rattle.dae_ir.specs.declared.form.Operand.TheVariants.{Number}
@@ -76,7 +76,7 @@ module _ (Q : Actions → Type 0) (plain : (m : Mark) (a : Action) (k : Actions)
 
   group_keeps : (by_a : Bool) (c : Classes) (n : ℕ) (g : List Part) (last : Last) (k : Actions) → Q k → Q (group_of by_a c n g last k)
   group_keeps true c n g last k h = parts_keep (a_part c n) (a_part_keeps c n) g _ (address_keeps n last _ (message_keeps n (Tell (Number 0)) g _ refl (hears_keeps n last k h)))
-  group_keeps false c n g last k h = message_keeps n Hear g _ refl (parts_keep (e_part c n) (e_part_keeps c n) g _ (last_keeps n last k h))
+  group_keeps false c n g last k h = message_keeps n (Hear (only_failure g)) g _ refl (parts_keep (e_part c n) (e_part_keeps c n) g _ (last_keeps n last k h))
 
 -- ---- the same of rounds
 
@@ -171,7 +171,7 @@ module _ (by_a : Bool) (of : ℕ → Classes) (cap functions f : ℕ) where
   plain_fits m (Emit spelling x) k e h = (tt, h)
   plain_fits m (Probe check) k e h = (tt, h)
   plain_fits m (Tell x) k e h = (tt, h)
-  plain_fits m Hear k e h = (tt, h)
+  plain_fits m (Hear only) k e h = (tt, h)
   plain_fits m (Stop x) k e h = absurd cc
   plain_fits m Break k e h = absurd cc
   plain_fits m Continue k e h = absurd cc
@@ -195,7 +195,7 @@ module _ (by_a : Bool) (of : ℕ → Classes) (cap functions f : ℕ) where
 
   region_fits : (b : Bool) → b ≡ by_a → (n : ℕ) (place : Place) (d : Bool) (code : Form) (k : Actions) → FormFits code → StreamFits k → StreamFits (region_of b of (of f) cap n place d code k)
   region_fits true e n place true code k h i = inside_fits true e n (rounds (of f) cap false code []) _ (rounds_fit false code h []) (when_keeps StreamFits plain_fits (has_loop code) (mark place n) (Tell (Number 0)) k refl i)
-  region_fits false e n place true code k h i = when_keeps StreamFits plain_fits (has_loop code) (mark place n) Hear k refl i
+  region_fits false e n place true code k h i = when_keeps StreamFits plain_fits (has_loop code) (mark place n) (Hear None) k refl i
   region_fits true e n place false code k h i = i
   region_fits false e n place false code k h i = inside_fits false e n (rounds (of f) cap false code []) k (rounds_fit false code h []) i
 
@@ -274,7 +274,7 @@ module _ (by_a : Bool) (of : ℕ → Classes) (cap functions f : ℕ) where
   plain_tight m (Emit spelling x) k e h = h
   plain_tight m (Probe check) k e h = h
   plain_tight m (Tell x) k e h = h
-  plain_tight m Hear k e h = h
+  plain_tight m (Hear only) k e h = h
   plain_tight m (Stop x) k e h = absurd cc
   plain_tight m Break k e h = absurd cc
   plain_tight m Continue k e h = absurd cc
@@ -295,7 +295,7 @@ module _ (by_a : Bool) (of : ℕ → Classes) (cap functions f : ℕ) where
 
   region_tight : (b : Bool) (n : ℕ) (place : Place) (d : Bool) (code : Form) (k : Actions) → stays false code ≡ true → IsTight k → IsTight (region_of b of (of f) cap n place d code k)
   region_tight true n place true code k h i = inside_tight true n (rounds (of f) cap false code []) _ (rounds_tight false code h []) (when_keeps IsTight plain_tight (has_loop code) (mark place n) (Tell (Number 0)) k refl i)
-  region_tight false n place true code k h i = when_keeps IsTight plain_tight (has_loop code) (mark place n) Hear k refl i
+  region_tight false n place true code k h i = when_keeps IsTight plain_tight (has_loop code) (mark place n) (Hear None) k refl i
   region_tight true n place false code k h i = i
   region_tight false n place false code k h i = inside_tight false n (rounds (of f) cap false code []) k (rounds_tight false code h []) i
 
@@ -355,7 +355,7 @@ module _ (by_a : Bool) (of : ℕ → Classes) (cap functions f : ℕ) where
   plain_closes m (Emit spelling x) k e h = h
   plain_closes m (Probe check) k e h = h
   plain_closes m (Tell x) k e h = h
-  plain_closes m Hear k e h = h
+  plain_closes m (Hear only) k e h = h
   plain_closes m (Stop x) k e h = absurd cc
   plain_closes m Break k e h = absurd cc
   plain_closes m Continue k e h = absurd cc
@@ -376,7 +376,7 @@ module _ (by_a : Bool) (of : ℕ → Classes) (cap functions f : ℕ) where
 
   region_closes : (b : Bool) (n : ℕ) (place : Place) (d : Bool) (code : Form) (k : Actions) → IsClosed k → IsClosed (region_of b of (of f) cap n place d code k)
   region_closes true n place true code k i = inside_closes true n (rounds (of f) cap false code []) _ (when_keeps IsClosed plain_closes (has_loop code) (mark place n) (Tell (Number 0)) k refl i)
-  region_closes false n place true code k i = when_keeps IsClosed plain_closes (has_loop code) (mark place n) Hear k refl i
+  region_closes false n place true code k i = when_keeps IsClosed plain_closes (has_loop code) (mark place n) (Hear None) k refl i
   region_closes true n place false code k i = i
   region_closes false n place false code k i = inside_closes false n (rounds (of f) cap false code []) k i
 

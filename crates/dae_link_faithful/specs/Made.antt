@@ -1,5 +1,5 @@
 -- An image whose two codes are made of the two streams of a form.
-use Rattle.std.specs.Prelude.{◌≡◌, ℕ, ◌+◌, ◌*◌, ◌^◌, ◌≤◌, ◌<◌, Bool, true, false, List, [], ◌∷◌, ◌++◌, length, slice_get, Option, Some, None, is_some}
+use Rattle.std.specs.Prelude.{◌≡◌, ℕ, ◌+◌, ◌*◌, ◌^◌, ◌≤◌, ◌<◌, Bool, true, false, List, [], ◌∷◌, length, slice_get, Option, Some, None, is_some}
 use Rattle.std.specs.List.{AllByRecursion}
 use Rattle.dae_image.specs.declared.Image.{Image}
 use Rattle.dae_machine.specs.Machine.{Setup, code}
@@ -18,7 +18,6 @@ use Rattle.dae_ir.specs.declared.form.Function.{Function}
 use Rattle.dae_ir.specs.declared.form.Item.{Item}
 use Rattle.dae_ir.specs.declared.form.Item.TheVariants.{Assign, Load, Store, Print, Expect, Break as Leave, Continue as Skip, Call as Enter, Return as Give, Halt}
 use Rattle.dae_ir.specs.declared.form.Operand.{Operand}
-use Rattle.dae_ir.specs.declared.form.Operand.TheVariants.{Number}
 use Rattle.dae_ir.specs.declared.form.Check.TheVariants.{Place, Zero}
 use Rattle.dae_ir.specs.declared.form.Test.{Test}
 use Rattle.dae_ir.specs.declared.stream.Class.{Class}
@@ -33,10 +32,9 @@ use Rattle.dae_select_walks.specs.Homes.{AreApart}
 use Rattle.dae_select_walks.specs.Live.{live, lives, nowhere}
 use Rattle.dae_select_walks.specs.Facts.{unknown}
 use Rattle.dae_select_walks.specs.Agrees.{Plan}
-use Rattle.dae_select_blocks.specs.Blocks.{leave_code}
 use Rattle.dae_select_walks.specs.declared.Standing.TheVariants.{Settled}
 use Rattle.dae_select_blocks.specs.Code.{code_of, start_code}
-use Rattle.dae_select_blocks.specs.Sizes.{is_short}
+use Rattle.dae_select_blocks.specs.Sizes.{calls_in, is_short}
 use Rattle.dae_select_blocks.specs.Fits.{Fits}
 use Rattle.dae_select_blocks.specs.Wanted.{IsNumber, AreNumbers, IsPlanOf, IsLinked, IsRight}
 use Rattle.dae_select_blocks.specs.Laws.{opened_with}
@@ -81,11 +79,13 @@ pub record AreWhole (functions : ℕ) (answered : ℕ → Bool) (body : ℕ → 
 abbrev pub setting_of : Setup → Bool → Setting
 setting_of setup by_a = record { side = side by_a; copies = setup.copies; code = code setup (side by_a); memory = setup.memory }
 
--- the code of a function stands where it starts, and what is live at each of its places are its variables, in homes apart
+-- the code of a function stands where it starts, and what is live at each of its places are its variables, in homes apart. A leaf
+-- makes no call
 pub record HasCode (s : Setting) (plan : Plan) (variables : ℕ → ℕ) (f : ℕ) (code : Actions) : Type 0 where
   pub right : AllByRecursion (IsRight (plan.home f) (variables f)) (lives code nowhere)
-  pub there : CodeAt s.code (plan.start f) (code_of (is_short code) plan variables f Settled unknown code nowhere 0 0 ++ leave_code (plan.home f) (Some (Number 0)))
-  pub small : plan.start f + length (code_of (is_short code) plan variables f Settled unknown code nowhere 0 0 ++ leave_code (plan.home f) (Some (Number 0))) < 2 ^ 29
+  pub leaf : plan.leaf f ≡ true → calls_in code ≡ 0
+  pub there : CodeAt s.code (plan.start f) (code_of (is_short code) plan variables f Settled unknown code nowhere 0 0)
+  pub small : plan.start f + length (code_of (is_short code) plan variables f Settled unknown code nowhere 0 0) < 2 ^ 29
 
 -- the code that begins stands at word 0, and there is room for the deepest calls
 pub record HasStart (s : Setting) (plan : Plan) (main frames : ℕ) : Type 0 where

@@ -63,7 +63,7 @@ action_queue by_a (Offer v) = Some Cq
 action_queue by_a (Accept v) = Some Cq
 action_queue by_a (Probe check) = Some (told_on by_a)
 action_queue by_a (Tell x) = Some (told_on by_a)
-action_queue by_a Hear = Some (heard_on by_a)
+action_queue by_a (Hear only) = Some (heard_on by_a)
 action_queue by_a action = None
 
 abbrev pub branch_queue : Bool → Branch → Option Queue

@@ -129,7 +129,7 @@ moved_a q at (acts {x = Accept v} w is size follows) fit = absurd at
 moved_a q at (acts {x = Emit spelling y} w is size follows) fit = absurd at
 moved_a q at (acts {x = Probe check} w is size follows) fit = absurd at
 moved_a q at (acts {x = Tell y} w is size follows) fit = absurd at
-moved_a q at (acts {x = Hear} w is size follows) fit = absurd at
+moved_a q at (acts {x = Hear only} w is size follows) fit = absurd at
 moved_a q at (acts {x = Break} w is size follows) fit = absurd at
 moved_a q at (acts {x = Continue} w is size follows) fit = absurd at
 moved_a q at (acts {x = Call v f xs} w is size follows) fit = absurd at
@@ -163,7 +163,7 @@ moved_e q at (acts {x = Accept v} w is size follows) fit = absurd at
 moved_e q at (acts {x = Emit spelling y} w is size follows) fit = absurd at
 moved_e q at (acts {x = Probe check} w is size follows) fit = absurd at
 moved_e q at (acts {x = Tell y} w is size follows) fit = absurd at
-moved_e q at (acts {x = Hear} w is size follows) fit = absurd at
+moved_e q at (acts {x = Hear only} w is size follows) fit = absurd at
 moved_e q at (acts {x = Break} w is size follows) fit = absurd at
 moved_e q at (acts {x = Continue} w is size follows) fit = absurd at
 moved_e q at (acts {x = Call v f xs} w is size follows) fit = absurd at

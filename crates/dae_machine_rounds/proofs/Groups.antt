@@ -21,8 +21,8 @@ use Rattle.dae_ir.specs.Form.{Program, value, fault, with_stored, with_printed}
 use Rattle.dae_ir.specs.Classes.{Classes}
 use Rattle.dae_ir.specs.Rounds.{is_for_e, is_copied, how_many}
 use Rattle.dae_ir.specs.Canonical.{Sides, Access, Passed, Failed, Strayed, access, execute, finished, grouped}
-use Rattle.dae_ir.specs.Streams.{Actions, mark, message, parts, e_part, gives_address, hears_check, e_last, a_group, e_group}
-use Rattle.dae_ir.specs.Deeds.{Plainly, WithTrap}
+use Rattle.dae_ir.specs.Streams.{Actions, mark, message, parts, e_part, gives_address, hears_check, e_last, a_group, e_group, only_failure}
+use Rattle.dae_ir.specs.Deeds.{Plainly, WithTrap, heard_code}
 use Rattle.dae_ir.specs.declared.form.Operand.TheVariants.{Number}
 use Rattle.dae_ir.specs.declared.form.Operand.{Operand}
 use Rattle.dae_ir.specs.declared.form.Check.{Check}
@@ -46,6 +46,7 @@ use Rattle.dae_machine_rounds.proofs.Slots.{Counts, Loads, held, resting, sendin
 use Rattle.dae_machine_rounds.proofs.PartsA.{HasRoom, Passes, Fails, Comes, parts_come}
 use Rattle.dae_machine_rounds.proofs.PartsE.{parts_taken}
 use Rattle.dae_machine_rounds.proofs.Sends.{Sends, group_sends}
+use Rattle.dae_machine_rounds.proofs.Failures.{FailsAs, group_fails}
 use Rattle.dae_machine_rounds.proofs.Tails.{told_as, bit, has_address, issued_by, addresses, IsPlaced, closes_a, a_hears, a_hears_trap, hear_does, hear_halts, datum_does, emit_does, decide_does, decide_halts}
 use Rattle.dae_machine_rounds.proofs.Landing.{level, exits, IsSound, Stands, Arrived, Ended, Lands}
 use Rattle.dae_machine_rounds.proofs.Play.{one_each, Part, Played, play, Whole, ends_with}
@@ -314,29 +315,29 @@ module _ (setup : Setup) (p : Program) (body_a body_e : ℕ → Actions) (most :
       closes (Decides place check) z = decides_closes place check z (fault p check z.u (behind_e z.words z.copies)) refl
 
       -- a check of A has failed
-      failed : (last : Last) → Stands setup most At_a At_e (begin_a last, begin_e last) ca ce b w s → (x : Counts) → s.queues ≡ resting (level x) → (code : ℕ) (u : World) → any_part is_test g ≡ true
+      failed : (last : Last) → Stands setup most At_a At_e (begin_a last, begin_e last) ca ce b w s → (x : Counts) → s.queues ≡ resting (level x) → (code : ℕ) (u : World) → any_part is_test g ≡ true → heard_code (only_failure g) code ≡ code
           → Fails setup p body_a (gives_address n last (message n (Tell (Number 0)) g (hears_check n last ka))) ba ca (spot (begin_a last) b.a w ca) (level x) [] [] w code u → Lands' (Over (Trapped code) u)
-      failed last stands x queues code u has y =
+      failed last stands x queues code u has alone y =
           let X = record (level x) { ld_reserved = x.ld_reserved + length y.more; al_taken = y.al_taken; al_reserved = y.al_reserved } in
           let q = held X (filled_slots x.ld_reserved x.issued w.memory y.more) [] [] [] [] y.copies in
           let rest = parts (e_part c n) g (e_last n last ke) in
           let part_a : Part setup p true body_a w.memory (spot (begin_a last) b.a w ca) (sending (level x) [] [] [] []) [] (Halted Plainly) (held X (waiting_slots x.ld_reserved x.issued y.more) [] [] (code ∷ []) [] y.copies) (y.moves + y.fills) 0 = record { moves = y.moves; fills = y.fills; instructions = y.least; does = y.does; few = omega arith; some = omega arith } in
           let played = play setup p body_a body_e most At_a At_e code_a code_e positive w.memory s (spot (begin_a last) b.a w ca) (spot (begin_e last) b.e w ce) (sending (level x) [] [] [] []) q X x.ld_reserved x.issued y.more [] [] (code ∷ []) [] y.copies []
           (Halted Plainly) (Halted (WithTrap code)) (y.moves + y.fills) 1 0 0 stands.a stands.e (queues ∙ rest_is (level x)) (subst (λ (z : Queues). WordsWait z) (rest_is (level x)) (rest_words (level x))) stands.memory (none_waits x.issued) part_a
-          (λ wait. record { moves = 1; fills = 0; instructions = 0; does = hear_halts setup p body_e be ce w.memory n g rest b.e w X (filled_slots x.ld_reserved x.issued w.memory y.more) y.copies code has sound.size y.trap wait.ab.0; few = omega arith; some = omega arith }) in
+          (λ wait. record { moves = 1; fills = 0; instructions = 0; does = hear_halts setup p body_e be ce w.memory n g rest b.e w X (filled_slots x.ld_reserved x.issued w.memory y.more) y.copies code has sound.size y.trap wait.ab.0 alone; few = omega arith; some = omega arith }) in
           let t = state_of played.a played.e q s.memory (s.printed ++ []) played.total in
           let cost = y.cost in let all = y.all in
           ends_so s t (8 * w.items) u Plain (Trap code) X x.ld_reserved x.issued w.memory y.more [] [] y.copies (y.moves + y.fills + length y.more + 1 + 0) 0 (rest_empty s.queues (level x) queues)
           (ends_with setup p body_a body_e most At_a At_e code_a code_e positive s t _ _ [] q _ 0 0 played [] [] nothing (inl refl) (omega arith) refl) (omega arith)
           played.agrees_a played.agrees_e refl (stands.memory ∙ sym y.like.memory) (append-nil s.printed ∙ (stands.printed ∙ sym y.like.printed))
 
-      by_access : (last : Last) → GroupFits c setup.depths g last → Stands setup most At_a At_e (begin_a last, begin_e last) ca ce b w s → (x : Counts) → s.queues ≡ resting (level x) → (r : Access) → Sends (any_part is_test g) (how_many (is_for_e c) g) (how_many (is_copied c) g) r
+      by_access : (last : Last) → GroupFits c setup.depths g last → Stands setup most At_a At_e (begin_a last, begin_e last) ca ce b w s → (x : Counts) → s.queues ≡ resting (level x) → (r : Access) → Sends (any_part is_test g) (how_many (is_for_e c) g) (how_many (is_copied c) g) r → FailsAs (only_failure g) r
           → Comes setup p body_a (gives_address n last (message n (Tell (Number 0)) g (hears_check n last ka))) ba ca (length g) (spot (begin_a last) b.a w ca) (level x) [] [] w r → Lands' (grouped p last behind_e r)
-      by_access last fits stands x queues (Passed a words copies u) sent y = closes last (record { fits = fits; stands = stands; x = x; queues = queues; a = a; words = words; copies = copies; u = u; y = y; h = sent.0; i = sent.1 })
-      by_access last fits stands x queues (Failed code u) sent y = failed last stands x queues code u sent y
-      by_access last fits stands x queues (Strayed u) sent y = tt
+      by_access last fits stands x queues (Passed a words copies u) sent alone y = closes last (record { fits = fits; stands = stands; x = x; queues = queues; a = a; words = words; copies = copies; u = u; y = y; h = sent.0; i = sent.1 })
+      by_access last fits stands x queues (Failed code u) sent alone y = failed last stands x queues code u sent alone y
+      by_access last fits stands x queues (Strayed u) sent alone y = tt
 
       pub group_lands : (last : Last) → GroupFits c setup.depths g last → Stands setup most At_a At_e (begin_a last, begin_e last) ca ce b w s → Lands' (grouped p last behind_e (access p c g w b.a))
       group_lands last fits stands =
-          by_access last fits stands stands.counts stands.queues (access p c g w b.a) (group_sends p c g w b.a)
+          by_access last fits stands stands.counts stands.queues (access p c g w b.a) (group_sends p c g w b.a) (group_fails p c g w b.a)
           (parts_come setup p body_a (gives_address n last (message n (Tell (Number 0)) g (hears_check n last ka))) ba ca c n g w b.a (level stands.counts) [] [] sound.size (loads_words w.memory sound.bytes) fits.room)

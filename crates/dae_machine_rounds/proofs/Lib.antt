@@ -3,6 +3,7 @@ mod Both
 mod Slots
 mod Worlds
 mod Sends
+mod Failures
 mod Final
 mod PartsA
 mod PartsE

@@ -1,5 +1,5 @@
 -- Regions land: one side's run of its region, and the message behind a region of A that holds a loop.
-use Rattle.std.proofs.Common.{◌≡◌, ℕ, suc, ◌+◌, ◌*◌, ◌≤◌, inl, inr, Bool, true, false, List, [], ◌∷◌, ◌++◌, length, refl, ap, sym, ◌∙◌, subst, append-nil, length-append, arith}
+use Rattle.std.proofs.Common.{◌≡◌, ℕ, suc, ◌+◌, ◌*◌, ◌≤◌, inl, inr, Bool, true, false, List, [], ◌∷◌, ◌++◌, length, refl, ap, sym, ◌∙◌, subst, append-nil, length-append, arith, None}
 use Rattle.std.proofs.Math.Nat.{mul-add, mul-suc}
 use Rattle.std.proofs.lemmas.Bool.{lt-ltb}
 use Rattle.dae_base.specs.declared.Place.{Place}
@@ -108,7 +108,7 @@ module _ (setup : Setup) (p : Program) (body_a body_e : ℕ → Actions) (most :
   -- ---- A's
 
   module _ (c : Classes) (place : Place) (ng : ℕ) (ka : Actions) (ba : Behind) (ke : Actions) (be : Behind) (ca ce : List Waiting) (b : Sides) (w : World) (s : State) (sound : IsSound setup w) where
-    a_lands : (code : Actions) (loops : Bool) → (loops ≡ true → 1 ≤ setup.depths.ab) → (stands : Stands setup most At_a At_e (point code ba, point (when loops (mark place ng) Hear ke) be) ca ce b w s) → (r : Result Env) → WayFits false r → (loops ≡ false → NotGoing r)
+    a_lands : (code : Actions) (loops : Bool) → (loops ≡ true → 1 ≤ setup.depths.ab) → (stands : Stands setup most At_a At_e (point code ba, point (when loops (mark place ng) (Hear None) ke) be) ca ce b w s) → (r : Result Env) → WayFits false r → (loops ≡ false → NotGoing r)
         → Does_as setup p true body_a w.memory ca (spot (point code ba) b.a w ca) (level stands.counts) w (8 * w.items + 2) n (exit (when loops (mark place ng) (Tell (Number 0)) ka) ba) r → Lands' s (8 * w.items) (exits ka ba ke be) ca ce (on_side (with_a b.e) r)
     a_lands code false room stands (At Next env w') way going y =
         let still : Still w [] w' = subst (λ (z : List ℕ). Still w z w') (y.quiet refl) y.still in
@@ -124,13 +124,13 @@ module _ (setup : Setup) (p : Program) (body_a body_e : ℕ → Actions) (most :
         let size' : length w'.memory ≡ setup.memory = rw still.memory sound.size in
         let tells : Does setup p true body_a w.memory 1 0 0 (spot (point (Do (mark place ng) (Tell (Number 0)) ka) ba) env w' ca) (resting x') [] (Arrives (spot (point ka ba) env w' ca)) (held x' [] [] [] (0 ∷ []) [] []) =
         does_one (acts w' refl size' (pushes went)) (grants {q = resting x'} (lt-ltb 0 setup.depths.ab (omega arith)) refl ends) (tt, tt) in
-        let follows : Follows (deed p false Hear w b.e) (Takes Ab 0 ∷ []) (Leaves' b.e) = takes 0 went in
-        let hears : Does setup p false body_e w.memory 1 0 0 (spot (point (Do (mark place ng) Hear ke) be) b.e w ce) (held x' [] [] [] (0 ∷ []) [] []) [] (Arrives (spot (point ke be) b.e w ce)) (resting x') =
+        let follows : Follows (deed p false (Hear None) w b.e) (Takes Ab 0 ∷ []) (Leaves' b.e) = takes 0 went in
+        let hears : Does setup p false body_e w.memory 1 0 0 (spot (point (Do (mark place ng) (Hear None) ke) be) b.e w ce) (held x' [] [] [] (0 ∷ []) [] []) [] (Arrives (spot (point ke be) b.e w ce)) (resting x') =
         does_one (acts w refl sound.size follows) (grants {q = held x' [] [] [] (0 ∷ []) [] []} refl refl ends) (omega arith, tt) in
-        let part_e : Part setup p false body_e w.memory (spot (point (Do (mark place ng) Hear ke) be) b.e w ce) (held x' [] [] [] (0 ∷ []) [] []) [] (Arrives (spot (point ke be) b.e w ce)) (resting x') 1 0 = record { moves = 1; fills = 0; instructions = 0; does = hears; few = omega arith; some = omega arith } in
-        one_part s (8 * w.items) (point code ba, point (Do (mark place ng) Hear ke) be) (point ka ba, point ke be) ca ce b (record { a = env; e = b.e }) w w' [] (0 ∷ []) y.al_taken y.al_reserved (y.moves + y.fills + 1) 1 stands sound still
+        let part_e : Part setup p false body_e w.memory (spot (point (Do (mark place ng) (Hear None) ke) be) b.e w ce) (held x' [] [] [] (0 ∷ []) [] []) [] (Arrives (spot (point ke be) b.e w ce)) (resting x') 1 0 = record { moves = 1; fills = 0; instructions = 0; does = hears; few = omega arith; some = omega arith } in
+        one_part s (8 * w.items) (point code ba, point (Do (mark place ng) (Hear None) ke) be) (point ka ba, point ke be) ca ce b (record { a = env; e = b.e }) w w' [] (0 ∷ []) y.al_taken y.al_reserved (y.moves + y.fills + 1) 1 stands sound still
         (record { moves = _; fills = _; instructions = _; does = does_both (does_same refl refl refl (y.quiet refl) y.does) tells; few = omega arith; some = omega arith })
-        (subst (λ (z : Spot). Part setup p false body_e w.memory (spot (point (Do (mark place ng) Hear ke) be) b.e w ce) (held x' [] [] [] (0 ∷ []) [] []) [] (Arrives z) (resting x') 1 0) (spot_still (point ke be) b.e w w' [] ce still) part_e) (omega arith)
+        (subst (λ (z : Spot). Part setup p false body_e w.memory (spot (point (Do (mark place ng) (Hear None) ke) be) b.e w ce) (held x' [] [] [] (0 ∷ []) [] []) [] (Arrives z) (resting x') 1 0) (spot_still (point ke be) b.e w w' [] ce still) part_e) (omega arith)
     a_lands code loops room stands (At Leaves env w') way going y = absurd (let e : false ≡ true = way in cc)
     a_lands code loops room stands (At Skips env w') way going y = absurd (let e : false ≡ true = way in cc)
     a_lands code loops room stands (At Returns env w') way going y = absurd way
@@ -142,7 +142,7 @@ module _ (setup : Setup) (p : Program) (body_a body_e : ℕ → Actions) (most :
         let x' = with_al y.al_taken y.al_reserved x in
         let d = did_a setup p body_a most At_a code_a w.memory s stands.memory stands.queues stands.a y.does in
         let ra = d.ran in
-        let follows : Follows (deed p false Hear w b.e) (Takes Ab 0 ∷ []) (Leaves' b.e) = takes 0 went in
+        let follows : Follows (deed p false (Hear None) w b.e) (Takes Ab 0 ∷ []) (Leaves' b.e) = takes 0 went in
         let walked = code_e.moves s.e stands.e (acts w refl sound.size follows) (omega arith, tt) in
         let before = before_message walked.walks in
         let s1 = state_of d.after s.e (resting x') s.memory s.printed ra.total in

@@ -12,7 +12,7 @@ use Rattle.dae_ir.specs.Form.{Form, Program, value, computed, with_printed}
 use Rattle.dae_ir.specs.Classes.{Classes}
 use Rattle.dae_ir.specs.Rounds.{Alone, Breaks, Continues, Rounds, decision, rounds, closed, is_full, is_for_e, is_copied, how_many, is_e_item}
 use Rattle.dae_ir.specs.Canonical.{sets_e, loads_e, execute, does_e, region_meaning}
-use Rattle.dae_ir.specs.Streams.{Actions, mark, message, parts, e_part, e_last, inside_of}
+use Rattle.dae_ir.specs.Streams.{Actions, mark, message, parts, e_part, e_last, inside_of, only_failure}
 use Rattle.dae_ir.specs.declared.form.Operand.{Operand}
 use Rattle.dae_meaning.specs.declared.Spelling.{Spelling}
 use Rattle.dae_ir.specs.declared.form.Test.{Test}
@@ -94,7 +94,7 @@ module _ (setup : Setup) (p : Program) (body : ℕ → Actions) (m : List ℕ) (
   spot_still at env w u text h = rw (h.frame, h.top, h.depth) refl
 
   -- a closed group's items, behind its message
-  group_does : (ng : ℕ) (g : List Part) → AreParts g → (k' k : Actions) (b : Behind) (f : Run Env) → List_does setup p false body m calls n k' k b f → (code : Actions) → IsMessage ng Hear (parts (e_part c ng) g k') false code
+  group_does : (ng : ℕ) (g : List Part) → AreParts g → (k' k : Actions) (b : Behind) (f : Run Env) → List_does setup p false body m calls n k' k b f → (code : Actions) → IsMessage ng (Hear (only_failure g)) (parts (e_part c ng) g k') false code
       → List_does setup p false body m calls n code k b (λ env w. run_parts (does_e c) g env w ▷ f)
   group_does ng g h k' k b f l code silent env w x mem =
       let start = spot (point (parts (e_part c ng) g k') b) env w calls in
@@ -110,10 +110,11 @@ module _ (setup : Setup) (p : Program) (body : ℕ → Actions) (m : List ℕ) (
       subst (λ (r : Result Env). Does_as setup p false body m calls start x w (8 * w.items) n (exit k b) (r ▷ f)) (sym z.is)
       (then_does setup p false body m calls start x w (8 * w.items) 0 (8 * w.items) (8 * z.after.items) 0 n n (point k' b) (exit k b) env' z.after (f env' z.after) (omega arith) (omega arith) (omega arith) first (l env' z.after x (z.still.memory ∙ mem)))
 
-  e_closed_group : (ng : ℕ) (g : List Part) → AreParts g → (k' k : Actions) (b : Behind) (f : Run Env) → List_does setup p false body m calls n k' k b f → List_does setup p false body m calls n (message ng Hear g (parts (e_part c ng) g k')) k b (λ env w. run_parts (does_e c) g env w ▷ f)
+  e_closed_group : (ng : ℕ) (g : List Part) → AreParts g → (k' k : Actions) (b : Behind) (f : Run Env) → List_does setup p false body m calls n k' k b f → List_does setup p false body m calls n (message ng (Hear (only_failure g)) g (parts (e_part c ng) g k')) k b (λ env w. run_parts (does_e c) g env w ▷ f)
   e_closed_group ng g h k' k b f l =
-      let code = message ng Hear g (parts (e_part c ng) g k') in
-      group_does ng g h k' k b f l code (subst (λ (z : Bool). IsMessage ng Hear (parts (e_part c ng) g k') z code) (no_tests g h) (message_is ng Hear g (parts (e_part c ng) g k')))
+      let only = only_failure g in
+      let code = message ng (Hear only) g (parts (e_part c ng) g k') in
+      group_does ng g h k' k b f l code (subst (λ (z : Bool). IsMessage ng (Hear only) (parts (e_part c ng) g k') z code) (no_tests g h) (message_is ng (Hear only) g (parts (e_part c ng) g k')))
 
   close : (ng : ℕ) (g : List Part) → AreParts g → (r : Rounds) (k : Actions) (b : Behind) (f : Run Env) → ((ng : ℕ) → List_does setup p false body m calls n (inside_of false of c ng r k) k b f) → List_does setup p false body m calls n (inside_of false of c ng (closed g r) k) k b (λ env w. run_parts (does_e c) g env w ▷ f)
   close ng [] h r k b f l = l ng

@@ -12,8 +12,8 @@ use Rattle.dae_ir.specs.Code.{Do}
 use Rattle.dae_meaning.specs.Operations.{misplaced, spelled}
 use Rattle.dae_meaning.specs.Variables.{Env}
 use Rattle.dae_ir.specs.Form.{Program, value, fault}
-use Rattle.dae_ir.specs.Streams.{Actions, mark, message, gives_address, hears_check}
-use Rattle.dae_ir.specs.Deeds.{Plainly, WithTrap, deed, Went, Halts}
+use Rattle.dae_ir.specs.Streams.{Actions, mark, message, gives_address, hears_check, only_failure}
+use Rattle.dae_ir.specs.Deeds.{Plainly, WithTrap, deed, Went, Halts, heard_code}
 use Rattle.dae_ir.specs.declared.form.Operand.TheVariants.{Number}
 use Rattle.dae_ir.specs.declared.form.Check.{Check}
 use Rattle.dae_ir.specs.declared.stream.Mark.{Mark}
@@ -63,6 +63,10 @@ addresses (Stores place width x y) env i = record { number = i; addr = value x e
 addresses (Prints place spelling x) env i = []
 addresses (Decides place check) env i = []
 
+-- a word that is heard as this code halts with it
+quits_with : (env : Env) (code heard : ℕ) → nat_eq code 0 ≡ false → heard ≡ code → Follows (if nat_eq code 0 then Went env else Halts (WithTrap heard)) [] (Quits (WithTrap code))
+quits_with env code heard trap same = rw (trap, same) halts
+
 -- the address of a store is good
 abbrev pub IsPlaced : ℕ → Last → Env → Type 0
 IsPlaced size Nothing env = Unit {0}
@@ -111,35 +115,35 @@ module _ (setup : Setup) (p : Program) (body : ℕ → Actions) (b : Behind) (ca
   pub a_hears : (m : List ℕ) (n : ℕ) (place : Place) (check : Check) (k : Actions) (env : Env) (u : World) (c : Counts) (ld : List Slot) (ab cq : List ℕ) → length u.memory ≡ setup.memory
       → Does setup p true body m 1 0 0 (at_code (hears_check n (Decides place check) k) env u) (held c ld [] [] ab (0 ∷ []) cq) [] (Arrives (at_code k env u)) (held c ld [] [] ab [] cq)
   a_hears m n place check k env u c ld ab cq size =
-      let follows : Follows (deed p true Hear u env) (Takes Eb 0 ∷ []) (Leaves env) = takes 0 went in
+      let follows : Follows (deed p true (Hear None) u env) (Takes Eb 0 ∷ []) (Leaves env) = takes 0 went in
       does_one (acts u refl size follows) (grants {q = held c ld [] [] ab (0 ∷ []) cq} refl refl ends) (omega arith, tt)
 
   pub a_hears_trap : (m : List ℕ) (n : ℕ) (place : Place) (check : Check) (k : Actions) (env : Env) (u : World) (c : Counts) (ld : List Slot) (ab cq : List ℕ) (code : ℕ) → length u.memory ≡ setup.memory → nat_eq code 0 ≡ false → code < 2 ^ 32
       → Does setup p true body m 1 0 0 (at_code (hears_check n (Decides place check) k) env u) (held c ld [] [] ab (code ∷ []) cq) [] (Halted Plainly) (held c ld [] [] ab [] cq)
   a_hears_trap m n place check k env u c ld ab cq code size trap word =
       let quits : Follows (if nat_eq code 0 then Went env else Halts Plainly) [] (Quits Plainly) = rw trap halts in
-      let follows : Follows (deed p true Hear u env) (Takes Eb code ∷ []) (Quits Plainly) = takes code quits in
+      let follows : Follows (deed p true (Hear None) u env) (Takes Eb code ∷ []) (Quits Plainly) = takes code quits in
       stops (acts u refl size follows) (grants {q = held c ld [] [] ab (code ∷ []) cq} refl refl ends) (word, tt)
 
   -- ---- E
 
   pub hear_does : (m : List ℕ) (n : ℕ) (g : List Part) (k : Actions) (env : Env) (u : World) (c : Counts) (ld : List Slot) (sa : List StoreAt) (cq : List ℕ) → length u.memory ≡ setup.memory
-      → Does setup p false body m (bit (any_part is_test g)) 0 0 (at_code (message n Hear g k) env u) (held c ld sa [] (told_as (any_part is_test g)) [] cq) [] (Arrives (at_code k env u)) (held c ld sa [] [] [] cq)
-  hear_does m n g k env u c ld sa cq size = by (message_is n Hear g k) where
-    by : {flag : Bool} {code : Actions} → IsMessage n Hear k flag code → Does setup p false body m (bit flag) 0 0 (at_code code env u) (held c ld sa [] (told_as flag) [] cq) [] (Arrives (at_code k env u)) (held c ld sa [] [] [] cq)
+      → Does setup p false body m (bit (any_part is_test g)) 0 0 (at_code (message n (Hear (only_failure g)) g k) env u) (held c ld sa [] (told_as (any_part is_test g)) [] cq) [] (Arrives (at_code k env u)) (held c ld sa [] [] [] cq)
+  hear_does m n g k env u c ld sa cq size = by (message_is n (Hear (only_failure g)) g k) where
+    by : {flag : Bool} {code : Actions} → IsMessage n (Hear (only_failure g)) k flag code → Does setup p false body m (bit flag) 0 0 (at_code code env u) (held c ld sa [] (told_as flag) [] cq) [] (Arrives (at_code k env u)) (held c ld sa [] [] [] cq)
     by silent = here
     by (told place) =
-        let follows : Follows (deed p false Hear u env) (Takes Ab 0 ∷ []) (Leaves env) = takes 0 went in
+        let follows : Follows (deed p false (Hear (only_failure g)) u env) (Takes Ab 0 ∷ []) (Leaves env) = takes 0 went in
         does_one (acts u refl size follows) (grants {q = held c ld sa [] (0 ∷ []) [] cq} refl refl ends) (omega arith, tt)
 
-  pub hear_halts : (m : List ℕ) (n : ℕ) (g : List Part) (k : Actions) (env : Env) (u : World) (c : Counts) (ld : List Slot) (cq : List ℕ) (code : ℕ) → any_part is_test g ≡ true → length u.memory ≡ setup.memory → nat_eq code 0 ≡ false → code < 2 ^ 32
-      → Does setup p false body m 1 0 0 (at_code (message n Hear g k) env u) (held c ld [] [] (code ∷ []) [] cq) [] (Halted (WithTrap code)) (held c ld [] [] [] [] cq)
-  hear_halts m n g k env u c ld cq code has size trap word = by (message_is n Hear g k) has where
-    by : {flag : Bool} {at : Actions} → IsMessage n Hear k flag at → flag ≡ true → Does setup p false body m 1 0 0 (at_code at env u) (held c ld [] [] (code ∷ []) [] cq) [] (Halted (WithTrap code)) (held c ld [] [] [] [] cq)
+  pub hear_halts : (m : List ℕ) (n : ℕ) (g : List Part) (k : Actions) (env : Env) (u : World) (c : Counts) (ld : List Slot) (cq : List ℕ) (code : ℕ) → any_part is_test g ≡ true → length u.memory ≡ setup.memory → nat_eq code 0 ≡ false → code < 2 ^ 32 → heard_code (only_failure g) code ≡ code
+      → Does setup p false body m 1 0 0 (at_code (message n (Hear (only_failure g)) g k) env u) (held c ld [] [] (code ∷ []) [] cq) [] (Halted (WithTrap code)) (held c ld [] [] [] [] cq)
+  hear_halts m n g k env u c ld cq code has size trap word alone = by (message_is n (Hear (only_failure g)) g k) has where
+    by : {flag : Bool} {at : Actions} → IsMessage n (Hear (only_failure g)) k flag at → flag ≡ true → Does setup p false body m 1 0 0 (at_code at env u) (held c ld [] [] (code ∷ []) [] cq) [] (Halted (WithTrap code)) (held c ld [] [] [] [] cq)
     by silent h = absurd (let e : false ≡ true = h in cc)
     by (told place) h =
-        let quits : Follows (if nat_eq code 0 then Went env else Halts (WithTrap code)) [] (Quits (WithTrap code)) = rw trap halts in
-        let follows : Follows (deed p false Hear u env) (Takes Ab code ∷ []) (Quits (WithTrap code)) = takes code quits in
+        let quits = quits_with env code (heard_code (only_failure g) code) trap alone in
+        let follows : Follows (deed p false (Hear (only_failure g)) u env) (Takes Ab code ∷ []) (Quits (WithTrap code)) = takes code quits in
         stops (acts u refl size follows) (grants {q = held c ld [] [] (code ∷ []) [] cq} refl refl ends) (word, tt)
 
   pub datum_does : (m : List ℕ) (at : Mark) (y : _) (k : Actions) (env : Env) (u : World) (c : Counts) (sa : List StoreAt) → length u.memory ≡ setup.memory → 1 ≤ setup.depths.sd

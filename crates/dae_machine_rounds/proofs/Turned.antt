@@ -1,12 +1,12 @@
 -- Which bodies of loops begin with a test that is told: none in a region, and elsewhere those before whose first condition the
 -- side does nothing.
-use Rattle.std.proofs.Common.{◌≡◌, ℕ, ◌+◌, Bool, true, false, ◌&&◌, not, List, [], ◌∷◌, refl, arith}
+use Rattle.std.proofs.Common.{◌≡◌, ℕ, ◌+◌, Bool, true, false, ◌&&◌, not, List, [], ◌∷◌, refl, arith, None}
 use Rattle.dae_base.specs.declared.Place.{Place}
 use Rattle.dae_ir.specs.Code.{Done, Do, If, Loop}
 use Rattle.dae_ir.specs.Form.{Form}
 use Rattle.dae_ir.specs.Classes.{Classes}
 use Rattle.dae_ir.specs.Rounds.{Group, Alone, Region, Rounds, rounds}
-use Rattle.dae_ir.specs.Streams.{Actions, mark, when, a_part, e_part, parts, message, gives_address, hears_check, e_last, e_group, group_of, inside_of, has_loop, region_of}
+use Rattle.dae_ir.specs.Streams.{Actions, mark, when, a_part, e_part, parts, message, gives_address, hears_check, e_last, e_group, group_of, inside_of, has_loop, region_of, only_failure}
 use Rattle.dae_ir.specs.declared.form.Operand.TheVariants.{Number}
 use Rattle.dae_ir.specs.declared.stream.Action.{Action}
 use Rattle.dae_ir.specs.declared.stream.Action.TheVariants.{Set, Issue, Own, Receive, Offer, Accept, Tell, Hear}
@@ -86,7 +86,7 @@ module _ (c : Classes) (n : ℕ) where
       told_check last k (told_message (Tell (Number 0)) g checks (told_address last told (told_parts (a_part c n) told_a_part g (gives_address n last told) h)))
   told_group false g last k h =
       let rest = e_last n last k in
-      told_e_last last k (told_parts (e_part c n) told_e_part g rest (told_message Hear g (parts (e_part c n) g rest) h))
+      told_e_last last k (told_parts (e_part c n) told_e_part g rest (told_message (Hear (only_failure g)) g (parts (e_part c n) g rest) h))
 
 -- ---- regions
 
@@ -105,5 +105,5 @@ module _ (of : ℕ → Classes) (c : Classes) where
 
   -- E does nothing in a region
   pub told_region : (cap n : ℕ) (place : Place) (by_a : Bool) (code : Form) (k : Actions) → IsTold (region_of false of c cap n place by_a code k) → IsTold k
-  told_region cap n place true code k h = told_when (has_loop code) (mark place n) Hear k h
+  told_region cap n place true code k h = told_when (has_loop code) (mark place n) (Hear None) k h
   told_region cap n place false code k h = told_inside false n (rounds c cap false code []) k h

@@ -1,4 +1,4 @@
--- Words of lists of steps, as far as they are counted, and lists with none.
+-- Words and calls of lists of steps, as far as they are counted, and lists with none.
 use Rattle.std.proofs.Common.{◌≡◌, ℕ, ◌+◌, ◌-◌, ◌^◌, ◌<◌, ◌≤◌, Bool, true, false, List, ◌∷◌, length, drop, get_or, refl, ap, sym, ◌∙◌, arith, []}
 use Rattle.std.specs.Prelude.{Option, Some, None, Vec, nat_eq, nat_lt, if◌then◌else◌, ◌&&◌}
 use Rattle.std.specs.declared.alloc.Global.{Global}
@@ -15,7 +15,7 @@ use Rattle.dae_select_live.proofs.Laws.{onto_if, onto_loop}
 use Rattle.dae_select_walks.specs.Compiled.{is_told}
 use Rattle.dae_select_walks.specs.Facts.{Facts, only_leaves, facts_past_if}
 use Rattle.dae_select_blocks.specs.Code.{does_nothing, leaves_first}
-use Rattle.dae_select_blocks.specs.Sizes.{most_words_in}
+use Rattle.dae_select_blocks.specs.Sizes.{calls_in, most_words_in}
 use Rattle.dae_select.specs.Counting.{capped}
 use Rattle.dae_select.specs.Growing.{first_test, facts_in_tail}
 use Rattle.dae_select.specs.declared.making.PlacedBranch.{PlacedBranch}
@@ -34,6 +34,10 @@ capped_sum k m n = by (nat_lt m (2 ^ 17)) (nat_lt n (2 ^ 17)) refl refl
 
 no_more : (m n : ℕ) → 0 + m + n ≡ m + n
 no_more m n = omega arith
+
+-- the same of two
+capped_both : (m n : ℕ) → capped (capped m + capped n) ≡ capped (m + n)
+capped_both m n = ap capped (sym (no_more (capped m) (capped n))) ∙ capped_sum 0 m n ∙ ap capped (no_more m n)
 
 -- a step in front of others
 pub onto_words : (s : Step) (k : Actions) → most_words_in (step_onto s k) ≡ most_words_in (step_onto s Done) + most_words_in k
@@ -66,9 +70,44 @@ one_counted steps j s one sum all some le is so_far e h =
     let rest = most_words_in (actions_of (drop j steps)) in let here = most_words_in (step_onto s Done) in
     let back : j - 1 + 1 ≡ j = omega arith in
     let at' : drop (j - 1) steps ≡ s ∷ drop j steps = drop_at steps (j - 1) s (omega arith) is ∙ ap (λ (i : ℕ). s ∷ drop i steps) back in
-    let two : capped (capped here + capped rest) ≡ capped (here + rest) = ap capped (sym (no_more (capped here) (capped rest))) ∙ capped_sum 0 here rest ∙ ap capped (no_more here rest) in
+    let two : capped (capped here + capped rest) ≡ capped (here + rest) = capped_both here rest in
     h ∙ ap (λ (n : ℕ). capped (n + sum)) e ∙ ap (λ (n : ℕ). capped (capped here + n)) so_far ∙ two ∙ ap capped (sym (onto_words s (actions_of (drop j steps))))
     ∙ ap (λ (l : List Step). capped (most_words_in (actions_of l))) (sym at')
+
+-- ---- calls, counted alike
+
+onto_calls : (s : Step) (k : Actions) → calls_in (step_onto s k) ≡ calls_in (step_onto s Done) + calls_in k
+onto_calls (Act m x) k = omega arith
+onto_calls (If' m b s p t q) k = omega arith
+onto_calls (Loop' m s p t q) k = omega arith
+
+pub if_calls : (s : Step) (m : Mark) (b : Branch) (p q : Vec Step Global) (first second result : ℕ) → s ≡ step.If m b p q → first ≡ capped (calls_in (actions_of p.items)) → second ≡ capped (calls_in (actions_of q.items))
+    → result ≡ capped (first + second) → result ≡ capped (calls_in (step_onto s Done))
+if_calls s m b p q first second result is e h all =
+    let whole : step_onto s Done ≡ If m b (actions_of p.items) (actions_of q.items) Done = ap (λ (z : Step). step_onto z Done) is ∙ onto_if m b p q Done in
+    let sum : calls_in (actions_of p.items) + calls_in (actions_of q.items) ≡ calls_in (If m b (actions_of p.items) (actions_of q.items) Done) = omega arith in
+    all ∙ ap (λ (n : ℕ). capped (n + second)) e ∙ ap (λ (n : ℕ). capped (capped (calls_in (actions_of p.items)) + n)) h
+    ∙ capped_both (calls_in (actions_of p.items)) (calls_in (actions_of q.items)) ∙ ap capped sum ∙ ap (λ (c : Actions). capped (calls_in c)) (sym whole)
+
+pub loop_calls : (s : Step) (m : Mark) (p q : Vec Step Global) (first second result : ℕ) → s ≡ step.Loop m p q → first ≡ capped (calls_in (actions_of p.items)) → second ≡ capped (calls_in (actions_of q.items))
+    → result ≡ capped (first + second) → result ≡ capped (calls_in (step_onto s Done))
+loop_calls s m p q first second result is e h all =
+    let whole : step_onto s Done ≡ Loop m (actions_of p.items) (actions_of q.items) Done = ap (λ (z : Step). step_onto z Done) is ∙ onto_loop m p q Done in
+    let sum : calls_in (actions_of p.items) + calls_in (actions_of q.items) ≡ calls_in (Loop m (actions_of p.items) (actions_of q.items) Done) = omega arith in
+    all ∙ ap (λ (n : ℕ). capped (n + second)) e ∙ ap (λ (n : ℕ). capped (capped (calls_in (actions_of p.items)) + n)) h
+    ∙ capped_both (calls_in (actions_of p.items)) (calls_in (actions_of q.items)) ∙ ap capped sum ∙ ap (λ (c : Actions). capped (calls_in c)) (sym whole)
+
+-- the calls of the steps from the j-th on
+abbrev pub CallsFrom : List Step → ℕ → ℕ → Type 0
+CallsFrom steps j n = n ≡ capped (calls_in (actions_of (drop j steps)))
+
+pub one_call_counted : (steps : List Step) (j : ℕ) (s : Step) (one sum all : ℕ) → 0 < j → j ≤ length steps → s ≡ get_or steps (j - 1) s → CallsFrom steps j sum → one ≡ capped (calls_in (step_onto s Done)) → all ≡ capped (one + sum) → CallsFrom steps (j - 1) all
+one_call_counted steps j s one sum all some le is so_far e h =
+    let rest = calls_in (actions_of (drop j steps)) in let here = calls_in (step_onto s Done) in
+    let back : j - 1 + 1 ≡ j = omega arith in
+    let at' : drop (j - 1) steps ≡ s ∷ drop j steps = drop_at steps (j - 1) s (omega arith) is ∙ ap (λ (i : ℕ). s ∷ drop i steps) back in
+    h ∙ ap (λ (n : ℕ). capped (n + sum)) e ∙ ap (λ (n : ℕ). capped (capped here + n)) so_far ∙ capped_both here rest ∙ ap capped (sym (onto_calls s (actions_of (drop j steps))))
+    ∙ ap (λ (l : List Step). capped (calls_in (actions_of l))) (sym at')
 
 -- a list with no steps does nothing
 some_step : (s : Step) (steps : List Step) → nat_eq (length (s ∷ steps)) 0 ≡ false

@@ -4,7 +4,7 @@ ghost use Rattle.std.specs.Prelude.{◌≡◌, ◌+◌, ◌*◌, ◌≤◌, ◌^
 ghost use Rattle.dae_ir.specs.Code.{Done};
 ghost use Rattle.dae_ir.specs.Sizes.{action_weight};
 ghost use Rattle.dae_ir.specs.Streams.{actions_of, step_onto};
-ghost use Rattle.dae_select_blocks.specs.Sizes.{one_call, most_words_in, is_short};
+ghost use Rattle.dae_select_blocks.specs.Sizes.{calls_in, one_call, most_words_in, is_leaf, is_short};
 ghost use Rattle.dae_select_blocks.specs.Code.{is_near};
 ghost use Rattle.dae_select.specs.Counting.{capped};
 ghost use Rattle.dae_select_values.specs.Jumps.{is_jal};
@@ -56,6 +56,49 @@ fn list_words(steps: &[Step]) -> u64
         words = capped(step_words(&steps[index]) + words);
     }
     words
+}
+
+/// The calls that an action is, as far as they are counted.
+fn action_calls(action: &Action) -> u64
+    ensures calls { result ≡ capped (one_call action.now) }
+    ensures few { result ≤ 2 ^ 17 }
+{
+    match action {
+        Action::Call(_, _, _) => 1,
+        _ => 0,
+    }
+}
+
+#[cycle(calls)]
+fn step_calls(step: &Step) -> u64
+    ensures calls { result ≡ capped (calls_in (step_onto step.now Done)) }
+    ensures few { result ≤ 2 ^ 17 }
+{
+    match step {
+        Step::Act(_, action) => action_calls(action),
+        Step::If(_, _, p, q) => capped(list_calls(p) + list_calls(q)),
+        Step::Loop(_, body, step) => capped(list_calls(body) + list_calls(step)),
+    }
+}
+
+/// The calls that a list of actions makes, as far as they are counted.
+#[cycle(calls)]
+fn list_calls(steps: &[Step]) -> u64
+    ensures calls { result ≡ capped (calls_in (actions_of steps.now)) }
+    ensures few { result ≤ 2 ^ 17 }
+{
+    let mut calls = 0;
+    for index in (0..steps.len()).rev() {
+        calls = capped(step_calls(&steps[index]) + calls);
+    }
+    calls
+}
+
+/// Whether a function is a leaf: its code makes no call.
+pub fn is_leaf(body: &[Step]) -> bool
+    ensures { result ≡ is_leaf (actions_of body.now) }
+{
+    list_calls(body) < 1
 }
 
 /// Whether JAL reaches over the code of a function in any case.

@@ -17,8 +17,8 @@ use crate::growing::{GrowingCode, PlacedWord};
 use crate::making::Exits;
 use crate::walking::list_code;
 use dae_encode::Inst;
-use dae_ir::{Operand, Step};
-use dae_select_calls::{Layouts, Making, entry_code, leave_code};
+use dae_ir::Step;
+use dae_select_calls::{Layouts, Making, entry_code};
 use dae_select_facts::unknown;
 use dae_select_live::LiveSet;
 use std::alloc::{AllocError, Global};
@@ -52,7 +52,7 @@ pub struct FunctionCode {
     pub places: Vec<PlacedWord>,
 }
 
-/// The code of a function of a side: what it begins with, its actions, and a return of 0 behind them.
+/// The code of a function of a side: what it begins with, and its actions.
 pub fn function_code(
     alloc: Global,
     layouts: &Layouts,
@@ -87,7 +87,6 @@ pub fn function_code(
     let entry = code.len();
     let places = actions.places(alloc, entry)?;
     code.extend_from_slice(actions.into_vec().as_slice())?;
-    leave_code(&mut code, homes, Some(Operand::Number(0)))?;
     Ok(FunctionCode {
         code,
         entry,

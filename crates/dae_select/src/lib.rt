@@ -2,6 +2,7 @@
 // words at which functions are entered. Each clause is the block's definition. Nothing fails but for want of memory.
 #![tactic(auto)]
 
+pub use counting::is_leaf;
 pub use functions::{FunctionCode, function_code};
 pub use growing::{PlacedWord, add_places};
 

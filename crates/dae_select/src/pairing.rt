@@ -5,7 +5,7 @@ ghost use Rattle.std.specs.Prelude.{◌≡◌, ◌≤◌, ◌++◌, length, true
 ghost use Rattle.dae_select_walks.specs.Live.{in_operand};
 ghost use Rattle.dae_select_live.specs.Members.{member};
 ghost use Rattle.dae_select_blocks.specs.Blocks.{value_code};
-ghost use Rattle.dae_select_blocks.specs.Code.{either_one, written_last, passes_on, reads_once, taken_standing, pair_standing, with_home, late_code, early_code, taking_code};
+ghost use Rattle.dae_select_blocks.specs.Code.{either_one, written_last, is_offset_sum, passes_on, reads_once, taken_standing, pair_standing, with_home, late_code, early_code, taking_code};
 ghost use Rattle.dae_select_walks.specs.declared.Standing.TheVariants.{Early as IsEarly};
 ghost use Rattle.dae_select_walks.specs.declared.Home.TheVariants.{Register as IsRegister};
 ghost use Rattle.dae_ir.specs.declared.form.Value.TheVariants.{Binary as IsBinary, Holds as IsHolds};
@@ -18,8 +18,9 @@ use dae_ir::{Action, Operand, Step, Test, Value};
 use dae_meaning::{Comparison, Operator};
 use dae_select_live::LiveSet;
 use dae_select_values::{
-    HomeTable, as_immediate, compare, compare_number, exchanged, extend, fetch, home_of, immediate,
-    keep, operation, register_or, set_code, source, value_code,
+    HomeTable, address_at_sum, as_immediate, compare, compare_number, exchanged, extend, fetch,
+    home_of, immediate, is_immediate, issue_at_sum, keep, operation, own_at_sum, register_or,
+    set_code, source, value_code,
 };
 use dae_select_walks::Standing;
 use std::alloc::AllocError;
@@ -45,13 +46,29 @@ fn written_last(value: Value) -> bool
     }
 }
 
-/// Whether an action only moves this variable, which has this value, to where the value can be computed.
+/// Whether a value is the sum of a variable and a number that an access can add to it.
+fn is_offset_sum(value: Value) -> bool
+    ensures { result ≡ is_offset_sum value }
+{
+    match value {
+        Value::Binary(Operator::Add, Operand::Variable(_), Operand::Number(number)) => {
+            is_immediate(number)
+        }
+        _ => false,
+    }
+}
+
+/// Whether an action only moves this variable, which has this value, to where the value can be computed, or accesses memory there
+/// and can add the value up itself.
 fn passes_on(variable: u32, value: Value, action: &Action) -> bool
     ensures { result ≡ passes_on variable value action.now }
 {
     match action {
         Action::Set(_, Value::Same(Operand::Variable(moved))) => *moved == variable,
         Action::Datum(Operand::Variable(moved)) => *moved == variable && written_last(value),
+        Action::Issue(_, Operand::Variable(base)) => *base == variable && is_offset_sum(value),
+        Action::Own(_, _, Operand::Variable(base)) => *base == variable && is_offset_sum(value),
+        Action::Address(_, Operand::Variable(base)) => *base == variable && is_offset_sum(value),
         _ => false,
     }
 }
@@ -152,7 +169,7 @@ pub fn standing_between(
 
 // ---- their blocks
 
-/// The block of an action that moves a variable on, where this value is computed in its stead.
+/// The block of an action that moves a variable on, where this value is computed in its stead, or that accesses memory there.
 pub fn late_code(
     code: &mut Vec<Inst>,
     homes: HomeTable,
@@ -166,6 +183,9 @@ pub fn late_code(
     match action {
         Action::Set(target, _) => set_code(code, homes, *target, value),
         Action::Datum(_) => value_code(code, homes, 30, value),
+        Action::Issue(kind, _) => issue_at_sum(code, homes, *kind, 30, value),
+        Action::Own(variable, kind, _) => own_at_sum(code, homes, *variable, *kind, value),
+        Action::Address(width, _) => address_at_sum(code, homes, *width, value),
         _ => Ok(()),
     }
 }

@@ -6,7 +6,7 @@ ghost use Rattle.dae_select_walks.specs.Facts.{facts_at_turn, facts_at_step};
 ghost use Rattle.dae_select_facts.specs.Knowns.{facts_by};
 ghost use Rattle.dae_select_live.specs.Members.{member};
 ghost use Rattle.dae_select_blocks.specs.Blocks.{take_code, own_code, jump_over};
-ghost use Rattle.dae_select_blocks.specs.Code.{action_code, block_code, call_code, branch_code};
+ghost use Rattle.dae_select_blocks.specs.Code.{action_code, block_code, call_code, branch_code, is_dead};
 ghost use Rattle.dae_select_blocks.specs.Code.{does_nothing, past_code, leaves_first};
 ghost use Rattle.dae_select_walks.specs.Compiled.{is_told};
 ghost use Rattle.dae_select.specs.Grown.{glue, acting, in_front};
@@ -111,7 +111,7 @@ fn action_code(
         }
         Action::Probe(check) => check_code(code, making, *check),
         Action::Tell(operand) => move_code(code, homes, 29, *operand),
-        Action::Hear => hear_code(code, side),
+        Action::Hear(only) => hear_code(code, side, *only),
         Action::Stop(status) => stop_code(code, side, homes, *status),
         Action::Break => jump_over(code, making.jumps, ahead, onward.exits.leaves),
         Action::Continue => jump_over(code, making.jumps, ahead, onward.exits.skips),
@@ -122,7 +122,17 @@ fn action_code(
             };
             called_code(code, making, callee, arguments.as_slice(), onward.next)
         }
-        Action::Return(answer) => leave_code(code, homes, *answer),
+        Action::Return(answer) => leave_code(code, making, *answer),
+    }
+}
+
+/// Whether an action only computes a variable that isn't live behind it.
+fn is_dead(action: &Action, live: &LiveSet) -> bool
+    ensures { result ≡ is_dead action.now (member live.now) }
+{
+    match action {
+        Action::Set(variable, _) => !live.contains(*variable),
+        _ => false,
     }
 }
 
@@ -147,11 +157,16 @@ fn block_code(
         (Standing::Settled, Standing::Early(target, value)) => {
             taking_code(code, making.homes, action, target, value)
         }
-        (Standing::Settled, Standing::Settled) => match around.need {
-            Need::All => action_code(code, making, action, onward, ahead),
-            Need::Ends => placed_code(code, making.homes, action),
-            Need::Nothing => Ok(()),
-        },
+        (Standing::Settled, Standing::Settled) => {
+            if is_dead(action, onward.next) {
+                return Ok(());
+            }
+            match around.need {
+                Need::All => action_code(code, making, action, onward, ahead),
+                Need::Ends => placed_code(code, making.homes, action),
+                Need::Nothing => Ok(()),
+            }
+        }
     }
 }
 

@@ -1,6 +1,6 @@
 -- Each block does its action.
 use Rattle.std.proofs.Common.{◌≡◌, ◌≢◌, ℕ, ◌^◌, ◌<◌, true, false, ◌&&◌, List, [], ◌∷◌, ◌++◌, Some, refl, arith, append-nil}
-use Rattle.std.specs.Prelude.{nat_lt, pos}
+use Rattle.std.specs.Prelude.{nat_lt, ℤ, pos}
 use Rattle.std.proofs.lemmas.Bool.Decides.{nat_tests}
 use Rattle.dae_base.specs.Words.{plus, word}
 use Rattle.dae_base.specs.declared.Side.TheVariants.{A, E}
@@ -40,17 +40,17 @@ use Rattle.dae_select_blocks.specs.Wanted.{IsNumber, AreNumbers}
 use Rattle.dae_select_blocks.proofs.Computing.{plus_zero, register_plain, source_plain, is_scratch, runs_one, runs_value}
 use Rattle.dae_select_blocks.proofs.Uses.{takes_load, takes_own, takes_copy, pushes_datum, pushes_copy, pushes_message, issues, issues_own, gives_address}
 
-issue_is : (kind : LoadKind) (queue base : ℕ) → effect (issue_code kind queue base) ≡ DoesLoad kind queue base (word (pos 0))
-issue_is I8 queue base = refl
-issue_is U8 queue base = refl
-issue_is I16 queue base = refl
-issue_is U16 queue base = refl
-issue_is I32 queue base = refl
+pub issue_is : (kind : LoadKind) (queue base : ℕ) (offset : ℤ) → effect (issue_code kind queue base offset) ≡ DoesLoad kind queue base (word offset)
+issue_is I8 queue base offset = refl
+issue_is U8 queue base offset = refl
+issue_is I16 queue base offset = refl
+issue_is U16 queue base offset = refl
+issue_is I32 queue base offset = refl
 
-address_is : (width : Width) (base : ℕ) → effect (address_code width base) ≡ DoesStore width base 30 (word (pos 0))
-address_is B1 base = refl
-address_is B2 base = refl
-address_is B4 base = refl
+pub address_is : (width : Width) (base : ℕ) (offset : ℤ) → effect (address_code width base offset) ≡ DoesStore width base 30 (word offset)
+address_is B1 base offset = refl
+address_is B2 base offset = refl
+address_is B4 base offset = refl
 
 module _ (s : Setting) (plan : Plan) (variables : ℕ → ℕ) (fine : Fits s plan variables) (live live' : VariableSet) (m : Moment) where
   -- behind the block the processor agrees with the moment that has these variables
@@ -124,28 +124,28 @@ module _ (s : Setting) (plan : Plan) (variables : ℕ → ℕ) (fine : Fits s pl
   module _ (by_a : s.side ≡ A) where
     -- Issue
     pub issue_done : {c : Contents} (kind : LoadKind) (x : Operand) → Ready plan live m c → Reads x → IsNumber x → Stays →
-        Does' (fetch (plan.home m.function) 5 x ++ issue_code kind 30 (source (plan.home m.function) 5 x) ∷ []) c (Reserve Ld kind (value x m.env) (Went m.env))
+        Does' (fetch (plan.home m.function) 5 x ++ issue_code kind 30 (source (plan.home m.function) 5 x) (pos 0) ∷ []) c (Reserve Ld kind (value x m.env) (Went m.env))
     issue_done kind x h reads number stays =
-        runs_one s plan variables fine To x (issue_code kind 30 (source (plan.home m.function) 5 x) ∷ []) h reads number (λ c1 h1 got.
+        runs_one s plan variables fine To x (issue_code kind 30 (source (plan.home m.function) 5 x) (pos 0) ∷ []) h reads number (λ c1 h1 got.
         let r = source (plan.home m.function) 5 x in let plain = source_plain s plan variables fine To m.function 5 x (omega arith) in
-        runs_reserve s plan.private To (λ good k w small here is p shows. step_shared s plan.private (issue_code kind 30 r) kind Ld 30 r (word (pos 0)) (value x m.env) w shows here is small (issue_is kind 30 r) (rw by_a (issues s.copies kind r (word (pos 0)) plain)) plain (addressed x h1 got) good) (ends m.env (ready_stays stays h1)))
+        runs_reserve s plan.private To (λ good k w small here is p shows. step_shared s plan.private (issue_code kind 30 r (pos 0)) kind Ld 30 r (word (pos 0)) (value x m.env) w shows here is small (issue_is kind 30 r (pos 0)) (rw by_a (issues s.copies kind r (word (pos 0)) plain)) plain (addressed x h1 got) good) (ends m.env (ready_stays stays h1)))
 
     -- Own
     pub own_done : {c : Contents} (v : ℕ) (kind : LoadKind) (x : Operand) → Ready plan live m c → Reads x → IsNumber x → Apart v →
-        Does' (fetch (plan.home m.function) 5 x ++ issue_code kind 31 (source (plan.home m.function) 5 x) ∷ take_code 31 (plan.home m.function v)) c (Reserve Al kind (value x m.env) (Take Al (λ y. Went (form.put true v y m.env))))
+        Does' (fetch (plan.home m.function) 5 x ++ issue_code kind 31 (source (plan.home m.function) 5 x) (pos 0) ∷ take_code 31 (plan.home m.function v)) c (Reserve Al kind (value x m.env) (Take Al (λ y. Went (form.put true v y m.env))))
     own_done v kind x h reads number apart =
-        runs_one s plan variables fine To x (issue_code kind 31 (source (plan.home m.function) 5 x) ∷ take_code 31 (plan.home m.function v)) h reads number (λ c1 h1 got.
+        runs_one s plan variables fine To x (issue_code kind 31 (source (plan.home m.function) 5 x) (pos 0) ∷ take_code 31 (plan.home m.function v)) h reads number (λ c1 h1 got.
         let r = source (plan.home m.function) 5 x in let plain = source_plain s plan variables fine To m.function 5 x (omega arith) in
-        runs_reserve s plan.private To (λ good k w small here is p shows. step_shared s plan.private (issue_code kind 31 r) kind Al 31 r (word (pos 0)) (value x m.env) w shows here is small (issue_is kind 31 r) (rw by_a (issues_own s.copies kind r (word (pos 0)) plain)) plain (addressed x h1 got) good)
+        runs_reserve s plan.private To (λ good k w small here is p shows. step_shared s plan.private (issue_code kind 31 r (pos 0)) kind Al 31 r (word (pos 0)) (value x m.env) w shows here is small (issue_is kind 31 r (pos 0)) (rw by_a (issues_own s.copies kind r (word (pos 0)) plain)) plain (addressed x h1 got) good)
         (taken v 31 Al refl (λ t l. rw by_a (takes_own s.copies t l)) h1 apart))
 
     -- Address
     pub address_done : {c : Contents} (width : Width) (x : Operand) → Ready plan live m c → Reads x → IsNumber x → Stays →
-        Does' (fetch (plan.home m.function) 5 x ++ address_code width (source (plan.home m.function) 5 x) ∷ []) c (Send width (value x m.env) (Went m.env))
+        Does' (fetch (plan.home m.function) 5 x ++ address_code width (source (plan.home m.function) 5 x) (pos 0) ∷ []) c (Send width (value x m.env) (Went m.env))
     address_done width x h reads number stays =
-        runs_one s plan variables fine To x (address_code width (source (plan.home m.function) 5 x) ∷ []) h reads number (λ c1 h1 got.
+        runs_one s plan variables fine To x (address_code width (source (plan.home m.function) 5 x) (pos 0) ∷ []) h reads number (λ c1 h1 got.
         let r = source (plan.home m.function) 5 x in let plain = source_plain s plan variables fine To m.function 5 x (omega arith) in
-        runs_send s plan.private To (λ good k w small here is p shows. step_address s plan.private (address_code width r) width r 30 (word (pos 0)) (value x m.env) w shows here is small (address_is width r) (rw by_a (gives_address s.copies width r (word (pos 0)) plain)) plain (addressed x h1 got) good) (ends m.env (ready_stays stays h1)))
+        runs_send s plan.private To (λ good k w small here is p shows. step_address s plan.private (address_code width r (pos 0)) width r 30 (word (pos 0)) (value x m.env) w shows here is small (address_is width r (pos 0)) (rw by_a (gives_address s.copies width r (word (pos 0)) plain)) plain (addressed x h1 got) good) (ends m.env (ready_stays stays h1)))
 
     -- Offer
     pub offer_done : {c : Contents} (v : ℕ) → s.copies ≡ true → Ready plan live m c → live v ≡ true → Stays → Does' (move_code (plan.home m.function) 28 (Variable v)) c (Push Cq (m.env v) (Went m.env))

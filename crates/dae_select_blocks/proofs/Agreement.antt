@@ -1,5 +1,5 @@
 -- What keeps the agreement with a moment: work in scratch registers, and a result that goes home.
-use Rattle.std.proofs.Common.{◌≡◌, ◌≢◌, ℕ, zero, ◌+◌, ◌-◌, ◌^◌, ◌<◌, ◌≤◌, Bool, true, false, ◌&&◌, List, [], ◌∷◌, Some, None, refl, sym, ap, ◌∙◌, arith}
+use Rattle.std.proofs.Common.{◌≡◌, ◌≢◌, ℕ, zero, ◌+◌, ◌-◌, ◌^◌, ◌<◌, ◌≤◌, Bool, true, false, ◌&&◌, List, [], ◌∷◌, Some, None, refl, sym, ap, ◌∙◌, subst, arith}
 use Rattle.std.specs.Prelude.{nat_eq, nat_lt, if◌then◌else◌}
 use Rattle.std.proofs.lemmas.Bool.Decides.{nat_tests}
 use Rattle.std.proofs.lemmas.Option.{same_Some}
@@ -11,7 +11,7 @@ use Rattle.dae_select_walks.specs.declared.Home.{Home}
 use Rattle.dae_select_walks.specs.declared.Home.TheVariants.{Register, Slot}
 use Rattle.dae_select_walks.specs.Walks.{Setting}
 use Rattle.dae_select_walks.specs.Homes.{Contents, held, kept, is_home_register, IsHome, kept_at, slot_at, frame_words, number_key, resident_home, resident_register}
-use Rattle.dae_select_walks.specs.Agrees.{Plan, Moment, Waiting, depth_of, Agrees, AreWaiting}
+use Rattle.dae_select_walks.specs.Agrees.{Plan, Moment, Waiting, depth_of, Agrees, AreWaiting, return_address}
 use Rattle.dae_select_walks.specs.Compiled.{with_env}
 use Rattle.dae_select_blocks.specs.Fits.{Fits}
 
@@ -49,6 +49,7 @@ pub record IsScratch (plan : Plan) (r : ℕ) : Type 0 where
   pub zero : 0 ≢ r
   pub two : 2 ≢ r
   pub three : 3 ≢ r
+  pub link : 1 ≢ r
   pub home : is_home_register r ≡ false
   pub depth : plan.by_a ≡ true → 10 ≢ r
   pub addresses : plan.by_a ≡ true → 4 ≢ r
@@ -65,10 +66,10 @@ pub record Like (r : ℕ) (c c' : Contents) : Type 0 where
   pub fits : (j : ℕ) → c'.register j < 2 ^ 32
 
 module _ (s : Setting) (plan : Plan) (variables : ℕ → ℕ) (fine : Fits s plan variables) where
-  -- the waiting calls are kept in the words up to the frame's first
-  pub waiting_same : (c c' : Contents) (base frame : ℕ) (ws : List Waiting) → ((i : ℕ) → i ≤ base → c'.word i ≡ c.word i) → AreWaiting plan c base frame ws → AreWaiting plan c' base frame ws
-  waiting_same c c' base frame [] same h = (h.0, h.1, same base (omega arith) ∙ h.2)
-  waiting_same c c' base frame (w ∷ ws) same h =
+  -- the waiting calls are kept in the words up to the frame's first, and the address that is returned to
+  pub waiting_same : (c c' : Contents) (address address' base frame : ℕ) (ws : List Waiting) → address' ≡ address → ((i : ℕ) → i ≤ base → c'.word i ≡ c.word i) → AreWaiting plan c address base frame ws → AreWaiting plan c' address' base frame ws
+  waiting_same c c' address address' base frame [] returns same h = (h.0, h.1, returns ∙ h.2)
+  waiting_same c c' address address' base frame (w ∷ ws) returns same h =
       let below = h.0 in let base_is = h.1 in
       let is = fine.words w.function in (
         below,
@@ -77,14 +78,30 @@ module _ (s : Setting) (plan : Plan) (variables : ℕ → ℕ) (fine : Fits s pl
         h.3,
         h.4,
         h.5,
-        same base (omega arith) ∙ h.6,
+        returns ∙ h.6,
         (λ v l. one below v base_is is (plan.home w.function v) (fine.homes w.function v) ∙ h.7 v l),
-        waiting_same c c' below w.frame ws (λ i l. same i (omega arith)) h.8,
+        waiting_same c c' (c.word below) (c'.word below) below w.frame ws (same below (omega arith)) (λ i l. same i (omega arith)) h.8,
       )
     where
       one : (below v : ℕ) → base ≡ below + plan.words w.function → plan.words w.function ≡ frame_words (variables w.function) → (home : Home) → IsHome (variables w.function) home → kept c' below home ≡ kept c below home
       one below v at is (Register r) good = let l = kept_small r good in same (below + kept_at r) (omega arith)
       one below v at is (Slot i) good = same (below + slot_at i) (omega arith)
+
+  -- a leaf has that address in x1, any other function in its frame's first word
+  pub address_same : (f base : ℕ) (c c' : Contents) → c'.register 1 ≡ c.register 1 → c'.word base ≡ c.word base → return_address plan f c' base ≡ return_address plan f c base
+  address_same f base c c' link first = by (plan.leaf f)
+    where
+      by : (leaf : Bool) → (if leaf then c'.register 1 else c'.word base) ≡ (if leaf then c.register 1 else c.word base)
+      by true = link
+      by false = first
+
+  pub waiting_stays : (f : ℕ) (c c' : Contents) (base frame : ℕ) (ws : List Waiting) → c'.register 1 ≡ c.register 1 → ((i : ℕ) → i ≤ base → c'.word i ≡ c.word i) → AreWaiting plan c (return_address plan f c base) base frame ws → AreWaiting plan c' (return_address plan f c' base) base frame ws
+  waiting_stays f c c' base frame ws link same h =
+      waiting_same c c' (return_address plan f c base) (return_address plan f c' base) base frame ws (address_same f base c c' link (same base (omega arith))) same h
+
+  -- where a function that is no leaf has it
+  pub waiting_kept : (f : ℕ) (c : Contents) (base frame : ℕ) (ws : List Waiting) → plan.leaf f ≡ false → AreWaiting plan c (return_address plan f c base) base frame ws → AreWaiting plan c (c.word base) base frame ws
+  waiting_kept f c base frame ws calls h = subst (λ (leaf : Bool). AreWaiting plan c (if leaf then c.register 1 else c.word base) base frame ws) calls h
 
   pub held_like : (r base n : ℕ) (c c' : Contents) (home : Home) → IsScratch plan r → Like r c c' → IsHome n home → held c' base home ≡ held c base home
   held_like r base n c c' (Register h) scratch like good = let e = scratch.home in like.registers h (λ same. other_bool h r good e same)
@@ -108,7 +125,7 @@ module _ (s : Setting) (plan : Plan) (variables : ℕ → ℕ) (fine : Fits s pl
           depth = λ by_a. like.registers 10 (scratch.depth by_a) ∙ a.depth by_a;
           addresses = λ by_a. like.registers 4 (scratch.addresses by_a) ∙ a.addresses by_a;
           residents = λ n q e. held_like r a.base 0 c c' (Register q) scratch like (resident_good (resident_home 27 plan.residents n) q e) ∙ a.residents n q e;
-          waiting = waiting_same c c' a.base m.frame m.waiting (λ i l. like.words i) a.waiting;
+          waiting = waiting_stays m.function c c' a.base m.frame m.waiting (like.registers 1 scratch.link) (λ i l. like.words i) a.waiting;
           room = a.room;
           within = a.within;
         };
@@ -121,6 +138,7 @@ module _ (s : Setting) (plan : Plan) (variables : ℕ → ℕ) (fine : Fits s pl
     pub zero : c'.register 0 ≡ c.register 0
     pub two : c'.register 2 ≡ c.register 2
     pub three : c'.register 3 ≡ c.register 3
+    pub link : c'.register 1 ≡ c.register 1
     pub depth : plan.by_a ≡ true → c'.register 10 ≡ c.register 10
     pub addresses : plan.by_a ≡ true → c'.register 4 ≡ c.register 4
     pub below : (i : ℕ) → i ≤ base → c'.word i ≡ c.word i
@@ -144,7 +162,7 @@ module _ (s : Setting) (plan : Plan) (variables : ℕ → ℕ) (fine : Fits s pl
           depth = λ by_a. g.depth by_a ∙ a.depth by_a;
           addresses = λ by_a. g.addresses by_a ∙ a.addresses by_a;
           residents = λ n q e. g.others (Register q) (resident_good (resident_home 27 plan.residents n) q e) (λ same. fine.apart m.function v n q scope e (sym same)) ∙ a.residents n q e;
-          waiting = waiting_same c c' a.base m.frame m.waiting g.below a.waiting;
+          waiting = waiting_stays m.function c c' a.base m.frame m.waiting g.link g.below a.waiting;
           room = a.room;
           within = record { depth = a.within.depth; frame = a.within.frame };
         };

@@ -1,16 +1,15 @@
 -- The start code leads the opened processor to where main's actions begin.
 use Rattle.std.proofs.Common.{◌≡◌, ℕ, zero, ◌+◌, ◌-◌, ◌*◌, ◌^◌, ◌<◌, ◌≤◌, Bool, true, false, ◌&&◌, List, [], ◌∷◌, ◌++◌, Some, None, length, refl, sym, ap, ◌∙◌, subst, arith, append_assoc, append-nil, length-append}
-use Rattle.std.specs.Prelude.{nat_eq, nat_lt, if◌then◌else◌, pos, replicate, slice_index}
+use Rattle.std.specs.Prelude.{nat_eq, nat_lt, if◌then◌else◌, replicate, slice_index}
 use Rattle.std.specs.List.{AllByRecursion}
 use Rattle.std.proofs.lemmas.Bool.Decides.{nat_tests}
 use Rattle.std.proofs.lemmas.Option.{same_Some}
 use Rattle.std.proofs.lemmas.List.{get_or-replicate}
 use Rattle.std.proofs.Math.ListN.{length-replicate}
-use Rattle.dae_base.specs.Words.{plus, word, loaded}
+use Rattle.dae_base.specs.Words.{word, loaded}
 use Rattle.dae_base.specs.declared.LoadKind.TheVariants.{I32}
-use Rattle.dae_base.proofs.Laws.{choice_small, plus_small, times_least}
+use Rattle.dae_base.proofs.Laws.{times_least}
 use Rattle.dae_encode.specs.declared.Inst.{Inst}
-use Rattle.dae_encode.specs.declared.Inst.TheVariants.{Addi}
 use Rattle.dae_encode.specs.Processor.{Processor}
 use Rattle.dae_ir.specs.Classes.{VariableSet}
 use Rattle.dae_meaning.specs.Variables.{Env}
@@ -19,22 +18,22 @@ use Rattle.dae_select_walks.specs.declared.Home.TheVariants.{Register}
 use Rattle.dae_select_walks.specs.Walks.{Setting, Comes}
 use Rattle.dae_select_walks.specs.Layout.{CodeAt}
 use Rattle.dae_select_walks.specs.Homes.{Contents, resident_home, resident_register}
-use Rattle.dae_select_walks.specs.Agrees.{Plan, Moment, AreResident, Shows, Stands}
+use Rattle.dae_select_walks.specs.Agrees.{Plan, Moment, AreResident, Shows, Stands, counted_depth}
 use Rattle.dae_select_walks.proofs.LawsOfWalks.{comes_map, comes_then}
-use Rattle.dae_select_walks.proofs.LawsOfWalks.{put, store}
-use Rattle.dae_select_blocks.specs.Blocks.{number_code, residents_code, enter_code, restore_code}
+use Rattle.dae_select_walks.proofs.LawsOfWalks.{put}
+use Rattle.dae_select_blocks.specs.Blocks.{number_code, residents_code, enter_code, restore_code, enter_words}
 use Rattle.dae_select_blocks.specs.Code.{registers_in, entry_code, start_code}
 use Rattle.dae_select_blocks.specs.Fits.{Fits}
 use Rattle.dae_select_blocks.specs.Laws.{opened_with, CodeBegins}
-use Rattle.dae_select_blocks.proofs.Lengths.{entry_alone, opening_short, residents_short, finish_some}
+use Rattle.dae_select_blocks.proofs.Lengths.{entry_alone, opening_short, residents_short, finish_some, enter_long}
 use Rattle.dae_select_blocks.specs.Wanted.{IsLinked}
-use Rattle.dae_select_blocks.proofs.Plain.{put_same, put_other, computes, stores_word}
+use Rattle.dae_select_blocks.proofs.Plain.{put_same, put_other}
 use Rattle.dae_select_blocks.proofs.Frames.{runs_number}
-use Rattle.dae_select_blocks.proofs.Runs.{Runs, runs_nothing, runs_quiet, code_take, code_drop}
-use Rattle.dae_select_blocks.proofs.Agreement.{resident_high}
+use Rattle.dae_select_blocks.proofs.Runs.{Runs, runs_nothing, code_take, code_drop}
+use Rattle.dae_select_blocks.proofs.Agreement.{resident_high, address_same}
 use Rattle.dae_select_blocks.proofs.Operands.{like_put}
 use Rattle.dae_select_blocks.proofs.Calls.{register_kept, runs_restore, among_not, among_other}
-use Rattle.dae_select_blocks.proofs.Entering.{jumps_in}
+use Rattle.dae_select_blocks.proofs.Entering.{jumps_in, runs_prologue}
 
 abbrev pub nothing : Contents
 nothing = record { register = λ r. 0; word = λ i. 0 }
@@ -109,12 +108,12 @@ record Begun (plan : Plan) (first k : ℕ) (p : Processor) : Type 0 where
   pub two : contents.register 2 ≡ 0
   pub three : contents.register 3 ≡ first
   pub four : plan.by_a ≡ true → contents.register 4 ≡ plan.memory - 16
-  pub ten : plan.by_a ≡ true → contents.register 10 ≡ 1
+  pub ten : plan.by_a ≡ true → contents.register 10 ≡ 0
   pub residents : AreResident plan contents
 
 module _ (s : Setting) (plan : Plan) (variables : ℕ → ℕ) (fine : Fits s plan variables) (entries : ℕ → VariableSet) (linked : IsLinked s plan variables entries) where
   abbrev before_main : ℕ → List Inst
-  before_main first = number_code 3 first ++ (residents_code 27 plan.residents ++ (if plan.by_a then number_code 4 (plan.memory - 16) ++ Addi 10 0 (pos 1) ∷ [] else []))
+  before_main first = number_code 3 first ++ (residents_code 27 plan.residents ++ (if plan.by_a then number_code 4 (plan.memory - 16) else []))
 
   begun : (first : ℕ) → first ≤ plan.memory → length (before_main first) < 2 ^ 29 → CodeAt s.code 0 (before_main first) → Comes s (length (before_main first)) (opened_with plan.private) (Begun plan first (0 + length (before_main first)))
   begun first fits small at =
@@ -126,27 +125,26 @@ module _ (s : Setting) (plan : Plan) (variables : ℕ → ℕ) (fine : Fits s pl
       runs_residents s plan.private to 27 plan.residents _ (omega arith) (omega arith) fine.small refl like.fits (λ c wrote. by plan.by_a refl c wrote)) in
       run.from 0 (omega arith) at (opened_with plan.private) (opened_shows plan.private)
     where
-      by : (b : Bool) → plan.by_a ≡ b → (c : Contents) → Wrote 27 plan.residents (put 3 first nothing) c → Runs s plan.private (λ k env q. Begun plan first k q) (if b then number_code 4 (plan.memory - 16) ++ Addi 10 0 (pos 1) ∷ [] else []) c (Went (λ _. 0))
+      by : (b : Bool) → plan.by_a ≡ b → (c : Contents) → Wrote 27 plan.residents (put 3 first nothing) c → Runs s plan.private (λ k env q. Begun plan first k q) (if b then number_code 4 (plan.memory - 16) else []) c (Went (λ _. 0))
       by true e c wrote =
           let most = fine.common in let few = fine.few in
           let to : ℕ → Env → Processor → Type 0 = λ k env q. Begun plan first k q in
           let none : c.register 0 ≡ 0 = wrote.below 0 (omega arith) in
           let c1 : Contents = put 4 (plan.memory - 16) c in
-          let one : plus (c1.register 0) (word (pos 1)) ≡ 1 = rw none refl in
-          runs_number s plan.private to 4 (plan.memory - 16) (Addi 10 0 (pos 1) ∷ []) none (omega arith) (omega arith) (omega arith) (
-          runs_quiet s plan.private to (computes s plan.private to {c = c1} (Addi 10 0 (pos 1)) 10 0 0 (λ x y. plus x (word (pos 1))) refl (omega arith) (omega arith) (omega arith) (plus_small (c1.register 0) 1)) (rw one (
+          let last : Runs s plan.private to (number_code 4 (plan.memory - 16) ++ []) c (Went (λ _. 0)) = runs_number s plan.private to 4 (plan.memory - 16) [] none (omega arith) (omega arith) (omega arith) (
           runs_nothing s plan.private to (λ k q shows. record {
-            contents = put 10 1 c1;
+            contents = c1;
             shows = shows;
             words = (λ i. wrote.words i);
             two = wrote.below 2 (omega arith);
             three = wrote.below 3 (omega arith);
             four = (λ _. refl);
-            ten = (λ _. refl);
+            ten = (λ _. wrote.below 10 (omega arith));
             residents = (λ n r e.
                 let high = resident_high (resident_home 27 plan.residents n) r e in
-                put_other 10 1 r c1 (omega arith) ∙ (put_other 4 (plan.memory - 16) r c (omega arith) ∙ wrote.has n r e));
-          }))))
+                put_other 4 (plan.memory - 16) r c (omega arith) ∙ wrote.has n r e);
+          })) in
+          rw append-nil at last
       by false e c wrote =
           let few = fine.few in
           runs_nothing s plan.private (λ k env q. Begun plan first k q) (λ k q shows. record { contents = c; shows = shows; words = (λ i. wrote.words i); two = wrote.below 2 (omega arith); three = wrote.below 3 (omega arith); four = (λ t. absurd cc); ten = (λ t. absurd cc); residents = (λ n r e. wrote.has n r e) })
@@ -158,38 +156,42 @@ module _ (s : Setting) (plan : Plan) (variables : ℕ → ℕ) (fine : Fits s pl
       let m : Moment = record { function = main; env = (λ _. 0); frame = first; waiting = [] } in
       let most = fine.common in let low = linked.low in
       let start = linked.start main there in let near = linked.near main there in let entry = linked.entry main there in
-      let size = length-append (before_main first) (enter_code (plan.entry main)) in
-      let one = begun first fits (omega arith) (code_take s.code 0 (before_main first) (enter_code (plan.entry main)) at) in
-      let jump = code_drop s.code 0 (before_main first) (enter_code (plan.entry main)) at in
+      let size = length-append (before_main first) (enter_code plan.near (plan.entry main)) in
+      let jump_long = enter_long plan.near (plan.entry main) in
+      let one = begun first fits (omega arith) (code_take s.code 0 (before_main first) (enter_code plan.near (plan.entry main)) at) in
+      let jump = code_drop s.code 0 (before_main first) (enter_code plan.near (plan.entry main)) at in
       let largest = fine.largest main in let long = fine.words main in let wide = fine.private in
       let once = times_least plan.limit plan.largest deep in
-      let two = comes_then s one (λ q b. comes_then s (jumps_in s plan variables fine entries linked (plan.entry main) (omega arith) (omega arith) jump b.shows) (λ r j.
-      let c1 : Contents = put 1 (4 * (0 + length (before_main first) + 2)) (put 5 j.0 b.contents) in
-      let back : 0 + length (before_main first) + 2 ≡ plan.finish = omega arith in
+      let two = comes_then s one (λ q b. comes_then s (jumps_in s plan variables fine entries linked (plan.entry main) plan.near (linked.close main there) (omega arith) (omega arith) jump b.shows) (λ r j.
+      let c1 : Contents = put 1 (4 * (0 + length (before_main first) + enter_words plan.near)) j.0 in
+      let back : 0 + length (before_main first) + enter_words plan.near ≡ plan.finish = omega arith in
       let to : ℕ → Env → Processor → Type 0 = λ k env o. Stands plan (entries main) m k o in
-      let l1 = like_put 5 j.0 b.contents j.1 b.shows.fits in
-      let l2 = like_put 1 (4 * (0 + length (before_main first) + 2)) (put 5 j.0 b.contents) (omega arith) l1.fits in
-      let found : plus (c1.register 2) (word (pos 0)) ≡ 4 * 0 = rw b.two refl in
-      let c2 : Contents = store 0 (4 * (0 + length (before_main first) + 2)) c1 in
+      let l1 = j.1 in
+      let l2 = like_put 1 (4 * (0 + length (before_main first) + enter_words plan.near)) j.0 (omega arith) l1.fits in
+      let pointer : c1.register 2 ≡ 0 = l1.registers 2 (omega arith) ∙ b.two in
       let rs : List ℕ = registers_in (plan.home main) (variables main) (entries main) in
       let run : Runs s plan.private to (entry_code plan variables main (entries main)) c1 (Went (λ _. 0)) =
-      runs_quiet s plan.private to (stores_word s plan.private to 2 1 (pos 0) 0 (omega arith) (omega arith) found (omega arith)) (
-      let last : Runs s plan.private to (restore_code rs ++ []) c2 (Went (λ _. 0)) = runs_restore s plan variables fine to 0 rs [] (λ q e. register_kept (plan.home main) (variables main) q (entries main) e) b.two (omega arith) l2.fits (λ i. choice_small (nat_eq i 0) (4 * (0 + length (before_main first) + 2)) (b.contents.word i) (omega arith) (b.shows.holds i)) (λ c3 restored.
+      runs_prologue s plan variables fine entries linked to main 0 (restore_code rs) pointer (omega arith) l2.fits (λ i. subst (λ (x : ℕ). x < 2 ^ 32) (sym (l1.words i)) (b.shows.holds i)) (λ e. subst (λ (x : ℕ). x < 2 ^ 20) (sym (l1.registers 10 (omega arith) ∙ b.ten e)) (omega arith)) (λ c2 kept'.
+      let last : Runs s plan.private to (restore_code rs ++ []) c2 (Went (λ _. 0)) = runs_restore s plan variables fine to 0 rs [] (λ q e. register_kept (plan.home main) (variables main) q (entries main) e) (kept'.registers 2 (omega arith) ∙ pointer) (omega arith) kept'.fits kept'.small (λ c3 restored.
       runs_nothing s plan.private to (λ k o shows. record {
         contents = c3;
         shows = shows;
         agrees = record {
           base = 0;
           variables = (λ u e. absurd (contradicts u e));
-          pointer = restored.others 2 (among_not (plan.home main) (variables main) 2 (entries main) refl) ∙ b.two;
-          frame = restored.others 3 (among_not (plan.home main) (variables main) 3 (entries main) refl) ∙ b.three;
-          depth = (λ e. restored.others 10 (among_not (plan.home main) (variables main) 10 (entries main) refl) ∙ b.ten e);
-          addresses = (λ e. restored.others 4 (among_not (plan.home main) (variables main) 4 (entries main) refl) ∙ b.four e);
+          pointer = restored.others 2 (among_not (plan.home main) (variables main) 2 (entries main) refl) ∙ (kept'.registers 2 (omega arith) ∙ pointer);
+          frame = restored.others 3 (among_not (plan.home main) (variables main) 3 (entries main) refl) ∙ (kept'.registers 3 (omega arith) ∙ (l1.registers 3 (omega arith) ∙ b.three));
+          depth = (λ e. restored.others 10 (among_not (plan.home main) (variables main) 10 (entries main) refl) ∙ (kept'.ten e ∙ ap (λ (n : ℕ). counted_depth plan main (n + 1)) (l1.registers 10 (omega arith) ∙ b.ten e)));
+          addresses = (λ e. restored.others 4 (among_not (plan.home main) (variables main) 4 (entries main) refl) ∙ (kept'.registers 4 (omega arith) ∙ (l1.registers 4 (omega arith) ∙ b.four e)));
           residents = (λ n o e.
               let high = resident_high (resident_home 27 plan.residents n) o e in
               restored.others o (among_other (plan.home main) (variables main) o (entries main) (λ v l. fine.apart main v n o l e))
-              ∙ (l2.registers o (omega arith) ∙ (l1.registers o (omega arith) ∙ b.residents n o e)));
-          waiting = (refl, (omega arith), restored.words 0 ∙ ap (λ n. 4 * n) back);
+              ∙ (kept'.registers o (omega arith) ∙ (l2.registers o (omega arith) ∙ (l1.registers o (omega arith) ∙ b.residents n o e))));
+          waiting = (
+            refl,
+            (omega arith),
+            address_same s plan variables fine main 0 c2 c3 (restored.others 1 (among_not (plan.home main) (variables main) 1 (entries main) refl)) (restored.words 0) ∙ (kept'.address ∙ ap (λ n. 4 * n) back),
+          );
           room = (let same : plan.limit + 1 - 1 ≡ plan.limit = omega arith in rw same (omega arith));
           within = record { depth = deep; frame = fits };
         };

@@ -25,7 +25,7 @@ use Rattle.dae_select_blocks.specs.Wanted.{AreGiven, gives}
 use Rattle.dae_select_blocks.proofs.Plain.{put_same, put_other}
 use Rattle.dae_select_blocks.proofs.Frames.{runs_load, runs_store}
 use Rattle.dae_select_blocks.proofs.Runs.{Runs}
-use Rattle.dae_select_blocks.proofs.Agreement.{Ready, Like, ready_like, home_register, resident_high, kept_small, waiting_same}
+use Rattle.dae_select_blocks.proofs.Agreement.{Ready, Like, ready_like, home_register, resident_high, kept_small, waiting_stays}
 use Rattle.dae_select_blocks.proofs.Operands.{like_put, runs_fetch}
 use Rattle.dae_select_blocks.proofs.Computing.{is_scratch, is_work, source_plain, source_apart}
 
@@ -251,7 +251,7 @@ module _ (s : Setting) (plan : Plan) (variables : ℕ → ℕ) (fine : Fits s pl
           depth = λ by_a. registers 10 (omega arith) ∙ a.depth by_a;
           addresses = λ by_a. registers 4 (omega arith) ∙ a.addresses by_a;
           residents = λ n q e. registers q (let high = resident_high (resident_home 27 plan.residents n) q e in omega arith) ∙ a.residents n q e;
-          waiting = waiting_same s plan variables fine c c' a.base m.frame m.waiting (λ i l. words i (omega arith)) a.waiting;
+          waiting = waiting_stays s plan variables fine m.function c c' a.base m.frame m.waiting (registers 1 (omega arith)) (λ i l. words i (omega arith)) a.waiting;
           room = a.room;
           within = a.within;
         };

@@ -18,31 +18,32 @@ use Rattle.dae_encode.specs.Instructions.{effect, branch}
 use Rattle.dae_encode.specs.Processor.{Processor, called, prints}
 use Rattle.dae_ir.specs.Classes.{VariableSet}
 use Rattle.dae_meaning.specs.Operations.{spelled, misplaced, passed}
-use Rattle.dae_meaning.specs.Variables.{Env}
 use Rattle.dae_ir.specs.Form.{value}
 use Rattle.dae_ir.specs.Programs.{side}
-use Rattle.dae_ir.specs.Deeds.{Plainly, WithStatus, WithTrap, Deed, Went, Take, Push, Say, Halts, told_on, heard_on, trapped, probed}
+use Rattle.dae_ir.specs.Deeds.{Plainly, WithStatus, WithTrap, Deed, Went, Take, Push, Say, Halts, told_on, heard_on, trapped, probed, failure_code, heard_code}
 use Rattle.dae_ir.specs.declared.form.Operand.{Operand}
 use Rattle.dae_ir.specs.declared.form.Check.TheVariants.{Place, Room, Frame, Abort}
 use Rattle.dae_ir.specs.declared.stream.Action.TheVariants.{Probe}
+use Rattle.dae_ir.specs.declared.stream.Failure.{Failure}
 use Rattle.dae_meaning.specs.declared.Spelling.{Spelling}
 use Rattle.dae_meaning.specs.declared.Spelling.TheVariants.{Byte, Signed, Unsigned, Hexadecimal}
 use Rattle.dae_select_walks.specs.Walks.{Setting}
 use Rattle.dae_select_walks.specs.Homes.{Contents}
-use Rattle.dae_select_walks.specs.Agrees.{Plan, Moment, depth_of, top_of}
+use Rattle.dae_select_walks.specs.Agrees.{Plan, Moment, depth_of, top_of, counted_depth}
 use Rattle.dae_select_walks.proofs.LawsOfWalks.{put, step_prints, step_ends, step_stops}
 use Rattle.dae_select_blocks.specs.Blocks.{check_code, source, fetch, number_code, fail_code, over, align_code, bounds_code, room_code, frames_room_code, call_number, system_code, hear_code}
 use Rattle.dae_select_blocks.specs.Code.{placed_code}
 use Rattle.dae_select_blocks.specs.Fits.{Fits}
-use Rattle.dae_select_blocks.proofs.Plain.{computes, takes, pushes, put_other, branch_taken, branch_passed}
+use Rattle.dae_select_blocks.proofs.Plain.{computes, takes, pushes, put_other, branch_taken, branch_passed, hears_zero, hears_other}
 use Rattle.dae_select_blocks.proofs.Frames.{runs_number}
-use Rattle.dae_select_blocks.proofs.Runs.{runs_quiet, runs_push, runs_take, runs_say, runs_halt, runs_over}
+use Rattle.dae_select_blocks.proofs.Runs.{runs_quiet, runs_push, runs_take, runs_say, runs_halt, runs_over, runs_hear}
 use Rattle.dae_select_blocks.proofs.Agreement.{Ready, IsScratch, ready_like}
 use Rattle.dae_select_blocks.proofs.Operands.{like_put, runs_move}
 use Rattle.dae_select_blocks.specs.Wanted.{IsNumber}
 use Rattle.dae_select_blocks.proofs.Computing.{source_plain, source_apart, runs_one, is_scratch}
-use Rattle.dae_select_blocks.proofs.Uses.{pushes_message, takes_message}
+use Rattle.dae_select_blocks.proofs.Uses.{pushes_message, takes_message, hears_message}
 use Rattle.dae_select_blocks.proofs.Actions.{To, Does', Stays, Reads, ends, ready_stays}
+use Rattle.dae_select_blocks.proofs.Ranges.{failure_small}
 
 over_length : (b : Bool) (code : ℕ) → word (over b) ≡ 4 * (length (fail_code b code) + 1)
 over_length true code = refl
@@ -52,10 +53,23 @@ fail_short : (b : Bool) (code : ℕ) → length (fail_code b code) < 1000
 fail_short true code = omega arith
 fail_short false code = omega arith
 
+-- depths compare as what is counted of them
+counted_less : (leaf : Bool) (d l : ℕ) → 1 ≤ d → d ≤ l → nat_lt (if leaf then d - 1 else d) (if leaf then l - 1 else l) ≡ nat_lt d l
+counted_less true d l some le = by (nat_lt d l) refl
+  where
+    by : (b : Bool) → nat_lt d l ≡ b → nat_lt (d - 1) (l - 1) ≡ b
+    by true e = grind (arith, nat_tests)
+    by false e = grind (arith, nat_tests)
+counted_less false d l some le = refl
+
+counted_few : (leaf : Bool) (l : ℕ) → (if leaf then l - 1 else l) ≤ l
+counted_few true l = omega arith
+counted_few false l = omega arith
+
 -- on E the registers of the environment call have no meaning between blocks
 call_scratch : (plan : Plan) (r : ℕ) → plan.by_a ≡ false → r ≡ 10 ⊎ r ≡ 17 → IsScratch plan r
-call_scratch plan r by_e (inl e) = rw e (record { zero = (omega arith); two = (omega arith); three = (omega arith); home = refl; depth = (λ by_a. absurd cc); addresses = (λ by_a. (omega arith)) })
-call_scratch plan r by_e (inr e) = rw e (record { zero = (omega arith); two = (omega arith); three = (omega arith); home = refl; depth = (λ by_a. (omega arith)); addresses = (λ by_a. (omega arith)) })
+call_scratch plan r by_e (inl e) = rw e (record { zero = (omega arith); two = (omega arith); three = (omega arith); link = (omega arith); home = refl; depth = (λ by_a. absurd cc); addresses = (λ by_a. (omega arith)) })
+call_scratch plan r by_e (inr e) = rw e (record { zero = (omega arith); two = (omega arith); three = (omega arith); link = (omega arith); home = refl; depth = (λ by_a. (omega arith)); addresses = (λ by_a. (omega arith)) })
 
 module _ (s : Setting) (plan : Plan) (variables : ℕ → ℕ) (fine : Fits s plan variables) (live live' : VariableSet) (m : Moment) where
   by_side : plan.by_a ≡ false → s.side ≡ E
@@ -110,6 +124,17 @@ module _ (s : Setting) (plan : Plan) (variables : ℕ → ℕ) (fine : Fits s pl
 
   -- ---- traps
 
+  -- E calls with the code of a trap
+  trap_done : {c : Contents} (code : ℕ) (is : List Inst) → plan.by_a ≡ false → code < 2048 → Ready plan live m c → Does' s plan variables fine live live' m (Addi 10 0 (pos code) ∷ (Addi 17 0 (pos 5) ∷ (Ecall ∷ is))) c (Halts (WithTrap code))
+  trap_done {c} code is by_e small h =
+      let t = To s plan variables fine live live' m in
+      let one : plus (c.register 0) (word (pos code)) ≡ code = rw h.zero (omega arith) in
+      let c1 : Contents = put 10 code c in
+      let two : plus (c1.register 0) (word (pos 5)) ≡ 5 = rw h.zero refl in
+      runs_quiet s plan.private t (computes s plan.private t (Addi 10 0 (pos code)) 10 0 0 (λ x y. plus x (word (pos code))) refl (omega arith) (omega arith) (omega arith) (plus_small (c.register 0) code)) (rw one (
+      runs_quiet s plan.private t (computes s plan.private t (Addi 17 0 (pos 5)) 17 0 0 (λ x y. plus x (word (pos 5))) refl (omega arith) (omega arith) (omega arith) (plus_small (c1.register 0) 5)) (rw two (
+      runs_halt s plan.private t (λ k w small here is p shows. step_ends s plan.private (by_side by_e) w 5 (Trap code) shows here is refl (omega arith) (λ q. refl))))))
+
   -- the code of a trap is pushed, and the processor halts with it
   pub fails : {c : Contents} (b : Bool) (code : ℕ) (is : List Inst) → plan.by_a ≡ b → code < 2048 → Ready plan live m c → Does' s plan variables fine live live' m (fail_code b code ++ is) c (Push (told_on b) code (Halts (trapped b code)))
   fails {c} true code is by_a small h =
@@ -120,12 +145,7 @@ module _ (s : Setting) (plan : Plan) (variables : ℕ → ℕ) (fine : Fits s pl
       let t = To s plan variables fine live live' m in
       let legal = pushes_message s.copies false 0 (omega arith) in
       let one : plus (c.register 0) (word (pos code)) ≡ code = rw h.zero (omega arith) in
-      let c1 : Contents = put 10 code c in
-      let two : plus (c1.register 0) (word (pos 5)) ≡ 5 = rw h.zero refl in
-      runs_push s plan.private t (pushes s plan.private t 29 0 (pos code) (told_on false) code (omega arith) refl (rw (by_side by_e) legal) one) (omega arith) (
-      runs_quiet s plan.private t (computes s plan.private t (Addi 10 0 (pos code)) 10 0 0 (λ x y. plus x (word (pos code))) refl (omega arith) (omega arith) (omega arith) (plus_small (c.register 0) code)) (rw one (
-      runs_quiet s plan.private t (computes s plan.private t (Addi 17 0 (pos 5)) 17 0 0 (λ x y. plus x (word (pos 5))) refl (omega arith) (omega arith) (omega arith) (plus_small (c1.register 0) 5)) (rw two (
-      runs_halt s plan.private t (λ k w small here is p shows. step_ends s plan.private (by_side by_e) w 5 (Trap code) shows here is refl (omega arith) (λ q. refl)))))))
+      runs_push s plan.private t (pushes s plan.private t 29 0 (pos code) (told_on false) code (omega arith) refl (rw (by_side by_e) legal) one) (omega arith) (trap_done code is by_e small h)
 
   -- a branch over it, that is taken or passed
   guarded : {c : Contents} {d : Deed} (code : ℕ) (i : Inst) (x y : ℕ) (test : ℕ → ℕ → Bool) (rest : List Inst) → effect i ≡ branch x y (over plan.by_a) test → x < 28 → y < 28 → test (c.register x) (c.register y) ≡ true → Does' s plan variables fine live live' m rest c d →
@@ -303,27 +323,30 @@ module _ (s : Setting) (plan : Plan) (variables : ℕ → ℕ) (fine : Fits s pl
         left = plan.memory - (plan.frame m.function + plan.frame g)
 
         deep : (c1 : Contents) → nat_lt left m.frame ≡ false → nat_lt plan.memory (plan.frame m.function + plan.frame g) ≡ false → Ready plan live m c1 →
-            Does' s plan variables fine live live' m (number_code 6 plan.limit ++ Bltu 10 6 (pos 12) ∷ fail_code true 4) c1 (probed true (passed (nat_lt plan.limit (depth_of m + 1) || nat_lt plan.memory (top_of plan m + plan.frame g))) m.env)
+            Does' s plan variables fine live live' m (number_code 6 (counted_depth plan m.function plan.limit) ++ Bltu 10 6 (pos 12) ∷ fail_code true 4) c1 (probed true (passed (nat_lt plan.limit (depth_of m + 1) || nat_lt plan.memory (top_of plan m + plan.frame g))) m.env)
         deep c1 low fits h1 =
             let t = To s plan variables fine live live' m in
             let most = fine.limit in
-            let h2 = ready_like s plan variables fine 6 (is_scratch plan 6 (omega arith) (omega arith)) (like_put 6 plan.limit c1 (omega arith) h1.fits) h1 in
+            let limit : ℕ = counted_depth plan m.function plan.limit in
+            let few : limit ≤ plan.limit = counted_few (plan.leaf m.function) plan.limit in
+            let h2 = ready_like s plan variables fine 6 (is_scratch plan 6 (omega arith) (omega arith)) (like_put 6 limit c1 (omega arith) h1.fits) h1 in
             let ok : nat_lt plan.memory (top_of plan m + plan.frame g) ≡ false = grind (arith, nat_tests) in
-            let same : nat_lt (c1.register 10) plan.limit ≡ not (nat_lt plan.limit (depth_of m + 1) || nat_lt plan.memory (top_of plan m + plan.frame g)) = rw (h1.agrees.depth by_a, ok) (grind (arith, nat_tests)) in
-            runs_number s plan.private t 6 plan.limit (Bltu 10 6 (pos 12) ∷ fail_code true 4) h1.zero (omega arith) (omega arith) (omega arith) (
+            let less : nat_lt (c1.register 10) limit ≡ nat_lt (depth_of m) plan.limit = ap (λ (n : ℕ). nat_lt n limit) (h1.agrees.depth by_a) ∙ counted_less (plan.leaf m.function) (depth_of m) plan.limit (omega arith) h1.agrees.within.depth in
+            let same : nat_lt (c1.register 10) limit ≡ not (nat_lt plan.limit (depth_of m + 1) || nat_lt plan.memory (top_of plan m + plan.frame g)) = rw (less, ok) (grind (arith, nat_tests)) in
+            runs_number s plan.private t 6 limit (Bltu 10 6 (pos 12) ∷ fail_code true 4) h1.zero (omega arith) (omega arith) (omega arith) (
             tested 4 (Bltu 10 6 (pos 12)) 10 6 (λ x y. nat_lt x y) (nat_lt plan.limit (depth_of m + 1) || nat_lt plan.memory (top_of plan m + plan.frame g)) refl (omega arith) (omega arith) same (omega arith) h2 stays)
 
         -- a frame begins in common memory: where both frames are empty there is room for them
         roomy : (none : Bool) → nat_eq (plan.frame m.function + plan.frame g) 0 ≡ none → nat_lt plan.memory (plan.frame m.function + plan.frame g) ≡ false →
-            Does' s plan variables fine live live' m ((if none then [] else room_code left) ++ (number_code 6 plan.limit ++ Bltu 10 6 (pos 12) ∷ fail_code true 4)) c (probed true (passed (nat_lt plan.limit (depth_of m + 1) || nat_lt plan.memory (top_of plan m + plan.frame g))) m.env)
+            Does' s plan variables fine live live' m ((if none then [] else room_code left) ++ (number_code 6 (counted_depth plan m.function plan.limit) ++ Bltu 10 6 (pos 12) ∷ fail_code true 4)) c (probed true (passed (nat_lt plan.limit (depth_of m + 1) || nat_lt plan.memory (top_of plan m + plan.frame g))) m.env)
         roomy true none e = let inside = h.agrees.within.frame in deep c (grind (arith, nat_tests)) e h
         roomy false some e =
             let most = fine.common in
-            room_done left (number_code 6 plan.limit ++ Bltu 10 6 (pos 12) ∷ fail_code true 4) (nat_lt left m.frame) (omega arith) refl h (λ low c1 h1. deep c1 low e h1)
+            room_done left (number_code 6 (counted_depth plan m.function plan.limit) ++ Bltu 10 6 (pos 12) ∷ fail_code true 4) (nat_lt left m.frame) (omega arith) refl h (λ low c1 h1. deep c1 low e h1)
             (λ high. (let trap : (nat_lt plan.limit (depth_of m + 1) || nat_lt plan.memory (top_of plan m + plan.frame g)) ≡ true = grind (arith, nat_tests) in rw trap refl))
 
         by : (big : Bool) → nat_lt plan.memory (plan.frame m.function + plan.frame g) ≡ big →
-            Does' s plan variables fine live live' m (if big then fail_code true 4 else frames_room_code plan.memory (plan.frame m.function + plan.frame g) ++ (number_code 6 plan.limit ++ Bltu 10 6 (pos 12) ∷ fail_code true 4)) c (probed true (passed (nat_lt plan.limit (depth_of m + 1) || nat_lt plan.memory (top_of plan m + plan.frame g))) m.env)
+            Does' s plan variables fine live live' m (if big then fail_code true 4 else frames_room_code plan.memory (plan.frame m.function + plan.frame g) ++ (number_code 6 (counted_depth plan m.function plan.limit) ++ Bltu 10 6 (pos 12) ∷ fail_code true 4)) c (probed true (passed (nat_lt plan.limit (depth_of m + 1) || nat_lt plan.memory (top_of plan m + plan.frame g))) m.env)
         by true e =
             let trap : (nat_lt plan.limit (depth_of m + 1) || nat_lt plan.memory (top_of plan m + plan.frame g)) ≡ true = grind (arith, nat_tests) in
             rw trap (rw append-nil at (fails true 4 [] by_a (omega arith) h))
@@ -349,26 +372,26 @@ module _ (s : Setting) (plan : Plan) (variables : ℕ → ℕ) (fine : Fits s pl
     abort_done h = rw append-nil at (fails true 5 [] by_a (omega arith) h)
 
   -- Hear: for a code the processor halts
-  pub hear_done : {c : Contents} → Ready plan live m c → Stays s plan variables fine live live' m →
-      Does' s plan variables fine live live' m (hear_code plan.by_a) c (Take (heard_on plan.by_a) (λ y. if nat_eq y 0 then Went m.env else Halts (trapped plan.by_a y)))
-  hear_done {c} h stays = by plan.by_a refl
+  pub hear_done : {c : Contents} (only : Option Failure) → Ready plan live m c → Stays s plan variables fine live live' m →
+      Does' s plan variables fine live live' m (hear_code plan.by_a only) c (Take (heard_on plan.by_a) (λ y. if nat_eq y 0 then Went m.env else Halts (trapped plan.by_a (heard_code only y))))
+  hear_done {c} only h stays = by plan.by_a refl only
     where
-      t : ℕ → Env → Processor → Type 0
-      t = To s plan variables fine live live' m
+      -- where the word is 0, nothing is left to do
+      none : Does' s plan variables fine live live' m [] c (Went m.env)
+      none = ends s plan variables fine live live' m m.env (ready_stays s plan variables fine live live' m stays h)
 
-      by : (b : Bool) → plan.by_a ≡ b → Does' s plan variables fine live live' m (hear_code b) c (Take (heard_on b) (λ y. if nat_eq y 0 then Went m.env else Halts (trapped b y)))
-      by true e = runs_take s plan.private (To s plan variables fine live live' m) (λ x. put 5 x c) (λ x fits. takes s plan.private (To s plan variables fine live live' m) 5 29 (heard_on true) (omega arith) refl (rw (a_side e) (takes_message s.copies true 5 (omega arith))) x fits)
-          (λ x fits. one x fits (nat_eq x 0) refl)
-        where
-          one : (x : ℕ) → x < 2 ^ 32 → (z : Bool) → nat_eq x 0 ≡ z → Does' s plan variables fine live live' m (Beq 5 0 (pos 8) ∷ (Ecall ∷ [])) (put 5 x c) (if z then Went m.env else Halts Plainly)
-          one x fits true z =
-              let h1 = ready_like s plan variables fine 5 (is_scratch plan 5 (omega arith) (omega arith)) (like_put 5 x c fits h.fits) h in
-              let zero : nat_eq ((put 5 x c).register 5) ((put 5 x c).register 0) ≡ true = rw (h.zero, z) refl in
-              runs_over s plan.private (To s plan variables fine live live' m) (Ecall ∷ []) [] (branch_taken s plan.private (To s plan variables fine live live' m) (Beq 5 0 (pos 8)) 5 0 (pos 8) (λ x y. nat_eq x y) 1 refl (omega arith) (omega arith) zero refl (omega arith)) (ends s plan variables fine live live' m m.env (ready_stays s plan variables fine live live' m stays h1))
-          one x fits false z =
-              let some : nat_eq ((put 5 x c).register 5) ((put 5 x c).register 0) ≡ false = rw (h.zero, z) refl in
-              runs_quiet s plan.private (To s plan variables fine live live' m) (branch_passed s plan.private (To s plan variables fine live live' m) (Beq 5 0 (pos 8)) 5 0 (pos 8) (λ x y. nat_eq x y) refl (omega arith) (omega arith) some) (stop_a_done [] e)
-      by false e = runs_take s plan.private (To s plan variables fine live live' m) (λ x. put 10 x c) (λ x fits. takes s plan.private (To s plan variables fine live live' m) 10 29 (heard_on false) (omega arith) refl (rw (by_side e) (takes_message s.copies false 10 (omega arith))) x fits)
+      by : (b : Bool) → plan.by_a ≡ b → (o : Option Failure) → Does' s plan variables fine live live' m (hear_code b o) c (Take (heard_on b) (λ y. if nat_eq y 0 then Went m.env else Halts (trapped b (heard_code o y))))
+      by true e o =
+          runs_hear s plan.private (To s plan variables fine live live' m) (Went m.env) (λ y. Halts Plainly) (Ecall ∷ [])
+          (hears_zero s plan.private (To s plan variables fine live live' m) (heard_on true) (pos 8) 1 (rw (a_side e) (hears_message s.copies true)) h.zero refl (omega arith))
+          (λ x some. hears_other s plan.private (To s plan variables fine live live' m) (heard_on true) (pos 8) x (rw (a_side e) (hears_message s.copies true)) h.zero some)
+          none (λ x some. stop_a_done [] e)
+      by false e (Some failure) =
+          runs_hear s plan.private (To s plan variables fine live live' m) (Went m.env) (λ y. Halts (WithTrap (failure_code failure))) (Addi 10 0 (pos (failure_code failure)) ∷ (Addi 17 0 (pos 5) ∷ (Ecall ∷ [])))
+          (hears_zero s plan.private (To s plan variables fine live live' m) (heard_on false) (pos 16) 3 (rw (by_side e) (hears_message s.copies false)) h.zero refl (omega arith))
+          (λ x some. hears_other s plan.private (To s plan variables fine live live' m) (heard_on false) (pos 16) x (rw (by_side e) (hears_message s.copies false)) h.zero some)
+          none (λ x some. trap_done (failure_code failure) [] e (failure_small failure) h)
+      by false e None = runs_take s plan.private (To s plan variables fine live live' m) (λ x. put 10 x c) (λ x fits. takes s plan.private (To s plan variables fine live live' m) 10 29 (heard_on false) (omega arith) refl (rw (by_side e) (takes_message s.copies false 10 (omega arith))) x fits)
           (λ x fits. one x fits (nat_eq x 0) refl)
         where
           one : (x : ℕ) → x < 2 ^ 32 → (z : Bool) → nat_eq x 0 ≡ z → Does' s plan variables fine live live' m (Beq 10 0 (pos 12) ∷ (Addi 17 0 (pos 5) ∷ (Ecall ∷ []))) (put 10 x c) (if z then Went m.env else Halts (WithTrap x))

@@ -224,7 +224,7 @@ module _ (s : Setting) (private : ℕ) (to : ℕ → Env → Processor → Type 
 
 -- 5, 6 and 7 are for work on both sides
 pub is_scratch : (plan : Plan) (r : ℕ) → 4 < r → r < 8 → IsScratch plan r
-is_scratch plan r a b = record { zero = (omega arith); two = (omega arith); three = (omega arith); home = grind (arith, nat_tests); depth = λ by_a. (omega arith); addresses = λ by_a. (omega arith) }
+is_scratch plan r a b = record { zero = (omega arith); two = (omega arith); three = (omega arith); link = (omega arith); home = grind (arith, nat_tests); depth = λ by_a. (omega arith); addresses = λ by_a. (omega arith) }
 
 pub is_work : (r : ℕ) → 4 < r → r < 8 → IsWork r
 is_work r a b = (omega arith, omega arith, omega arith)

@@ -1,6 +1,6 @@
 -- The frames of the function that is called follow the caller's, and are given up again.
 use Rattle.std.proofs.Common.{◌≡◌, ◌≢◌, ℕ, ◌+◌, ◌*◌, ◌%◌, ◌^◌, ◌<◌, ◌≤◌, Bool, true, false, List, [], ◌∷◌, ◌++◌, refl, ◌∙◌, arith, append_assoc}
-use Rattle.std.specs.Prelude.{if◌then◌else◌, nat_eq, pos, negsuc, ℤ}
+use Rattle.std.specs.Prelude.{if◌then◌else◌, nat_eq, ℤ}
 use Rattle.std.proofs.lemmas.Bool.Decides.{nat_tests}
 use Rattle.dae_base.specs.Words.{plus, minus, word}
 use Rattle.dae_base.proofs.Laws.{plus_small}
@@ -13,20 +13,26 @@ use Rattle.dae_select_walks.specs.Walks.{Setting}
 use Rattle.dae_select_walks.specs.Homes.{Contents}
 use Rattle.dae_select_walks.specs.Agrees.{Plan}
 use Rattle.dae_select_walks.proofs.LawsOfWalks.{put}
-use Rattle.dae_select_blocks.specs.Blocks.{lower, is_immediate, number_code, more_code, less_code, deeper_code, back_code}
+use Rattle.dae_select_blocks.specs.Blocks.{lower, is_immediate, number_code, more_code, less_code, count_code, deeper_code, back_code}
 use Rattle.dae_select_blocks.proofs.Plain.{computes, put_same, put_other}
 use Rattle.dae_select_blocks.proofs.Halves.{immediate_word}
 use Rattle.dae_select_blocks.proofs.Frames.{runs_number}
 use Rattle.dae_select_blocks.proofs.Runs.{Runs, runs_quiet}
 use Rattle.dae_select_blocks.proofs.Operands.{like_put}
 
--- where the frames begin and, on A, how deep the call is; the registers of variables and all words are as they were
-pub record Moved (plan : Plan) (base frame depth : ℕ) (c c' : Contents) : Type 0 where
+-- where the frames begin; the other registers but x5, and all words, are as they were
+pub record Moved (base frame : ℕ) (c c' : Contents) : Type 0 where
   pub words : (i : ℕ) → c'.word i ≡ c.word i
   pub two : c'.register 2 ≡ 4 * base
   pub three : c'.register 3 ≡ frame
+  pub others : (j : ℕ) → j ≢ 2 → j ≢ 3 → j ≢ 5 → c'.register j ≡ c.register j
+  pub fits : (j : ℕ) → c'.register j < 2 ^ 32
+
+-- on A so much is counted; all else is as it was
+pub record Counts (plan : Plan) (depth : ℕ) (c c' : Contents) : Type 0 where
+  pub words : (i : ℕ) → c'.word i ≡ c.word i
   pub ten : plan.by_a ≡ true → c'.register 10 ≡ depth
-  pub others : (j : ℕ) → j ≢ 2 → j ≢ 3 → j ≢ 5 → j ≢ 10 → c'.register j ≡ c.register j
+  pub others : (j : ℕ) → j ≢ 10 → c'.register j ≡ c.register j
   pub fits : (j : ℕ) → c'.register j < 2 ^ 32
 
 -- a register has another word, and the register for work may have one too
@@ -92,34 +98,31 @@ module _ (s : Setting) (plan : Plan) (to : ℕ → Env → Processor → Type 0)
           run (put r x c1) (shifted r x c c1 low high (omega arith) (λ i. refl) (λ j a. put_other 5 n j c a) like.fits)))))
 
   -- the depth changes by one, on A
-  runs_depth : {c0 c : Contents} {d : Deed} (base frame depth : ℕ) (more : ℤ) (is : List Inst) → ((i : ℕ) → c.word i ≡ c0.word i) → c.register 2 ≡ 4 * base → c.register 3 ≡ frame → ((j : ℕ) → j ≢ 2 → j ≢ 3 → j ≢ 5 → c.register j ≡ c0.register j) → ((j : ℕ) → c.register j < 2 ^ 32) →
-      (plan.by_a ≡ true → plus (c.register 10) (word more) ≡ depth) → ((c' : Contents) → Moved plan base frame depth c0 c' → Runs s plan.private to is c' d) →
-      Runs s plan.private to ((if plan.by_a then Addi 10 10 more ∷ [] else []) ++ is) c d
-  runs_depth {c0} {c} {d} base frame depth more is words two three others fits ten run = by plan.by_a refl
+  pub runs_count : {c : Contents} {d : Deed} (depth : ℕ) (more : ℤ) (is : List Inst) → ((j : ℕ) → c.register j < 2 ^ 32) → (plan.by_a ≡ true → plus (c.register 10) (word more) ≡ depth) → ((c' : Contents) → Counts plan depth c c' → Runs s plan.private to is c' d) →
+      Runs s plan.private to (count_code plan.by_a more ++ is) c d
+  runs_count {c} {d} depth more is fits ten run = by plan.by_a refl
     where
       by : (b : Bool) → plan.by_a ≡ b → Runs s plan.private to ((if b then Addi 10 10 more ∷ [] else []) ++ is) c d
       by true e =
           let small : plus (c.register 10) (word more) < 2 ^ 32 = plus_small (c.register 10) (word more) in
           let fits' : depth < 2 ^ 32 = rw (ten e) at small in
           runs_quiet s plan.private to (computes s plan.private to (Addi 10 10 more) 10 10 0 (λ x y. plus x (word more)) refl (omega arith) (omega arith) (omega arith) small) (rw (ten e) (
-          run (put 10 depth c) (record { words = words; two = two; three = three; ten = (λ _. refl); others = (λ j n2 n3 n5 n10. put_other 10 depth j c n10 ∙ others j n2 n3 n5); fits = (like_put 10 depth c fits' fits).fits })))
+          run (put 10 depth c) (record { words = (λ i. refl); ten = (λ _. refl); others = (λ j ne. put_other 10 depth j c ne); fits = (like_put 10 depth c fits' fits).fits })))
       by false e =
-          run c (record { words = words; two = two; three = three; ten = (λ t. absurd cc); others = (λ j n2 n3 n5 n10. others j n2 n3 n5); fits = fits })
+          run c (record { words = (λ i. refl); ten = (λ t. absurd cc); others = (λ j ne. refl); fits = fits })
 
-  pub runs_deeper : {c : Contents} {d : Deed} (f base frame depth : ℕ) (is : List Inst) → c.register 0 ≡ 0 → ((j : ℕ) → c.register j < 2 ^ 32) → c.register 2 ≡ 4 * base → c.register 3 ≡ frame → (plan.by_a ≡ true → c.register 10 ≡ depth) → depth < 2 ^ 20 → frame + plan.frame f < 2 ^ 32 → base + plan.words f ≤ 2 ^ 28 →
-      ((c' : Contents) → Moved plan (base + plan.words f) (frame + plan.frame f) (depth + 1) c c' → Runs s plan.private to is c' d) → Runs s plan.private to (deeper_code plan f ++ is) c d
-  runs_deeper {c} f base frame depth is zero fits two three ten low top wide run =
+  pub runs_deeper : {c : Contents} {d : Deed} (f base frame : ℕ) (is : List Inst) → c.register 0 ≡ 0 → ((j : ℕ) → c.register j < 2 ^ 32) → c.register 2 ≡ 4 * base → c.register 3 ≡ frame → frame + plan.frame f < 2 ^ 32 → base + plan.words f ≤ 2 ^ 28 →
+      ((c' : Contents) → Moved (base + plan.words f) (frame + plan.frame f) c c' → Runs s plan.private to is c' d) → Runs s plan.private to (deeper_code plan f ++ is) c d
+  runs_deeper {c} f base frame is zero fits two three top wide run =
       let whole : plan.frame f % 2 ^ 32 ≡ plan.frame f = omega arith in
-      rw (append_assoc, append_assoc, whole) (runs_more 3 (plan.frame f) frame _ zero fits (omega arith) (omega arith) three (omega arith) top (λ c1 one.
+      rw (append_assoc, whole) (runs_more 3 (plan.frame f) frame _ zero fits (omega arith) (omega arith) three (omega arith) top (λ c1 one.
       runs_more 2 (4 * plan.words f) (4 * base) _ (one.others 0 (omega arith) (omega arith) ∙ zero) one.fits (omega arith) (omega arith) (one.others 2 (omega arith) (omega arith) ∙ two) (omega arith) (omega arith) (λ c2 other.
-      runs_depth {c0 = c} (base + plan.words f) (frame + plan.frame f) (depth + 1) (pos 1) is (λ i. other.words i ∙ one.words i) (other.here ∙ (omega arith)) (other.others 3 (omega arith) (omega arith) ∙ one.here)
-      (λ j n2 n3 n5. other.others j n2 n5 ∙ one.others j n3 n5) other.fits (λ e. rw (other.others 10 (omega arith) (omega arith) ∙ (one.others 10 (omega arith) (omega arith) ∙ ten e)) (omega arith)) run)))
+      run c2 (record { words = (λ i. other.words i ∙ one.words i); two = other.here ∙ (omega arith); three = other.others 3 (omega arith) (omega arith) ∙ one.here; others = (λ j n2 n3 n5. other.others j n2 n5 ∙ one.others j n3 n5); fits = other.fits }))))
 
-  pub runs_back : {c : Contents} {d : Deed} (f base frame depth : ℕ) (is : List Inst) → c.register 0 ≡ 0 → ((j : ℕ) → c.register j < 2 ^ 32) → c.register 2 ≡ 4 * (base + plan.words f) → c.register 3 ≡ frame + plan.frame f → (plan.by_a ≡ true → c.register 10 ≡ depth + 1) → depth < 2 ^ 20 → frame + plan.frame f < 2 ^ 32 → base + plan.words f ≤ 2 ^ 28 →
-      ((c' : Contents) → Moved plan base frame depth c c' → Runs s plan.private to is c' d) → Runs s plan.private to (back_code plan f ++ is) c d
-  runs_back {c} f base frame depth is zero fits two three ten low top wide run =
+  pub runs_back : {c : Contents} {d : Deed} (f base frame : ℕ) (is : List Inst) → c.register 0 ≡ 0 → ((j : ℕ) → c.register j < 2 ^ 32) → c.register 2 ≡ 4 * (base + plan.words f) → c.register 3 ≡ frame + plan.frame f → frame + plan.frame f < 2 ^ 32 → base + plan.words f ≤ 2 ^ 28 →
+      ((c' : Contents) → Moved base frame c c' → Runs s plan.private to is c' d) → Runs s plan.private to (back_code plan f ++ is) c d
+  runs_back {c} f base frame is zero fits two three top wide run =
       let whole : plan.frame f % 2 ^ 32 ≡ plan.frame f = omega arith in
-      rw (append_assoc, append_assoc, whole) (runs_less 3 (plan.frame f) frame _ zero fits (omega arith) (omega arith) three (omega arith) top (λ c1 one.
+      rw (append_assoc, whole) (runs_less 3 (plan.frame f) frame _ zero fits (omega arith) (omega arith) three (omega arith) top (λ c1 one.
       runs_less 2 (4 * plan.words f) (4 * base) _ (one.others 0 (omega arith) (omega arith) ∙ zero) one.fits (omega arith) (omega arith) (one.others 2 (omega arith) (omega arith) ∙ (two ∙ (omega arith))) (omega arith) (omega arith) (λ c2 other.
-      runs_depth {c0 = c} base frame depth (negsuc 0) is (λ i. other.words i ∙ one.words i) other.here (other.others 3 (omega arith) (omega arith) ∙ one.here)
-      (λ j n2 n3 n5. other.others j n2 n5 ∙ one.others j n3 n5) other.fits (λ e. rw (other.others 10 (omega arith) (omega arith) ∙ (one.others 10 (omega arith) (omega arith) ∙ ten e)) (omega arith)) run)))
+      run c2 (record { words = (λ i. other.words i ∙ one.words i); two = other.here; three = other.others 3 (omega arith) (omega arith) ∙ one.here; others = (λ j n2 n3 n5. other.others j n2 n5 ∙ one.others j n3 n5); fits = other.fits }))))

@@ -1,15 +1,16 @@
 -- A call's walk: from its block over the jump and the entry code to where the called function's actions begin.
-use Rattle.std.proofs.Common.{◌≡◌, ◌≢◌, ℕ, zero, suc, ◌+◌, ◌-◌, ◌*◌, ◌/◌, ◌^◌, ◌<◌, ◌≤◌, inl, inr, true, not, ◌&&◌, List, [], ◌++◌, Option, Some, length, refl, sym, ap, ◌∙◌, subst, arith, append-nil}
-use Rattle.std.specs.Prelude.{nat_eq, pos}
+use Rattle.std.proofs.Common.{◌≡◌, ◌≢◌, ℕ, zero, suc, ◌+◌, ◌-◌, ◌*◌, ◌/◌, ◌^◌, ◌<◌, ◌≤◌, inl, inr, Bool, true, false, not, ◌&&◌, List, [], ◌∷◌, ◌++◌, Option, Some, length, refl, sym, ap, ◌∙◌, subst, arith, append-nil}
+use Rattle.std.specs.Prelude.{nat_eq, pos, if◌then◌else◌}
 use Rattle.std.proofs.lemmas.Bool.Decides.{nat_tests}
 use Rattle.dae_base.specs.Words.{plus, word}
 use Rattle.dae_base.proofs.Laws.{plus_small, choice_small}
 use Rattle.dae_encode.specs.declared.QueueUse.TheVariants.{Nothing}
-use Rattle.dae_encode.specs.declared.Inst.TheVariants.{Lui, Jalr}
+use Rattle.dae_encode.specs.declared.Inst.{Inst}
+use Rattle.dae_encode.specs.declared.Inst.TheVariants.{Lui, Jalr, Sw}
 use Rattle.dae_encode.specs.Processor.{Processor}
 use Rattle.dae_ir.specs.Classes.{VariableSet}
 use Rattle.dae_meaning.specs.Variables.{Env}
-use Rattle.dae_ir.specs.Deeds.{Went}
+use Rattle.dae_ir.specs.Deeds.{Deed, Went}
 use Rattle.dae_ir.specs.declared.stream.Argument.{Argument}
 use Rattle.dae_select_walks.specs.declared.Home.{Home}
 use Rattle.dae_select_walks.specs.declared.Home.TheVariants.{Register, Slot}
@@ -17,25 +18,25 @@ use Rattle.dae_select_walks.specs.Walks.{Setting, Comes}
 use Rattle.dae_select_walks.specs.Layout.{CodeAt}
 use Rattle.dae_select_walks.specs.Live.{in_arguments, is}
 use Rattle.dae_select_walks.specs.Homes.{Contents, held, kept, IsHome, AreApart, is_home_register, kept_at, slot_at, resident_home, resident_register}
-use Rattle.dae_select_walks.specs.Agrees.{Plan, Moment, Waiting, Agrees, Shows, Stands, AreIn, AreWaiting, AreResident, IsWithin, depth_of, top_of}
+use Rattle.dae_select_walks.specs.Agrees.{Plan, Moment, Waiting, Agrees, Shows, Stands, AreIn, AreWaiting, AreResident, IsWithin, depth_of, top_of, return_address, counted_depth}
 use Rattle.dae_select_walks.specs.Compiled.{given, called, waiting_of}
 use Rattle.dae_select_walks.proofs.LawsOfWalks.{comes_here, comes_more, comes_then}
 use Rattle.dae_select_walks.proofs.LawsOfWalks.{put, store, step}
-use Rattle.dae_select_blocks.specs.Blocks.{upper, lower, waits_at, arguments_code, save_code, restore_code, deeper_code, enter_code}
+use Rattle.dae_select_blocks.specs.Blocks.{upper, lower, waits_at, arguments_code, save_code, restore_code, count_code, prologue_code, deeper_code, enter_code, enter_words, is_immediate}
 use Rattle.dae_select_blocks.specs.Code.{registers_in, entry_code}
 use Rattle.dae_select_blocks.specs.Fits.{Fits}
 use Rattle.dae_select_blocks.specs.Wanted.{AreGiven, gives, IsLinked}
-use Rattle.dae_select_blocks.proofs.Halves.{halves}
+use Rattle.dae_select_blocks.proofs.Halves.{halves, immediate_word}
 use Rattle.dae_select_blocks.proofs.Plain.{plain_computes, stores_word}
 use Rattle.dae_select_blocks.proofs.Frames.{upper_small}
 use Rattle.dae_select_blocks.proofs.Runs.{Runs, runs_nothing, runs_quiet}
-use Rattle.dae_select_blocks.proofs.Agreement.{Ready, resident_high, kept_small, waiting_same}
-use Rattle.dae_select_blocks.proofs.Operands.{like_put}
+use Rattle.dae_select_blocks.proofs.Agreement.{Ready, resident_high, kept_small, waiting_same, waiting_kept, address_same, Like}
+use Rattle.dae_select_blocks.proofs.Operands.{like_put, like_itself}
 use Rattle.dae_select_blocks.proofs.Calls.{kept_low, among, kept_register, register_kept, Saved, runs_arguments, runs_save, runs_restore, among_not, among_other}
-use Rattle.dae_select_blocks.proofs.Deeper.{runs_deeper}
+use Rattle.dae_select_blocks.proofs.Deeper.{runs_deeper, runs_count}
 use Rattle.dae_select_blocks.proofs.Jumps.{ready}
 
--- the called function's frame is begun: its arguments wait, and the caller's variables are kept
+-- the called function's frame is begun: its arguments wait, and the caller's variables are kept, as is the address that it returns to
 pub record Prepared (plan : Plan) (m : Moment) (w : Waiting) (base g : ℕ) (xs : List Argument) (k : ℕ) (p : Processor) : Type 0 where
   pub contents : Contents
   pub shows : Shows plan.private contents k p
@@ -43,10 +44,10 @@ pub record Prepared (plan : Plan) (m : Moment) (w : Waiting) (base g : ℕ) (xs 
   pub three : contents.register 3 ≡ top_of plan m
   pub four : plan.by_a ≡ true → contents.register 4 ≡ plan.memory - 16
   pub residents : AreResident plan contents
-  pub ten : plan.by_a ≡ true → contents.register 10 ≡ depth_of m + 1
+  pub ten : plan.by_a ≡ true → contents.register 10 ≡ depth_of m
   pub given : (u : ℕ) → gives xs u ≡ true → contents.word (base + (plan.words m.function + waits_at (plan.home g u))) ≡ given xs m.env u
   pub variables : AreIn (kept contents base) (plan.home m.function) w.live m.env
-  pub waiting : AreWaiting plan contents base m.frame m.waiting
+  pub waiting : AreWaiting plan contents (contents.word base) base m.frame m.waiting
 
 module _ (s : Setting) (plan : Plan) (variables : ℕ → ℕ) (fine : Fits s plan variables) (entries : ℕ → VariableSet) (linked : IsLinked s plan variables entries) where
   -- within the call limit there is room for one frame more
@@ -74,51 +75,69 @@ module _ (s : Setting) (plan : Plan) (variables : ℕ → ℕ) (fine : Fits s pl
       words (base + slot_at i) ∙ (saved.others (base + slot_at i) (inr (omega arith)) ∙ (rw based at b))
 
   pub prepares : {live : VariableSet} {m : Moment} {k : ℕ} {p : Processor} (v : Option ℕ) (behind : VariableSet) (g : ℕ) (xs : List Argument) (w : Waiting) (h : Stands plan live m k p) → w.live ≡ (λ u. behind u && not (is v u)) →
-      ((u : ℕ) → in_arguments xs u ≡ true → live u ≡ true) → ((u : ℕ) → w.live u ≡ true → live u ≡ true) → ((u : ℕ) → live u ≡ true → u < variables m.function) → AreGiven xs → AreApart (plan.home g) (gives xs) → IsWithin plan (called plan g xs w m) →
+      ((u : ℕ) → in_arguments xs u ≡ true → live u ≡ true) → ((u : ℕ) → w.live u ≡ true → live u ≡ true) → ((u : ℕ) → live u ≡ true → u < variables m.function) → AreGiven xs → AreApart (plan.home g) (gives xs) → plan.leaf m.function ≡ false → IsWithin plan (called plan g xs w m) →
       k + length (arguments_code plan m.function g xs ++ (save_code (registers_in (plan.home m.function) (variables m.function) w.live) ++ deeper_code plan m.function)) < 2 ^ 29 →
       CodeAt s.code k (arguments_code plan m.function g xs ++ (save_code (registers_in (plan.home m.function) (variables m.function) w.live) ++ deeper_code plan m.function)) →
       Comes s (length (arguments_code plan m.function g xs ++ (save_code (registers_in (plan.home m.function) (variables m.function) w.live) ++ deeper_code plan m.function))) p
       (Prepared plan m w h.agrees.base g xs (k + length (arguments_code plan m.function g xs ++ (save_code (registers_in (plan.home m.function) (variables m.function) w.live) ++ deeper_code plan m.function))))
-  prepares {live} {m} {k} {p} v behind g xs w h is_live reads keeps scope numbers apart within small at =
+  prepares {live} {m} {k} {p} v behind g xs w h is_live reads keeps scope numbers apart calls within small at =
       let to : ℕ → Env → Processor → Type 0 = λ j env q. Prepared plan m w h.agrees.base g xs j q in
       let h0 = ready s plan variables fine h in
       let base : ℕ = h.agrees.base in
       let rs : List ℕ = registers_in (plan.home m.function) (variables m.function) w.live in
       let deep = within.depth in let top = within.frame in let long = fine.words m.function in let wide = fine.private in let most = fine.common in let lim = fine.limit in
       let inside = room_for h0 g (omega arith) in
+      let counted : counted_depth plan m.function (depth_of m) ≡ depth_of m = ap (λ (leaf : Bool). if leaf then depth_of m - 1 else depth_of m) calls in
       let run : Runs s plan.private to (arguments_code plan m.function g xs ++ (save_code rs ++ deeper_code plan m.function)) h.contents (Went m.env) =
       runs_arguments s plan variables fine to g xs (save_code rs ++ deeper_code plan m.function) h0 reads numbers apart inside (λ c1 gave.
       let h1 = gave.ready in
       let p1 : c1.register 2 ≡ 4 * base = h1.agrees.pointer ∙ ap (λ n. 4 * n) gave.based in
       runs_save s plan variables fine to base rs (deeper_code plan m.function) (λ q a. register_kept (plan.home m.function) (variables m.function) q w.live a) p1 (omega arith) h1.fits h1.small (λ c2 saved.
-      let last : Runs s plan.private to (deeper_code plan m.function ++ []) c2 (Went m.env) = runs_deeper s plan to m.function base m.frame (depth_of m) [] (saved.registers 0 (omega arith) ∙ h1.zero) saved.fits (saved.registers 2 (omega arith) ∙ p1) (saved.registers 3 (omega arith) ∙ h1.agrees.frame) (λ e. saved.registers 10 (omega arith) ∙ h1.agrees.depth e) (omega arith) (omega arith) (omega arith) (λ c3 moved.
+      let last : Runs s plan.private to (deeper_code plan m.function ++ []) c2 (Went m.env) = runs_deeper s plan to m.function base m.frame [] (saved.registers 0 (omega arith) ∙ h1.zero) saved.fits (saved.registers 2 (omega arith) ∙ p1) (saved.registers 3 (omega arith) ∙ h1.agrees.frame) (omega arith) (omega arith) (λ c3 moved.
       runs_nothing s plan.private to {env = m.env} (λ j q shows. record {
         contents = c3;
         shows = shows;
         two = moved.two;
         three = moved.three;
-        four = λ e. moved.others 4 (omega arith) (omega arith) (omega arith) (omega arith) ∙ (saved.registers 4 (omega arith) ∙ h1.agrees.addresses e);
+        four = λ e. moved.others 4 (omega arith) (omega arith) (omega arith) ∙ (saved.registers 4 (omega arith) ∙ h1.agrees.addresses e);
         residents = λ n r e.
             let high = resident_high (resident_home 27 plan.residents n) r e in
-            moved.others r (omega arith) (omega arith) (omega arith) (omega arith) ∙ (saved.registers r (omega arith) ∙ h1.agrees.residents n r e);
-        ten = moved.ten;
+            moved.others r (omega arith) (omega arith) (omega arith) ∙ (saved.registers r (omega arith) ∙ h1.agrees.residents n r e);
+        ten = λ e. moved.others 10 (omega arith) (omega arith) (omega arith) ∙ (saved.registers 10 (omega arith) ∙ (h1.agrees.depth e ∙ counted));
         given = λ u e. moved.words (base + (plan.words m.function + waits_at (plan.home g u))) ∙ (saved.others (base + (plan.words m.function + waits_at (plan.home g u))) (inr (omega arith)) ∙ gave.given u e);
         variables = λ u e. one base u w.live c1 c2 c3 h1 gave.based saved moved.words e (keeps u e) (scope u (keeps u e)) (plan.home m.function u) refl;
-        waiting = waiting_same s plan variables fine c1 c3 base m.frame m.waiting (λ i l. moved.words i ∙ saved.others i (inl l)) (subst (λ (b : ℕ). AreWaiting plan c1 b m.frame m.waiting) gave.based h1.agrees.waiting);
+        waiting = waiting_same s plan variables fine c1 c3 (c1.word base) (c3.word base) base m.frame m.waiting (moved.words base ∙ saved.others base (inl (omega arith))) (λ i l. moved.words i ∙ saved.others i (inl l))
+            (subst (λ (b : ℕ). AreWaiting plan c1 (c1.word b) b m.frame m.waiting) gave.based (waiting_kept s plan variables fine m.function c1 h1.agrees.base m.frame m.waiting calls h1.agrees.waiting));
       })) in rw append-nil at last)) in
       run.from k small at p h.shows
 
   -- ---- the jump, and the entry code
 
-  pub jumps_in : {c : Contents} {k : ℕ} {p : Processor} (target : ℕ) → k + 2 < 2 ^ 29 → target < 2 ^ 29 → CodeAt s.code k (enter_code target) → Shows plan.private c k p → Comes s 2 p (λ q. (u : ℕ) × (u < 2 ^ 32) × Shows plan.private (put 1 (4 * (k + 2)) (put 5 u c)) target q)
-  jumps_in {c} {k} target small near at h =
+  small_immediate : (n : ℕ) → n < 2 ^ 11 → is_immediate n ≡ true
+  unfolding is_immediate
+  small_immediate n low = grind (arith, nat_tests)
+
+  -- which leaves the address to return to in x1, and anything in x5
+  pub jumps_in : {c : Contents} {k : ℕ} {p : Processor} (target : ℕ) (near : Bool) → (near ≡ true → target < 512) → k + enter_words near < 2 ^ 29 → target < 2 ^ 29 → CodeAt s.code k (enter_code near target) → Shows plan.private c k p →
+      Comes s (enter_words near) p (λ q. (c' : Contents) × Like 5 c c' × Shows plan.private (put 1 (4 * (k + enter_words near)) c') target q)
+  jumps_in {c} {k} target true close small low at h =
+      let reach = close refl in
+      let few : 4 * target < 2 ^ 11 = omega arith in
+      let is : word (lower (4 * target)) ≡ 4 * target = immediate_word (4 * target) (omega arith) (small_immediate (4 * target) few) in
+      let none : c.register 0 ≡ 0 = h.zero in
+      let sum : plus (c.register 0) (word (lower (4 * target))) ≡ 4 * target = rw (none, is) (omega arith) in
+      let lands : plus (c.register 0) (word (lower (4 * target))) / 2 * 2 ≡ 4 * target = rw sum (omega arith) in
+      let only = step s plan.private (Jalr 1 0 (lower (4 * target))) 1 0 0 0 target at.0 (λ pc x y. plus pc 4) (λ pc x y. plus x (word (lower (4 * target))) / 2 * 2) Nothing h at.1 at.2 refl (plain_computes s.copies s.side 1 0 0 (omega arith) (omega arith) (omega arith)) (plus_small (4 * k) 4) lands in
+      let back : plus (4 * k) 4 ≡ 4 * (k + 1) = omega arith in
+      comes_more s only.goes (comes_here s {n = 0} (c, like_itself 5 c h.fits, rw back at only.holds))
+  jumps_in {c} {k} target false close small near at h =
       let u : ℕ = word (upper (4 * target)) in
       let first = step s plan.private (Lui 5 (upper (4 * target))) 5 0 0 0 (k + 1) at.0 (λ pc x y. word (upper (4 * target))) (λ pc x y. plus pc 4) Nothing h at.1 at.2 refl (plain_computes s.copies s.side 5 0 0 (omega arith) (omega arith) (omega arith)) (upper_small (4 * target)) (omega arith) in
       let sum : plus u (word (lower (4 * target))) ≡ 4 * target = halves (4 * target) (omega arith) in
       let lands : plus u (word (lower (4 * target))) / 2 * 2 ≡ 4 * target = rw sum (omega arith) in
       let second = step s plan.private (Jalr 1 5 (lower (4 * target))) 1 5 0 0 target at.3.0 (λ pc x y. plus pc 4) (λ pc x y. plus x (word (lower (4 * target))) / 2 * 2) Nothing first.holds at.3.1 at.3.2 refl (plain_computes s.copies s.side 1 5 0 (omega arith) (omega arith) (omega arith)) (plus_small (4 * (k + 1)) 4) lands in
       let back : plus (4 * (k + 1)) 4 ≡ 4 * (k + 2) = omega arith in
-      comes_more s first.goes (comes_more s second.goes (comes_here s {n = 0} (u, upper_small (4 * target), rw back at second.holds)))
+      comes_more s first.goes (comes_more s second.goes (comes_here s {n = 0} (put 5 u c, like_put 5 u c (upper_small (4 * target)) h.fits, rw back at second.holds)))
 
   step_down : (n k : ℕ) → 0 < n → n * k ≡ k + (n - 1) * k
   step_down zero k h = absurd (omega arith)
@@ -126,17 +145,17 @@ module _ (s : Setting) (plan : Plan) (variables : ℕ → ℕ) (fine : Fits s pl
 
   -- the called function's frame holds the address to return to, and its registers hold its parameters
   record Arrived (m : Moment) (w : Waiting) (base g : ℕ) (before' c : Contents) : Type 0 where
-    pub back : c.word (base + plan.words m.function) ≡ 4 * w.back
+    pub back : return_address plan g c (base + plan.words m.function) ≡ 4 * w.back
     pub words : (i : ℕ) → i ≢ base + plan.words m.function → c.word i ≡ before'.word i
     pub registers : (r : ℕ) → among r (registers_in (plan.home g) (variables g) (entries g)) ≡ true → c.register r ≡ before'.word (base + plan.words m.function + kept_at r)
     pub two : c.register 2 ≡ before'.register 2
     pub three : c.register 3 ≡ before'.register 3
     pub four : c.register 4 ≡ before'.register 4
-    pub ten : c.register 10 ≡ before'.register 10
+    pub ten : plan.by_a ≡ true → c.register 10 ≡ counted_depth plan g (before'.register 10 + 1)
     pub residents : (n r : ℕ) → resident_register (resident_home 27 plan.residents n) ≡ Some r → c.register r ≡ before'.register r
 
-  arrives : {live : VariableSet} {m : Moment} {k : ℕ} {p : Processor} (v : Option ℕ) (behind : VariableSet) (g : ℕ) (xs : List Argument) {c0 c : Contents} (h : Ready plan live m c0) → ((u : ℕ) → entries g u ≡ true → gives xs u ≡ true) → k + 2 < 2 ^ 29 → IsWithin plan (called plan g xs (waiting_of v behind (k + 2) m) m) →
-      (q : Prepared plan m (waiting_of v behind (k + 2) m) h.agrees.base g xs k p) → Arrived m (waiting_of v behind (k + 2) m) h.agrees.base g q.contents c → Agrees plan (entries g) (called plan g xs (waiting_of v behind (k + 2) m) m) c
+  arrives : {live : VariableSet} {m : Moment} {k : ℕ} {p : Processor} (v : Option ℕ) (behind : VariableSet) (g : ℕ) (xs : List Argument) {c0 c : Contents} (h : Ready plan live m c0) → ((u : ℕ) → entries g u ≡ true → gives xs u ≡ true) → k + enter_words plan.near < 2 ^ 29 → IsWithin plan (called plan g xs (waiting_of v behind (k + enter_words plan.near) m) m) →
+      (q : Prepared plan m (waiting_of v behind (k + enter_words plan.near) m) h.agrees.base g xs k p) → Arrived m (waiting_of v behind (k + enter_words plan.near) m) h.agrees.base g q.contents c → Agrees plan (entries g) (called plan g xs (waiting_of v behind (k + enter_words plan.near) m) m) c
   arrives {live} {m} {k} v behind g xs {c0} {c} h wanted small within q a =
       let b : ℕ = h.agrees.base + plan.words m.function in
       let long = fine.words m.function in
@@ -144,14 +163,14 @@ module _ (s : Setting) (plan : Plan) (variables : ℕ → ℕ) (fine : Fits s pl
       let room = h.agrees.room in let wide = fine.largest m.function in
       let once = step_down (plan.limit + 1 - depth_of m) plan.largest (omega arith) in
       let same : plan.limit + 1 - depth_of m - 1 ≡ plan.limit + 1 - (depth_of m + 1) = omega arith in
-      let next : depth_of m + 1 ≡ depth_of (called plan g xs (waiting_of v behind (k + 2) m) m) = omega arith in
+      let next : depth_of m + 1 ≡ depth_of (called plan g xs (waiting_of v behind (k + enter_words plan.near) m) m) = omega arith in
       let room' : h.agrees.base + (plan.largest + (plan.limit + 1 - (depth_of m + 1)) * plan.largest) ≤ plan.private = (rw (once, same) at room) in
       record {
         base = b;
         variables = λ u e. parameter u (wanted u e) (linked.reads g u e) e (plan.home g u) refl;
         pointer = a.two ∙ q.two;
         frame = a.three ∙ q.three;
-        depth = λ e. a.ten ∙ (q.ten e ∙ next);
+        depth = λ e. a.ten e ∙ (ap (λ (n : ℕ). counted_depth plan g (n + 1)) (q.ten e) ∙ ap (λ (n : ℕ). counted_depth plan g n) next);
         addresses = λ e. a.four ∙ q.four e;
         residents = λ n r e. a.residents n r e ∙ q.residents n r e;
         waiting = (
@@ -163,7 +182,7 @@ module _ (s : Setting) (plan : Plan) (variables : ℕ → ℕ) (fine : Fits s pl
           small,
           a.back,
           (λ u e. below u (plan.home m.function u) (fine.homes m.function u) ∙ q.variables u e),
-          waiting_same s plan variables fine q.contents c h.agrees.base m.frame m.waiting (λ i l. a.words i (omega arith)) q.waiting,
+          waiting_same s plan variables fine q.contents c (q.contents.word h.agrees.base) (c.word h.agrees.base) h.agrees.base m.frame m.waiting (a.words h.agrees.base (omega arith)) (λ i l. a.words i (omega arith)) q.waiting,
         );
         room = rw (← next) (omega arith);
         within = within;
@@ -186,11 +205,56 @@ module _ (s : Setting) (plan : Plan) (variables : ℕ → ℕ) (fine : Fits s pl
       below u (Register r) good = let long = fine.words m.function in let l = kept_small r good in a.words (h.agrees.base + kept_at r) (omega arith)
       below u (Slot i) good = let long = fine.words m.function in a.words (h.agrees.base + slot_at i) (omega arith)
 
-  pub enters : {live : VariableSet} {m : Moment} {k : ℕ} {p : Processor} (v : Option ℕ) (behind : VariableSet) (g : ℕ) (xs : List Argument) {c : Contents} (h : Ready plan live m c) → g < plan.functions → ((u : ℕ) → entries g u ≡ true → gives xs u ≡ true) → k + 2 < 2 ^ 29 → IsWithin plan (called plan g xs (waiting_of v behind (k + 2) m) m) →
-      CodeAt s.code k (enter_code (plan.entry g)) → Prepared plan m (waiting_of v behind (k + 2) m) h.agrees.base g xs k p →
-      Comes s (2 + length (entry_code plan variables g (entries g))) p (Stands plan (entries g) (called plan g xs (waiting_of v behind (k + 2) m) m) (plan.start g))
+  -- what a function begins with: the address to return to, which is in x1, is where the function looks for it, and the function
+  -- is counted
+  pub record Opened (f base : ℕ) (c c' : Contents) : Type 0 where
+    pub address : return_address plan f c' base ≡ c.register 1
+    pub ten : plan.by_a ≡ true → c'.register 10 ≡ counted_depth plan f (c.register 10 + 1)
+    pub words : (i : ℕ) → i ≢ base → c'.word i ≡ c.word i
+    pub registers : (j : ℕ) → j ≢ 10 → c'.register j ≡ c.register j
+    pub fits : (j : ℕ) → c'.register j < 2 ^ 32
+    pub small : (i : ℕ) → c'.word i < 2 ^ 32
+
+  pub runs_prologue : {c : Contents} {d : Deed} (to : ℕ → Env → Processor → Type 0) (f base : ℕ) (is : List Inst) → c.register 2 ≡ 4 * base → base < plan.private → ((j : ℕ) → c.register j < 2 ^ 32) → ((i : ℕ) → c.word i < 2 ^ 32) → (plan.by_a ≡ true → c.register 10 < 2 ^ 20) →
+      ((c' : Contents) → Opened f base c c' → Runs s plan.private to is c' d) → Runs s plan.private to (prologue_code plan.by_a (plan.leaf f) ++ is) c d
+  runs_prologue {c} {d} to f base is pointer inside fits small deep run = by (plan.leaf f) refl
+    where
+      -- by what kind of function it is
+      found_in : (c' : Contents) (leaf : Bool) → plan.leaf f ≡ leaf → return_address plan f c' base ≡ (if leaf then c'.register 1 else c'.word base)
+      found_in c' leaf e = ap (λ (leaf : Bool). if leaf then c'.register 1 else c'.word base) e
+
+      counts_as : (leaf : Bool) → plan.leaf f ≡ leaf → counted_depth plan f (c.register 10 + 1) ≡ (if leaf then c.register 10 + 1 - 1 else c.register 10 + 1)
+      counts_as leaf e = ap (λ (leaf : Bool). if leaf then c.register 10 + 1 - 1 else c.register 10 + 1) e
+
+      by : (leaf : Bool) → plan.leaf f ≡ leaf → Runs s plan.private to ((if leaf then [] else Sw 2 1 (pos 0) ∷ count_code plan.by_a (pos 1)) ++ is) c d
+      by true e =
+          let none : c.register 10 ≡ c.register 10 + 1 - 1 = omega arith in
+          run c (record { address = found_in c true e; ten = λ a. none ∙ sym (counts_as true e); words = λ i ne. refl; registers = λ j ne. refl; fits = fits; small = small })
+      by false e =
+          let wide = fine.private in
+          let v : ℕ = c.register 1 in
+          let found : plus (c.register 2) (word (pos 0)) ≡ 4 * base = rw pointer (omega arith) in
+          let c2 : Contents = store base v c in
+          let here : c2.word base ≡ v = grind (arith, nat_tests) in
+          let others : (i : ℕ) → i ≢ base → c2.word i ≡ c.word i = λ i ne. (grind (arith, nat_tests)) in
+          let few : (i : ℕ) → c2.word i < 2 ^ 32 = λ i. choice_small (nat_eq i base) v (c.word i) (fits 1) (small i) in
+          let more : plan.by_a ≡ true → plus (c.register 10) (word (pos 1)) ≡ c.register 10 + 1 = λ a. (let low = deep a in omega arith) in
+          runs_quiet s plan.private to (stores_word s plan.private to 2 1 (pos 0) base (omega arith) (omega arith) found inside) (
+          runs_count s plan to {c = c2} (c.register 10 + 1) (pos 1) is fits more (λ c3 counts.
+          run c3 (record {
+            address = found_in c3 false e ∙ (counts.words base ∙ here);
+            ten = λ a. counts.ten a ∙ sym (counts_as false e);
+            words = λ i ne. counts.words i ∙ others i ne;
+            registers = λ j ne. counts.others j ne;
+            fits = counts.fits;
+            small = λ i. subst (λ (x : ℕ). x < 2 ^ 32) (sym (counts.words i)) (few i);
+          })))
+
+  pub enters : {live : VariableSet} {m : Moment} {k : ℕ} {p : Processor} (v : Option ℕ) (behind : VariableSet) (g : ℕ) (xs : List Argument) {c : Contents} (h : Ready plan live m c) → g < plan.functions → ((u : ℕ) → entries g u ≡ true → gives xs u ≡ true) → k + enter_words plan.near < 2 ^ 29 → IsWithin plan (called plan g xs (waiting_of v behind (k + enter_words plan.near) m) m) →
+      CodeAt s.code k (enter_code plan.near (plan.entry g)) → Prepared plan m (waiting_of v behind (k + enter_words plan.near) m) h.agrees.base g xs k p →
+      Comes s (enter_words plan.near + length (entry_code plan variables g (entries g))) p (Stands plan (entries g) (called plan g xs (waiting_of v behind (k + enter_words plan.near) m) m) (plan.start g))
   enters {live} {m} {k} {p} v behind g xs {c} h there wanted small within at q =
-      let w : Waiting = waiting_of v behind (k + 2) m in
+      let w : Waiting = waiting_of v behind (k + enter_words plan.near) m in
       let base : ℕ = h.agrees.base in
       let b : ℕ = base + plan.words m.function in
       let rs : List ℕ = registers_in (plan.home g) (variables g) (entries g) in
@@ -198,33 +262,33 @@ module _ (s : Setting) (plan : Plan) (variables : ℕ → ℕ) (fine : Fits s pl
       let deep = within.depth in
       let inside = room_for h g (omega arith) in
       let entry = linked.entry g there in let start = linked.start g there in let near = linked.near g there in
-      comes_then s (jumps_in (plan.entry g) small (omega arith) at q.shows) (λ r j.
-      let c1 : Contents = put 1 (4 * (k + 2)) (put 5 j.0 q.contents) in
+      comes_then s (jumps_in (plan.entry g) plan.near (linked.close g there) small (omega arith) at q.shows) (λ r j.
+      let c1 : Contents = put 1 (4 * (k + enter_words plan.near)) j.0 in
       let to : ℕ → Env → Processor → Type 0 = λ word env o. Stands plan (entries g) (called plan g xs w m) word o in
-      let l1 = like_put 5 j.0 q.contents j.1 q.shows.fits in
-      let l2 = like_put 1 (4 * (k + 2)) (put 5 j.0 q.contents) (omega arith) l1.fits in
-      let found : plus (c1.register 2) (word (pos 0)) ≡ 4 * b = rw q.two (omega arith) in
-      let c2 : Contents = store b (4 * (k + 2)) c1 in
-      let words2 : (i : ℕ) → i ≢ b → c2.word i ≡ q.contents.word i = λ i ne. (grind (arith, nat_tests)) in
+      let l1 = j.1 in
+      let l2 = like_put 1 (4 * (k + enter_words plan.near)) j.0 (omega arith) l1.fits in
+      let pointer : c1.register 2 ≡ 4 * b = l1.registers 2 (omega arith) ∙ q.two in
+      let lim = fine.limit in
+      let low : depth_of m < 2 ^ 20 = omega arith in
       let good : (r : ℕ) → among r rs ≡ true → is_home_register r ≡ true = λ r e. register_kept (plan.home g) (variables g) r (entries g) e in
       let run : Runs s plan.private to (entry_code plan variables g (entries g)) c1 (Went m.env) =
-      runs_quiet s plan.private to (stores_word s plan.private to 2 1 (pos 0) b (omega arith) (omega arith) found (omega arith)) (
-      let last : Runs s plan.private to (restore_code rs ++ []) c2 (Went m.env) = runs_restore s plan variables fine to b rs [] good q.two (omega arith) l2.fits (λ i. choice_small (nat_eq i b) (4 * (k + 2)) (q.contents.word i) (omega arith) (q.shows.holds i)) (λ c3 restored.
+      runs_prologue to g b (restore_code rs) pointer (omega arith) l2.fits (λ i. subst (λ (x : ℕ). x < 2 ^ 32) (sym (l1.words i)) (q.shows.holds i)) (λ e. subst (λ (x : ℕ). x < 2 ^ 20) (sym (l1.registers 10 (omega arith) ∙ q.ten e)) low) (λ c2 kept'.
+      let last : Runs s plan.private to (restore_code rs ++ []) c2 (Went m.env) = runs_restore s plan variables fine to b rs [] good (kept'.registers 2 (omega arith) ∙ pointer) (omega arith) kept'.fits kept'.small (λ c3 restored.
       runs_nothing s plan.private to {env = m.env} (λ word o shows. record {
         contents = c3;
         shows = shows;
         agrees = arrives v behind g xs h wanted (omega arith) within q (record {
-          back = restored.words b ∙ (grind (arith, nat_tests));
-          words = λ i ne. restored.words i ∙ words2 i ne;
-          registers = λ r e. (let low = kept_low r (good r e) in restored.kept r e ∙ words2 (b + kept_at r) (omega arith));
-          two = restored.others 2 (among_not (plan.home g) (variables g) 2 (entries g) refl);
-          three = restored.others 3 (among_not (plan.home g) (variables g) 3 (entries g) refl);
-          four = restored.others 4 (among_not (plan.home g) (variables g) 4 (entries g) refl);
-          ten = restored.others 10 (among_not (plan.home g) (variables g) 10 (entries g) refl);
+          back = address_same s plan variables fine g b c2 c3 (restored.others 1 (among_not (plan.home g) (variables g) 1 (entries g) refl)) (restored.words b) ∙ kept'.address;
+          words = λ i ne. restored.words i ∙ (kept'.words i ne ∙ l1.words i);
+          registers = λ r e. (let low = kept_low r (good r e) in restored.kept r e ∙ (kept'.words (b + kept_at r) (omega arith) ∙ l1.words (b + kept_at r)));
+          two = restored.others 2 (among_not (plan.home g) (variables g) 2 (entries g) refl) ∙ (kept'.registers 2 (omega arith) ∙ l1.registers 2 (omega arith));
+          three = restored.others 3 (among_not (plan.home g) (variables g) 3 (entries g) refl) ∙ (kept'.registers 3 (omega arith) ∙ l1.registers 3 (omega arith));
+          four = restored.others 4 (among_not (plan.home g) (variables g) 4 (entries g) refl) ∙ (kept'.registers 4 (omega arith) ∙ l1.registers 4 (omega arith));
+          ten = λ e. restored.others 10 (among_not (plan.home g) (variables g) 10 (entries g) refl) ∙ (kept'.ten e ∙ ap (λ (n : ℕ). counted_depth plan g (n + 1)) (l1.registers 10 (omega arith)));
           residents = λ n o e.
               let high = resident_high (resident_home 27 plan.residents n) o e in
               restored.others o (among_other (plan.home g) (variables g) o (entries g) (λ v l. fine.apart g v n o l e))
-              ∙ (l2.registers o (omega arith) ∙ l1.registers o (omega arith));
+              ∙ (kept'.registers o (omega arith) ∙ (l2.registers o (omega arith) ∙ l1.registers o (omega arith)));
         });
       })) in
       rw append-nil at last)

@@ -1,8 +1,7 @@
 -- The code of a whole function, and the code that begins, have instructions whose fields their words can hold.
-use Rattle.std.proofs.Common.{ℕ, ◌+◌, ◌-◌, ◌*◌, ◌%◌, ◌^◌, ◌<◌, ◌≤◌, ◌≡◌, Bool, true, false, ◌&&◌, List, [], ◌∷◌, ◌++◌, length, Option, Some, arith, pos, negsuc, ◌||◌}
+use Rattle.std.proofs.Common.{ℕ, ◌+◌, ◌-◌, ◌*◌, ◌%◌, ◌^◌, ◌<◌, ◌≤◌, ◌≡◌, Bool, true, false, ◌&&◌, List, [], ◌∷◌, ◌++◌, length, Option, arith, pos, ◌||◌}
 use Rattle.std.specs.Prelude.{nat_eq, if◌then◌else◌}
 use Rattle.std.specs.List.{AllByRecursion}
-use Rattle.std.proofs.lemmas.Int.{ints}
 use Rattle.dae_base.specs.Words.{minus}
 use Rattle.dae_encode.specs.Spelling.{InRange, layout}
 use Rattle.dae_encode.specs.declared.Inst.{Inst}
@@ -10,7 +9,7 @@ use Rattle.dae_encode.specs.declared.Inst.TheVariants.{Addi, Add, Sub}
 use Rattle.dae_ir.specs.Code.{Done, Do, If, Loop}
 use Rattle.dae_ir.specs.Classes.{VariableSet}
 use Rattle.dae_ir.specs.Streams.{Actions}
-use Rattle.dae_ir.specs.declared.form.Operand.TheVariants.{Variable, Number}
+use Rattle.dae_ir.specs.declared.form.Operand.TheVariants.{Variable}
 use Rattle.dae_ir.specs.declared.form.Value.{Value}
 use Rattle.dae_ir.specs.declared.stream.Argument.{Argument}
 use Rattle.dae_ir.specs.declared.stream.Action.{Action}
@@ -26,10 +25,10 @@ use Rattle.dae_select_walks.specs.Facts.{Facts, unknown, facts_behind, facts_in_
 use Rattle.dae_select_walks.specs.declared.Need.{Need}
 use Rattle.dae_select_walks.specs.declared.Need.TheVariants.{All, Ends, Nothing}
 use Rattle.dae_select_walks.specs.Agrees.{Plan}
-use Rattle.dae_select_blocks.specs.Blocks.{lower, is_immediate, more_code, less_code, is_register, number_code, register_or, source, call_number, jump_over, jump_back, enter_code, arguments_code, waits_at, save_code, restore_code, deeper_code, back_code, leave_code, jump_words, residents_code}
-use Rattle.dae_select_blocks.specs.Code.{some_below, filtered, home_registers, registers_in, call_code, action_code, branch_code, standing_behind, with_home, early_code, late_code, needed_code, block_code, code_of, entry_code, function_code, finish_code, start_code, does_nothing, past_code, tail_of, has_bottom, leaves_first, is_near, bottom_test}
+use Rattle.dae_select_blocks.specs.Blocks.{lower, is_immediate, more_code, less_code, is_register, number_code, register_or, source, call_number, jump_over, jump_back, enter_code, arguments_code, waits_at, save_code, restore_code, deeper_code, back_code, jump_words, residents_code, prologue_code, issue_code, address_code, take_code}
+use Rattle.dae_select_blocks.specs.Code.{some_below, filtered, home_registers, registers_in, call_code, action_code, branch_code, standing_behind, with_home, early_code, late_code, needed_code, block_code, code_of, entry_code, function_code, finish_code, start_code, does_nothing, past_code, tail_of, has_bottom, leaves_first, is_near, bottom_test, is_dead}
 use Rattle.dae_select_blocks.proofs.Ranges.{AllFit, fit_append, fit_either, lui_fits, jalr_fits, addi_fits, addi_small, sw_small, add_fits, number_fits, load_fits, store_fits, register_fits, fetch_fits, move_fits, keep_fits, over_fits, back_fits}
-use Rattle.dae_select_blocks.proofs.Fitting.{ecall_fits, issue_fits, address_fits, source_fits, value_fit, value_fits, take_fits, branch_fits, back_branch_fits, system_fits, stop_fits, leave_fits, result_fits, hear_fits, placed_fits, check_fits}
+use Rattle.dae_select_blocks.proofs.Fitting.{ecall_fits, no_offset, issue_fits, address_fits, reach_fits, source_fits, value_fit, value_fits, take_fits, branch_fits, back_branch_fits, system_fits, stop_fits, leave_fits, result_fits, hear_fits, placed_fits, check_fits}
 use Rattle.dae_select_blocks.proofs.Pairs.{by_pairs}
 use Rattle.std.proofs.lemmas.Bool.Decides.{nat_tests}
 use Rattle.dae_select_blocks.specs.Sizes.{most_words_in, is_short}
@@ -73,12 +72,9 @@ sub_fits : (t x y : ℕ) → t < 32 → x < 32 → y < 32 → InRange (Sub t x y
 unfolding InRange layout
 sub_fits t x y a b c = (a, b, c)
 
-addi_one_less : (t x : ℕ) → t < 32 → x < 32 → InRange (Addi t x (negsuc 0))
-unfolding InRange layout
-addi_one_less t x a b = (a, b, (omega (arith, ints), omega (arith, ints)))
-
-enter_fits : (word : ℕ) → AllFit (enter_code word)
-enter_fits word = (lui_fits 5 (4 * word) (omega arith), (jalr_fits 1 5 (4 * word) (omega arith) (omega arith), tt))
+enter_fits : (near : Bool) (word : ℕ) → AllFit (enter_code near word)
+enter_fits true word = (jalr_fits 1 0 (4 * word) (omega arith) (omega arith), tt)
+enter_fits false word = (lui_fits 5 (4 * word) (omega arith), (jalr_fits 1 5 (4 * word) (omega arith) (omega arith), tt))
 
 number_small : (spelling : Spelling) → call_number spelling < 2 ^ 11
 number_small Byte = omega arith
@@ -111,18 +107,16 @@ module _ (plan : Plan) (variables : ℕ → ℕ) (good : (f v : ℕ) → IsHome 
 
   deeper_fits : (f : ℕ) → AllFit (deeper_code plan f)
   deeper_fits f =
-      fit_append _ _ (more_fits 3 (plan.frame f % 2 ^ 32) (omega arith)) (fit_append _ _ (more_fits 2 (4 * plan.words f) (omega arith))
-      (fit_either plan.by_a (Addi 10 10 (pos 1) ∷ []) [] (λ e. (addi_small 10 10 1 (omega arith) (omega arith) (omega arith), tt)) (λ e. tt)))
+      fit_append (more_code 3 (plan.frame f % 2 ^ 32)) (more_code 2 (4 * plan.words f)) (more_fits 3 (plan.frame f % 2 ^ 32) (omega arith)) (more_fits 2 (4 * plan.words f) (omega arith))
 
   returning_fits : (f : ℕ) → AllFit (back_code plan f)
   returning_fits f =
-      fit_append _ _ (less_fits 3 (plan.frame f % 2 ^ 32) (omega arith)) (fit_append _ _ (less_fits 2 (4 * plan.words f) (omega arith))
-      (fit_either plan.by_a (Addi 10 10 (negsuc 0) ∷ []) [] (λ e. (addi_one_less 10 10 (omega arith) (omega arith), tt)) (λ e. tt)))
+      fit_append (less_code 3 (plan.frame f % 2 ^ 32)) (less_code 2 (4 * plan.words f)) (less_fits 3 (plan.frame f % 2 ^ 32) (omega arith)) (less_fits 2 (4 * plan.words f) (omega arith))
 
   call_fits : (f : ℕ) (v : Option ℕ) (g : ℕ) (xs : List Argument) (live : VariableSet) → AllFit (call_code plan variables f v g xs live)
   call_fits f v g xs live =
       let rs = live_registers plan (variables f) f live in
-      fit_append _ _ (arguments_fit f g xs) (fit_append _ _ (save_fits _ rs) (fit_append (deeper_code plan f) _ (deeper_fits f) (fit_append (enter_code (plan.entry g)) _ (enter_fits (plan.entry g))
+      fit_append _ _ (arguments_fit f g xs) (fit_append _ _ (save_fits _ rs) (fit_append (deeper_code plan f) _ (deeper_fits f) (fit_append (enter_code plan.near (plan.entry g)) _ (enter_fits plan.near (plan.entry g))
       (fit_append (back_code plan f) _ (returning_fits f) (fit_append _ _ (restore_fits _ rs) (result_fits (variables f) (plan.home f) (good f) v))))))
 
   module _ (short : Bool) where
@@ -130,24 +124,24 @@ module _ (plan : Plan) (variables : ℕ → ℕ) (good : (f v : ℕ) → IsHome 
     action_fits f (Compute v x) live leaves skips =
         fit_append _ _ (value_fits (variables f) (plan.home f) (good f) (register_or 5 (plan.home f v)) x (register_fits (variables f) 5 (plan.home f v) (good f v) (omega arith))) (keep_fits (plan.home f v))
     action_fits f (Issue kind x) live leaves skips =
-        fit_append _ _ (fetch_fits (variables f) (plan.home f) 5 x (omega arith)) (issue_fits kind 30 (source (plan.home f) 5 x) (omega arith) (source_fits (variables f) (plan.home f) (good f) 5 x (omega arith)), tt)
+        fit_append _ _ (fetch_fits (variables f) (plan.home f) 5 x (omega arith)) (issue_fits kind 30 (source (plan.home f) 5 x) (pos 0) (omega arith) (source_fits (variables f) (plan.home f) (good f) 5 x (omega arith)) no_offset, tt)
     action_fits f (Own v kind x) live leaves skips =
-        fit_append _ _ (fetch_fits (variables f) (plan.home f) 5 x (omega arith)) (issue_fits kind 31 (source (plan.home f) 5 x) (omega arith) (source_fits (variables f) (plan.home f) (good f) 5 x (omega arith)), take_fits (variables f) (plan.home f) (good f) 31 v (omega arith))
+        fit_append _ _ (fetch_fits (variables f) (plan.home f) 5 x (omega arith)) (issue_fits kind 31 (source (plan.home f) 5 x) (pos 0) (omega arith) (source_fits (variables f) (plan.home f) (good f) 5 x (omega arith)) no_offset, take_fits (variables f) (plan.home f) (good f) 31 v (omega arith))
     action_fits f (Receive v) live leaves skips = take_fits (variables f) (plan.home f) (good f) 30 v (omega arith)
     action_fits f (Address width x) live leaves skips =
-        fit_append _ _ (fetch_fits (variables f) (plan.home f) 5 x (omega arith)) (address_fits width (source (plan.home f) 5 x) (source_fits (variables f) (plan.home f) (good f) 5 x (omega arith)), tt)
+        fit_append _ _ (fetch_fits (variables f) (plan.home f) 5 x (omega arith)) (address_fits width (source (plan.home f) 5 x) (pos 0) (source_fits (variables f) (plan.home f) (good f) 5 x (omega arith)) no_offset, tt)
     action_fits f (Datum x) live leaves skips = move_fits (variables f) (plan.home f) (good f) 30 x (omega arith)
     action_fits f (Offer v) live leaves skips = move_fits (variables f) (plan.home f) (good f) 28 (Variable v) (omega arith)
     action_fits f (Accept v) live leaves skips = take_fits (variables f) (plan.home f) (good f) 28 v (omega arith)
     action_fits f (Emit spelling x) live leaves skips = system_fits (variables f) (plan.home f) (good f) (call_number spelling) x (number_small spelling)
     action_fits f (Probe check) live leaves skips = check_fits plan (variables f) f check (good f)
     action_fits f (Tell x) live leaves skips = move_fits (variables f) (plan.home f) (good f) 29 x (omega arith)
-    action_fits f Hear live leaves skips = hear_fits plan.by_a
+    action_fits f (Hear only) live leaves skips = hear_fits plan.by_a only
     action_fits f (Stop x) live leaves skips = stop_fits (variables f) (plan.home f) (good f) plan.by_a x
     action_fits f Break live leaves skips = over_fits short leaves
     action_fits f Continue live leaves skips = over_fits short skips
     action_fits f (Call v g xs) live leaves skips = call_fits f v g xs _
-    action_fits f (Return x) live leaves skips = leave_fits (variables f) (plan.home f) (good f) x
+    action_fits f (Return x) live leaves skips = leave_fits (variables f) (plan.home f) (good f) plan.by_a (plan.leaf f) x
 
     early_fits : (f q v d : ℕ) (y : Value) → q < 32 → AllFit (early_code (plan.home f) q v d y)
     early_fits f q v d y h =
@@ -160,6 +154,10 @@ module _ (plan : Plan) (variables : ℕ → ℕ) (good : (f v : ℕ) → IsHome 
     late_fits : (f t : ℕ) (y : Value) (a : Action) → AllFit (late_code (plan.home f) a y)
     late_fits f t y (Compute d z) = action_fits f (Compute d y) none 0 0
     late_fits f t y (Datum z) = value_fits (variables f) (plan.home f) (good f) 30 y (omega arith)
+    late_fits f t y (Issue kind z) = reach_fits (variables f) (plan.home f) (good f) y (issue_code kind 30) [] (λ b offset h k. issue_fits kind 30 b offset (omega arith) h k) tt
+    late_fits f t y (Own v kind z) =
+        reach_fits (variables f) (plan.home f) (good f) y (issue_code kind 31) (take_code 31 (plan.home f v)) (λ b offset h k. issue_fits kind 31 b offset (omega arith) h k) (take_fits (variables f) (plan.home f) (good f) 31 v (omega arith))
+    late_fits f t y (Address width z) = reach_fits (variables f) (plan.home f) (good f) y (address_code width) [] (λ b offset h k. address_fits width b offset h k) tt
     late_fits f t y a = tt
 
     settled_fits : (f : ℕ) (need : Need) (a : Action) (live : VariableSet) (l s : ℕ) → AllFit (needed_code plan variables f need a live (jump_over short l) (jump_over short s))
@@ -172,7 +170,7 @@ module _ (plan : Plan) (variables : ℕ → ℕ) (good : (f v : ℕ) → IsHome 
     block_fits f known (Late t y) x l s a k = late_fits f t y a
     block_fits f known Settled x l s a k =
         by_pairs (λ (a : Action) (k : Actions) (standing : Standing). AllFit (block_code plan variables f (need_of plan.memory known a k) Settled a standing (live k x) (jump_over short l) (jump_over short s))) x
-        (λ a k. settled_fits f (need_of plan.memory known a k) a (live k x) l s) (λ t y m b k e passes dead. tt) (λ v m d y k e once dead. early_fits f 30 v d y (omega arith)) (λ v m d y k e once dead. early_fits f 28 v d y (omega arith)) a k
+        (λ a k. fit_either (is_dead a (live k x)) [] (needed_code plan variables f (need_of plan.memory known a k) a (live k x) (jump_over short l) (jump_over short s)) (λ e. tt) (λ e. settled_fits f (need_of plan.memory known a k) a (live k x) l s)) (λ t y m b k e passes dead. tt) (λ v m d y k e once dead. early_fits f 30 v d y (omega arith)) (λ v m d y k e once dead. early_fits f 28 v d y (omega arith)) a k
 
     past_fits : (none : Bool) (n : ℕ) → AllFit (past_code short none n)
     past_fits true n = tt
@@ -228,13 +226,18 @@ module _ (plan : Plan) (variables : ℕ → ℕ) (good : (f v : ℕ) → IsHome 
       tail_fits f known (Do m a k) x leaves skips = tt
       tail_fits f known (Loop m body step k) x leaves skips = tt
 
+  prologue_fits : (by_a leaf : Bool) → AllFit (prologue_code by_a leaf)
+  prologue_fits by_a true = tt
+  prologue_fits true false = (sw_small 2 1 0 (omega arith) (omega arith) (omega arith), (addi_small 10 10 1 (omega arith) (omega arith) (omega arith), tt))
+  prologue_fits false false = (sw_small 2 1 0 (omega arith) (omega arith) (omega arith), tt)
+
   pub entry_fits : (f : ℕ) (live : VariableSet) → AllFit (entry_code plan variables f live)
-  entry_fits f live = (sw_small 2 1 0 (omega arith) (omega arith) (omega arith), restore_fits _ (live_registers plan (variables f) f live))
+  entry_fits f live =
+      fit_append (prologue_code plan.by_a (plan.leaf f)) (restore_code (registers_in (plan.home f) (variables f) live)) (prologue_fits plan.by_a (plan.leaf f)) (restore_fits (registers_in (plan.home f) (variables f) live) (live_registers plan (variables f) f live))
 
   pub function_fits : (f : ℕ) (code : Actions) → AllFit (function_code plan variables f code)
   function_fits f code =
-      fit_append (entry_code plan variables f (live code nowhere)) _ (entry_fits f (live code nowhere))
-      (fit_append (code_of (is_short code) plan variables f Settled unknown code nowhere 0 0) (leave_code (plan.home f) (Some (Number 0))) (code_fits (is_short code) f Settled unknown code nowhere 0 0) (leave_fits (variables f) (plan.home f) (good f) (Some (Number 0))))
+      fit_append (entry_code plan variables f (live code nowhere)) _ (entry_fits f (live code nowhere)) (code_fits (is_short code) f Settled unknown code nowhere 0 0)
 
 pub finish_fits : (by_a : Bool) → AllFit (finish_code by_a)
 finish_fits true = (ecall_fits, tt)
@@ -246,10 +249,10 @@ residents_fit r (n ∷ ns) h = fit_append (number_code r n) (residents_code (r -
 
 pub start_fits : (plan : Plan) (main frames : ℕ) → AllFit (start_code plan main frames)
 start_fits plan main frames =
-    let addresses : List Inst = number_code 4 (plan.memory - 16) ++ Addi 10 0 (pos 1) ∷ [] in
-    let fit : AllFit addresses = fit_append (number_code 4 (plan.memory - 16)) (Addi 10 0 (pos 1) ∷ []) (number_fits 4 (plan.memory - 16) (omega arith)) (addi_small 10 0 1 (omega arith) (omega arith) (omega arith), tt) in
+    let addresses : List Inst = number_code 4 (plan.memory - 16) in
+    let fit : AllFit addresses = number_fits 4 (plan.memory - 16) (omega arith) in
     let stay : List Inst = residents_code 27 plan.residents in
-    fit_append (number_code 3 frames ++ (stay ++ (if plan.by_a then addresses else []))) (enter_code (plan.entry main))
+    fit_append (number_code 3 frames ++ (stay ++ (if plan.by_a then addresses else []))) (enter_code plan.near (plan.entry main))
     (fit_append (number_code 3 frames) (stay ++ (if plan.by_a then addresses else [])) (number_fits 3 frames (omega arith))
     (fit_append stay (if plan.by_a then addresses else []) (residents_fit 27 plan.residents (omega arith)) (fit_either plan.by_a addresses [] (λ e. fit) (λ e. tt))))
-    (enter_fits (plan.entry main))
+    (enter_fits plan.near (plan.entry main))

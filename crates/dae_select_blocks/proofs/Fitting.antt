@@ -1,12 +1,12 @@
 -- The blocks of values, accesses and branches have instructions whose fields their words can hold.
 use Rattle.std.proofs.Common.{◌≡◌, ℕ, ◌+◌, ◌-◌, ◌%◌, ◌^◌, ◌<◌, ◌≤◌, zero, suc, Bool, true, false, List, [], ◌∷◌, ◌++◌, Option, Some, None, refl, subst, arith, pos, negsuc, ◌*◌}
-use Rattle.std.specs.Prelude.{nat_lt, nat_eq, if◌then◌else◌}
+use Rattle.std.specs.Prelude.{nat_lt, nat_eq, if◌then◌else◌, ℤ}
 use Rattle.std.proofs.lemmas.Option.{same_Some, cond_some}
 use Rattle.dae_ir.specs.declared.form.Check.{Check}
 use Rattle.dae_ir.specs.declared.form.Check.TheVariants.{Place, Zero, Room, Frame, Abort}
 use Rattle.dae_ir.specs.declared.stream.Action.{Action}
 use Rattle.dae_ir.specs.declared.stream.Action.TheVariants.{Probe}
-use Rattle.dae_select_walks.specs.Agrees.{Plan}
+use Rattle.dae_select_walks.specs.Agrees.{Plan, counted_depth}
 use Rattle.std.proofs.lemmas.Int.{ints}
 use Rattle.dae_base.specs.Words.{minus, size}
 use Rattle.std.proofs.lemmas.Bool.Decides.{nat_tests}
@@ -14,7 +14,7 @@ use Rattle.dae_base.specs.declared.Width.{Width}
 use Rattle.dae_base.specs.declared.Width.TheVariants.{B1, B2, B4}
 use Rattle.dae_base.specs.declared.LoadKind.{LoadKind}
 use Rattle.dae_base.specs.declared.LoadKind.TheVariants.{I8, U8, I16, U16, I32}
-use Rattle.dae_encode.specs.Spelling.{InRange, layout}
+use Rattle.dae_encode.specs.Spelling.{InRange, layout, IsSigned}
 use Rattle.dae_encode.specs.declared.Inst.{Inst}
 use Rattle.dae_encode.specs.declared.Inst.TheVariants.{Jalr, Beq, Bne, Bltu, Bgeu, Addi, Sltiu, Xori, Ori, Andi, Slli, Srli, Srai, Add, Sltu, Ecall}
 use Rattle.dae_ir.specs.declared.form.Operand.{Operand}
@@ -28,11 +28,13 @@ use Rattle.dae_ir.specs.declared.form.Value.{Value}
 use Rattle.dae_ir.specs.declared.form.Value.TheVariants.{Same, Extended, Binary, Holds, FrameAddress}
 use Rattle.dae_ir.specs.declared.stream.Branch.{Branch}
 use Rattle.dae_ir.specs.declared.stream.Branch.TheVariants.{Silent, Tells, Hears}
+use Rattle.dae_ir.specs.declared.stream.Failure.{Failure}
+use Rattle.dae_ir.specs.Deeds.{failure_code}
 use Rattle.dae_select_walks.specs.declared.Home.{Home}
 use Rattle.dae_select_walks.specs.Homes.{IsHome, number_key, resident_register}
-use Rattle.dae_select_blocks.specs.Blocks.{lower, is_immediate, number_code, register_or, source, fetch, move_code, operation_code, exponent, power_code, immediate_code, commutes, exchanged_code, behind_or, combine_registers, binary_code, extend_code, compare_code, compare_number_code, compare_registers, compare_operands, test_code, frame_code, value_code, issue_code, address_code, take_code, fail_code, over, align_code, bounds_code, room_code, check_code, system_code, hear_code, stop_code, leave_code, result_code, branch_inst, opposite, one_way, goes_by, goes_code, frames_room_code, tell_number_code, against_zero, immediate_of, back_offset, goes_back, number_or, as_immediate}
+use Rattle.dae_select_blocks.specs.Blocks.{lower, is_immediate, number_code, register_or, source, fetch, move_code, operation_code, exponent, power_code, immediate_code, commutes, exchanged_code, behind_or, combine_registers, binary_code, extend_code, compare_code, compare_number_code, compare_registers, compare_operands, test_code, frame_code, value_code, issue_code, address_code, take_code, fail_code, over, align_code, bounds_code, room_code, check_code, system_code, hear_code, stop_code, leave_code, result_code, branch_inst, opposite, one_way, goes_by, goes_code, frames_room_code, tell_number_code, against_zero, immediate_of, back_offset, goes_back, number_or, as_immediate, epilogue_code, reach_code}
 use Rattle.dae_select_blocks.specs.Code.{placed_code, branch_code, told_by, branch_by, ahead_by, before_branch, back_branch}
-use Rattle.dae_select_blocks.proofs.Ranges.{move_fit, AllFit, fit_append, fit_either, lower_fits, addi_fits, addi_small, lw_small, add_fits, number_fits, register_fits, fetch_fits, move_fits, keep_fits, over_fits}
+use Rattle.dae_select_blocks.proofs.Ranges.{move_fit, AllFit, fit_append, fit_either, lower_fits, addi_fits, addi_small, lw_small, add_fits, number_fits, register_fits, fetch_fits, move_fits, keep_fits, over_fits, failure_small}
 use Rattle.dae_select_blocks.proofs.Operands.{number_below}
 use Rattle.dae_select_blocks.proofs.Values.{power_of_two}
 
@@ -175,23 +177,30 @@ addi_minus : (t x n : ℕ) → t < 32 → x < 32 → n < 2 ^ 11 → InRange (Add
 unfolding InRange layout
 addi_minus t x n a b l = (a, b, (omega (arith, ints), omega (arith, ints)))
 
+addi_one_less : (t x : ℕ) → t < 32 → x < 32 → InRange (Addi t x (negsuc 0))
+unfolding InRange layout
+addi_one_less t x a b = (a, b, (omega (arith, ints), omega (arith, ints)))
+
 jalr_zero : (b : ℕ) → b < 32 → InRange (Jalr 0 b (pos 0))
 unfolding InRange layout
 jalr_zero b h = ((omega arith), h, (omega (arith, ints), omega (arith, ints)))
 
-pub issue_fits : (kind : LoadKind) (q b : ℕ) → q < 32 → b < 32 → InRange (issue_code kind q b)
-unfolding InRange layout
-issue_fits I8 q b h k = (h, k, (omega (arith, ints), omega (arith, ints)))
-issue_fits U8 q b h k = (h, k, (omega (arith, ints), omega (arith, ints)))
-issue_fits I16 q b h k = (h, k, (omega (arith, ints), omega (arith, ints)))
-issue_fits U16 q b h k = (h, k, (omega (arith, ints), omega (arith, ints)))
-issue_fits I32 q b h k = (h, k, (omega (arith, ints), omega (arith, ints)))
+pub no_offset : IsSigned 12 (pos 0)
+no_offset = (omega (arith, ints), omega (arith, ints))
 
-pub address_fits : (width : Width) (b : ℕ) → b < 32 → InRange (address_code width b)
+pub issue_fits : (kind : LoadKind) (q b : ℕ) (offset : ℤ) → q < 32 → b < 32 → IsSigned 12 offset → InRange (issue_code kind q b offset)
 unfolding InRange layout
-address_fits B1 b k = (k, (omega arith), (omega (arith, ints), omega (arith, ints)))
-address_fits B2 b k = (k, (omega arith), (omega (arith, ints), omega (arith, ints)))
-address_fits B4 b k = (k, (omega arith), (omega (arith, ints), omega (arith, ints)))
+issue_fits I8 q b offset h k l = (h, k, l)
+issue_fits U8 q b offset h k l = (h, k, l)
+issue_fits I16 q b offset h k l = (h, k, l)
+issue_fits U16 q b offset h k l = (h, k, l)
+issue_fits I32 q b offset h k l = (h, k, l)
+
+pub address_fits : (width : Width) (b : ℕ) (offset : ℤ) → b < 32 → IsSigned 12 offset → InRange (address_code width b offset)
+unfolding InRange layout
+address_fits B1 b offset k l = (k, (omega arith), l)
+address_fits B2 b offset k l = (k, (omega arith), l)
+address_fits B4 b offset k l = (k, (omega arith), l)
 
 -- where each home is a register of the machine, or a slot
 module _ (home : ℕ → Home) (low : (r v : ℕ) → r < 32 → register_or r (home v) < 32) where
@@ -259,6 +268,11 @@ module _ (n : ℕ) (home : ℕ → Home) (good : (v : ℕ) → IsHome n (home v)
   pub value_fits : (t : ℕ) (x : Value) → t < 32 → AllFit (value_code home t x)
   value_fits t x h = value_fit home low' t x h
 
+  -- an access that adds the number of a sum, and what is behind it
+  pub reach_fits : (y : Value) (access : ℕ → ℤ → Inst) (rest : List Inst) → ((b : ℕ) (offset : ℤ) → b < 32 → IsSigned 12 offset → InRange (access b offset)) → AllFit rest → AllFit (reach_code home y access rest)
+  reach_fits (Binary operator x (Number k)) access rest fits more = fetched_fit 5 x _ (omega arith) (fits (source home 5 x) (lower k) (source_fits 5 x (omega arith)) (lower_fits k), more)
+  reach_fits _ access rest fits more = tt
+
   pub take_fits : (q v : ℕ) → q < 32 → AllFit (take_code q (home v))
   take_fits q v h = (addi_small (register_or 5 (home v)) q 0 (register_fits n 5 (home v) (good v) (omega arith)) h (omega arith), keep_fits (home v))
 
@@ -291,17 +305,23 @@ module _ (n : ℕ) (home : ℕ → Home) (good : (v : ℕ) → IsHome n (home v)
   stop_fits false None = system_fits 0 (Number 0) (omega arith)
   stop_fits false (Some x) = system_fits 0 x (omega arith)
 
-  pub leave_fits : (y : Option Operand) → AllFit (leave_code home y)
-  leave_fits None = (lw_small 1 2 0 (omega arith) (omega arith) (omega arith), (jalr_zero 1 (omega arith), tt))
-  leave_fits (Some x) = fit_append _ _ (move_fits n home good 6 x (omega arith)) (lw_small 1 2 0 (omega arith) (omega arith) (omega arith), (jalr_zero 1 (omega arith), tt))
+  return_fits : (by_a leaf : Bool) → AllFit (epilogue_code by_a leaf ++ Jalr 0 1 (pos 0) ∷ [])
+  return_fits by_a true = (jalr_zero 1 (omega arith), tt)
+  return_fits true false = (lw_small 1 2 0 (omega arith) (omega arith) (omega arith), (addi_one_less 10 10 (omega arith) (omega arith), (jalr_zero 1 (omega arith), tt)))
+  return_fits false false = (lw_small 1 2 0 (omega arith) (omega arith) (omega arith), (jalr_zero 1 (omega arith), tt))
+
+  pub leave_fits : (by_a leaf : Bool) (y : Option Operand) → AllFit (leave_code by_a leaf home y)
+  leave_fits by_a leaf None = return_fits by_a leaf
+  leave_fits by_a leaf (Some x) = fit_append (move_code home 6 x) (epilogue_code by_a leaf ++ Jalr 0 1 (pos 0) ∷ []) (move_fits n home good 6 x (omega arith)) (return_fits by_a leaf)
 
   pub result_fits : (v : Option ℕ) → AllFit (result_code home v)
   result_fits None = tt
   result_fits (Some v) = (addi_small (register_or 5 (home v)) 6 0 (register_fits n 5 (home v) (good v) (omega arith)) (omega arith) (omega arith), keep_fits (home v))
 
-pub hear_fits : (b : Bool) → AllFit (hear_code b)
-hear_fits true = (addi_small 5 29 0 (omega arith) (omega arith) (omega arith), (beq_fits 5 0 8 (omega arith) (omega arith) (omega arith) refl, (ecall_fits, tt)))
-hear_fits false = (addi_small 10 29 0 (omega arith) (omega arith) (omega arith), (beq_fits 10 0 12 (omega arith) (omega arith) (omega arith) refl, (addi_small 17 0 5 (omega arith) (omega arith) (omega arith), (ecall_fits, tt))))
+pub hear_fits : (b : Bool) (only : Option Failure) → AllFit (hear_code b only)
+hear_fits true only = (beq_fits 29 0 8 (omega arith) (omega arith) (omega arith) refl, (ecall_fits, tt))
+hear_fits false (Some failure) = (beq_fits 29 0 16 (omega arith) (omega arith) (omega arith) refl, (addi_small 10 0 (failure_code failure) (omega arith) (omega arith) (failure_small failure), (addi_small 17 0 5 (omega arith) (omega arith) (omega arith), (ecall_fits, tt))))
+hear_fits false None = (addi_small 10 29 0 (omega arith) (omega arith) (omega arith), (beq_fits 10 0 12 (omega arith) (omega arith) (omega arith) refl, (addi_small 17 0 5 (omega arith) (omega arith) (omega arith), (ecall_fits, tt))))
 
 pub fail_fits : (b : Bool) (code : ℕ) → code < 2 ^ 11 → AllFit (fail_code b code)
 fail_fits true code h = (addi_small 29 0 code (omega arith) (omega arith) h, (ecall_fits, tt))
@@ -337,7 +357,7 @@ check_fits plan n f (Place width x) good =
 check_fits plan n f (Zero x) good = fetched_fit n (plan.home f) good 5 x _ (omega arith) (leads_fit plan.by_a (source (plan.home f) 5 x) (source_fits n (plan.home f) good 5 x (omega arith)), fail_fits plan.by_a 1 (omega arith))
 check_fits plan n f (Room g) good =
     let frames : List Inst = frames_room_code plan.memory (plan.frame f + plan.frame g) in
-    fit_either (nat_lt plan.memory (plan.frame f + plan.frame g)) (fail_code true 4) (frames ++ (number_code 6 plan.limit ++ Bltu 10 6 (pos 12) ∷ fail_code true 4)) (λ e. fail_fits true 4 (omega arith))
-    (λ e. fit_append frames _ (frames_fit plan.memory (plan.frame f + plan.frame g)) (fit_append (number_code 6 plan.limit) (Bltu 10 6 (pos 12) ∷ fail_code true 4) (number_fits 6 plan.limit (omega arith)) (bltu_fits 10 6 12 (omega arith) (omega arith) (omega arith) refl, fail_fits true 4 (omega arith))))
+    fit_either (nat_lt plan.memory (plan.frame f + plan.frame g)) (fail_code true 4) (frames ++ (number_code 6 (counted_depth plan f plan.limit) ++ Bltu 10 6 (pos 12) ∷ fail_code true 4)) (λ e. fail_fits true 4 (omega arith))
+    (λ e. fit_append frames _ (frames_fit plan.memory (plan.frame f + plan.frame g)) (fit_append (number_code 6 (counted_depth plan f plan.limit)) (Bltu 10 6 (pos 12) ∷ fail_code true 4) (number_fits 6 (counted_depth plan f plan.limit) (omega arith)) (bltu_fits 10 6 12 (omega arith) (omega arith) (omega arith) refl, fail_fits true 4 (omega arith))))
 check_fits plan n f Frame good = fit_either (nat_lt plan.memory (plan.frame f)) (fail_code true 4) (room_code (plan.memory - plan.frame f)) (λ e. fail_fits true 4 (omega arith)) (λ e. room_fits _)
 check_fits plan n f Abort good = fail_fits true 5 (omega arith)

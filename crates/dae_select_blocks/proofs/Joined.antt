@@ -23,11 +23,11 @@ use Rattle.dae_select_walks.specs.Layout.{CodeAt}
 use Rattle.dae_select_walks.specs.Live.{in_option, in_arguments, is, before}
 use Rattle.dae_select_walks.specs.Facts.{unknown}
 use Rattle.dae_select_walks.specs.Homes.{Contents}
-use Rattle.dae_select_walks.specs.Agrees.{Plan, Moment, Stands, AreWaiting, IsWithin}
+use Rattle.dae_select_walks.specs.Agrees.{Plan, Moment, Stands, AreWaiting, IsWithin, return_address}
 use Rattle.dae_select_walks.specs.Compiled.{Exits, exit, ways_of, At, MainEnds, waiting_of, called, result_of, with_env, with_result}
 use Rattle.dae_select_walks.proofs.LawsOfWalks.{nears_here, comes_map, comes_then, comes_does, does_map}
 use Rattle.dae_select_walks.proofs.LawsOfWalks.{put, step_ends, step_stops}
-use Rattle.dae_select_blocks.specs.Blocks.{arguments_code, save_code, restore_code, deeper_code, enter_code, back_code, result_code, leave_code}
+use Rattle.dae_select_blocks.specs.Blocks.{arguments_code, save_code, restore_code, deeper_code, enter_code, back_code, result_code, leave_code, enter_words}
 use Rattle.dae_select_blocks.specs.Code.{registers_in, entry_code, finish_code, call_code}
 use Rattle.dae_select_blocks.specs.Fits.{Fits}
 use Rattle.dae_select_blocks.specs.Wanted.{IsLinked, IsPlanOf}
@@ -36,19 +36,20 @@ use Rattle.dae_select_blocks.proofs.Runs.{Runs, runs_quiet, runs_halt, code_take
 use Rattle.dae_select_blocks.proofs.Computing.{plus_zero}
 use Rattle.dae_select_blocks.proofs.Whole.{Stood, Done'}
 use Rattle.dae_select_blocks.proofs.Jumps.{ready}
+use Rattle.dae_select_blocks.proofs.Lengths.{enter_long, enter_few}
 use Rattle.dae_select_blocks.proofs.Entering.{prepares, enters}
 use Rattle.dae_select_blocks.proofs.Leaving.{leaves, return_done, resumes, Goes'}
 
 module _ (s : Setting) (plan : Plan) (variables : ℕ → ℕ) (fine : Fits s plan variables) (program : Program) (is_plan : IsPlanOf program plan) (entries : ℕ → VariableSet) (linked : IsLinked s plan variables entries) (most widest : ℕ) where
   -- main returns
-  finishes : (live : VariableSet) (m : Moment) (y : Option Operand) (p : Processor) (n : ℕ) → Comes s n p (Goes' s plan variables fine live m plan.finish (result_of y m.env) plan.finish) → n + 3 ≤ most → (b : Bool) → plan.by_a ≡ b → CodeAt s.code plan.finish (finish_code b) → MainEnds b y m.env (λ quit. Does s most (Halts quit) (λ env q. ⊥) p)
-  finishes live m y p n c short true e at =
+  finishes : (m : Moment) (y : Option Operand) (p : Processor) (n : ℕ) → Comes s n p (Goes' s plan variables fine m plan.finish (result_of y m.env) plan.finish) → n + 3 ≤ most → (b : Bool) → plan.by_a ≡ b → CodeAt s.code plan.finish (finish_code b) → MainEnds b y m.env (λ quit. Does s most (Halts quit) (λ env q. ⊥) p)
+  finishes m y p n c short true e at =
       let to : Env → Processor → Type 0 = λ env q. ⊥ in
       let l : n + 1 ≤ most = omega arith in
       does_map s to to (n + 1) most l (λ env q t. t) (Halts Plainly) p
       (comes_does s to n 1 (Halts Plainly) c (λ q g. nears_here s 0 (omega arith) (step_stops s plan.private (fine.side ∙ ap side e) at.0 g.shows at.1 at.2)))
-  finishes live m None p n c short false e at = tt
-  finishes live m (Some x) p n c short false e at =
+  finishes m None p n c short false e at = tt
+  finishes m (Some x) p n c short false e at =
       let to : Env → Processor → Type 0 = λ env q. ⊥ in
       let to' : ℕ → Env → Processor → Type 0 = λ k env q. ⊥ in
       let by_e : s.side ≡ E = fine.side ∙ ap side e in
@@ -66,15 +67,15 @@ module _ (s : Setting) (plan : Plan) (variables : ℕ → ℕ) (fine : Fits s pl
       runs_halt s plan.private to' (λ k w small here is r shows. step_ends s plan.private by_e w 0 (Status (value x m.env)) shows here is refl (omega arith) (λ q. refl)))))) in
       run.from plan.finish (omega arith) at q g.shows))
 
-  pub returns_done : (short : Bool) (f : ℕ) (y : Option Operand) (k : VariableSet) (x : Exits) (leaves' skips here : ℕ) → length (leave_code (plan.home f) y) + 3 ≤ most → Stood s plan variables fine program is_plan entries most widest short f (Return y) k (ways_of x) leaves' skips here → Done' s plan variables fine program is_plan entries most widest short f unknown (Return y) k x leaves' skips here
+  pub returns_done : (short : Bool) (f : ℕ) (y : Option Operand) (k : VariableSet) (x : Exits) (leaves' skips here : ℕ) → length (leave_code plan.by_a (plan.leaf f) (plan.home f) y) + 3 ≤ most → Stood s plan variables fine program is_plan entries most widest short f (Return y) k (ways_of x) leaves' skips here → Done' s plan variables fine program is_plan entries most widest short f unknown (Return y) k x leaves' skips here
   returns_done short f y k x leaves' skips here brief' t m p h =
-      let stands : CodeAt s.code here (leave_code (plan.home m.function) y) = (let a = t.stands in rw h.0 a) in
-      let small : here + length (leave_code (plan.home m.function) y) < 2 ^ 29 = (let a = t.small in rw h.0 a) in
-      let brief : length (leave_code (plan.home m.function) y) + 3 ≤ most = rw h.0 brief' in
+      let stands : CodeAt s.code here (leave_code plan.by_a (plan.leaf m.function) (plan.home m.function) y) = (let a = t.stands in rw h.0 a) in
+      let small : here + length (leave_code plan.by_a (plan.leaf m.function) (plan.home m.function) y) < 2 ^ 29 = (let a = t.small in rw h.0 a) in
+      let brief : length (leave_code plan.by_a (plan.leaf m.function) (plan.home m.function) y) + 3 ≤ most = rw h.0 brief' in
       let reads : (u : ℕ) → in_option y u ≡ true → before (Return y) k (ways_of x) u ≡ true = λ u e. rw e refl in
       let low = linked.low in (
-        (λ none. (let a = h.1.agrees.waiting in let b : AreWaiting plan h.1.contents h.1.agrees.base m.frame [] = rw none at a in
-            finishes (before (Return y) k (ways_of x)) m y p (length (leave_code (plan.home m.function) y)) (leaves s plan variables fine y plan.finish h.1 t.wanted reads (omega arith) b.2 small stands) brief plan.by_a refl linked.finish)),
+        (λ none. (let a = h.1.agrees.waiting in let b : AreWaiting plan h.1.contents (return_address plan m.function h.1.contents h.1.agrees.base) h.1.agrees.base m.frame [] = rw none at a in
+            finishes m y p (length (leave_code plan.by_a (plan.leaf m.function) (plan.home m.function) y)) (leaves s plan variables fine y plan.finish h.1 t.wanted reads (omega arith) b.2 small stands) brief plan.by_a refl linked.finish)),
         (λ w ws is. comes_map s most (omega arith) (λ q g. g) (return_done s plan variables fine y w ws h.1 is t.wanted reads small stands)),
       )
 
@@ -89,15 +90,17 @@ module _ (s : Setting) (plan : Plan) (variables : ℕ → ℕ) (fine : Fits s pl
   without v k u = k u && not (is v u)
 
   abbrev pub back_of : ℕ → ℕ → ℕ → List Argument → Option ℕ → VariableSet → ℕ
-  back_of here f g xs v k = here + length (prepared_code f g xs (without v k)) + 2
+  back_of here f g xs v k = here + length (prepared_code f g xs (without v k)) + enter_words plan.near
 
-  whole_length : (f g : ℕ) (v : Option ℕ) (xs : List Argument) (k : VariableSet) → length (call_code plan variables f v g xs (without v k)) ≡ length (prepared_code f g xs (without v k)) + 2 + length (resumed_code f v (without v k))
+  whole_length : (f g : ℕ) (v : Option ℕ) (xs : List Argument) (k : VariableSet) → length (call_code plan variables f v g xs (without v k)) ≡ length (prepared_code f g xs (without v k)) + enter_words plan.near + length (resumed_code f v (without v k))
   whole_length f g v xs k =
       let rs = registers_in (plan.home f) (variables f) (without v k) in
       let rest : List Inst = resumed_code f v (without v k) in
-      let l1 = length-append (arguments_code plan f g xs) (save_code rs ++ (deeper_code plan f ++ (enter_code (plan.entry g) ++ rest))) in
-      let l2 = length-append (save_code rs) (deeper_code plan f ++ (enter_code (plan.entry g) ++ rest)) in
-      let l3 = length-append (deeper_code plan f) (enter_code (plan.entry g) ++ rest) in
+      let l1 = length-append (arguments_code plan f g xs) (save_code rs ++ (deeper_code plan f ++ (enter_code plan.near (plan.entry g) ++ rest))) in
+      let l2 = length-append (save_code rs) (deeper_code plan f ++ (enter_code plan.near (plan.entry g) ++ rest)) in
+      let l3 = length-append (deeper_code plan f) (enter_code plan.near (plan.entry g) ++ rest) in
+      let l6 = length-append (enter_code plan.near (plan.entry g)) rest in
+      let jump = enter_long plan.near (plan.entry g) in
       let l4 = length-append (arguments_code plan f g xs) (save_code rs ++ deeper_code plan f) in
       let l5 = length-append (save_code rs) (deeper_code plan f) in
       omega arith
@@ -111,11 +114,13 @@ module _ (s : Setting) (plan : Plan) (variables : ℕ → ℕ) (fine : Fits s pl
       let rest : List Inst = resumed_code f v (without v k) in
       let small = t.small in
       let total = whole_length f g v xs k in
-      let at' : CodeAt s.code here (prep ++ (enter_code (plan.entry g) ++ rest)) = (let a = t.stands in rw (append_assoc, append_assoc) a) in
-      let first = code_take s.code here prep (enter_code (plan.entry g) ++ rest) at' in
-      let second = code_drop s.code here prep (enter_code (plan.entry g) ++ rest) at' in
-      let jump = code_take s.code (here + length prep) (enter_code (plan.entry g)) rest second in
-      let third = code_drop s.code (here + length prep) (enter_code (plan.entry g)) rest second in
+      let few = enter_few plan.near in
+      let at' : CodeAt s.code here (prep ++ (enter_code plan.near (plan.entry g) ++ rest)) = (let a = t.stands in rw (append_assoc, append_assoc) a) in
+      let first = code_take s.code here prep (enter_code plan.near (plan.entry g) ++ rest) at' in
+      let second = code_drop s.code here prep (enter_code plan.near (plan.entry g) ++ rest) at' in
+      let jump = code_take s.code (here + length prep) (enter_code plan.near (plan.entry g)) rest second in
+      let third : CodeAt s.code (here + length prep + enter_words plan.near) rest =
+      subst (λ (n : ℕ). CodeAt s.code (here + length prep + n) rest) (enter_long plan.near (plan.entry g)) (code_drop s.code (here + length prep) (enter_code plan.near (plan.entry g)) rest second) in
       let scope : (u : ℕ) → live u ≡ true → u < variables f = λ u e. t.right.scope u (rw e refl) in
       let keeps : (u : ℕ) → (k u && not (is v u)) ≡ true → live u ≡ true = λ u e. rw e (or_true (in_arguments xs u)) in (
         back_of here f g xs v k,
@@ -125,12 +130,13 @@ module _ (s : Setting) (plan : Plan) (variables : ℕ → ℕ) (fine : Fits s pl
             subst (λ (j : ℕ). Comes s (widest + 6 * length xs) p (At s plan program entries most widest g (exit (plan.start g) (entries g)) (called plan g xs (waiting_of v k (back_of here j g xs v k) m) m))) e (
             let prep' : List Inst = prepared_code m.function g xs (without v k) in
             let first' : CodeAt s.code here prep' = rw e first in
-            let jump' : CodeAt s.code (here + length prep') (enter_code (plan.entry g)) = rw e jump in
+            let jump' : CodeAt s.code (here + length prep') (enter_code plan.near (plan.entry g)) = rw e jump in
             let scope' : (u : ℕ) → live u ≡ true → u < variables m.function = rw e scope in
             let wide' : length prep' + 2 + length (entry_code plan variables g (entries g)) ≤ widest + 6 * length xs = rw e wide in
-            let fits : here + length prep' + 2 < 2 ^ 29 = rw e (omega arith) in
-            let within' : IsWithin plan (called plan g xs (waiting_of v k (here + length prep' + 2) m) m) = record { depth = within.depth; frame = within.frame } in
-            let both = comes_then s (prepares s plan variables fine entries linked v k g xs (waiting_of v k (here + length prep' + 2) m) h.1 refl (λ u e. rw e refl) keeps scope' t.wanted.0 t.wanted.3 within' (omega arith) first')
+            let fits : here + length prep' + enter_words plan.near < 2 ^ 29 = rw e (omega arith) in
+            let calls' : plan.leaf m.function ≡ false = (let a = t.wanted.4 in rw e a) in
+            let within' : IsWithin plan (called plan g xs (waiting_of v k (here + length prep' + enter_words plan.near) m) m) = record { depth = within.depth; frame = within.frame } in
+            let both = comes_then s (prepares s plan variables fine entries linked v k g xs (waiting_of v k (here + length prep' + enter_words plan.near) m) h.1 refl (λ u e. rw e refl) keeps scope' t.wanted.0 t.wanted.3 calls' within' (omega arith) first')
             (λ q prepared. enters s plan variables fine entries linked v k g xs h0 t.wanted.1 t.wanted.2 fits within' jump' prepared) in
             comes_map s (widest + 6 * length xs) (omega arith) (λ q z. (refl, z)) both)),
         (λ m result p e within answered l.
@@ -141,9 +147,10 @@ module _ (s : Setting) (plan : Plan) (variables : ℕ → ℕ) (fine : Fits s pl
             let end' : back_of here f g xs v k + length rest' ≡ next = rw e (omega arith) in
             let apart : (u z : ℕ) → is v z ≡ true → k u ≡ true → u ≢ z → plan.home m.function u ≢ plan.home m.function z = rw e (λ u z sets' l ne. t.right.apart u z (rw l (open' (in_arguments xs u) (is v u))) (or_right (before (Call v g xs) k (ways_of x) z) (is v z) sets') ne) in
             let scope' : (u : ℕ) → k u ≡ true → is v u ≡ false → u < variables m.function = rw e (λ u l ne. scope u (rw (l, ne) (or_true (in_arguments xs u)))) in
+            let calls' : plan.leaf m.function ≡ false = (let a = t.wanted.4 in rw e a) in
             let own : (z : ℕ) → is v z ≡ true → z < variables m.function = rw e (λ z sets'. t.right.scope z (or_right (before (Call v g xs) k (ways_of x) z) (is v z) sets')) in
             comes_map s (3 * most) brief' (λ q z. (e, subst (λ (j : ℕ). Stands plan k (with_env (with_result v result m.env) m) j q) end' z))
-            (resumes s plan variables fine v k (back_of here f g xs v k) result within answered scope' own apart l (rw end' (omega arith)) third')),
+            (resumes s plan variables fine v k (back_of here f g xs v k) result within answered scope' own apart calls' l (rw end' (omega arith)) third')),
       )
     where
       open' : (b c : Bool) → ((b || (true && not c)) || c) ≡ true

@@ -1,6 +1,6 @@
 -- A return's walk: to just behind the call's jump, and from there to the end of the call's block.
-use Rattle.std.proofs.Common.{◌≡◌, ◌≢◌, ℕ, zero, ◌+◌, ◌-◌, ◌*◌, ◌/◌, ◌^◌, ◌<◌, ◌≤◌, Bool, true, false, not, ◌&&◌, List, [], ◌∷◌, ◌++◌, Option, Some, None, length, refl, ap, ◌∙◌, arith, append-nil, length-append}
-use Rattle.std.specs.Prelude.{nat_eq, pos}
+use Rattle.std.proofs.Common.{◌≡◌, ◌≢◌, ℕ, zero, ◌+◌, ◌-◌, ◌*◌, ◌/◌, ◌^◌, ◌<◌, ◌≤◌, Bool, true, false, not, ◌&&◌, List, [], ◌∷◌, ◌++◌, Option, Some, None, length, refl, sym, ap, ◌∙◌, subst, arith, append-nil, length-append}
+use Rattle.std.specs.Prelude.{nat_eq, pos, negsuc, if◌then◌else◌}
 use Rattle.std.proofs.lemmas.Bool.Decides.{nat_tests}
 use Rattle.dae_base.specs.Words.{plus, word}
 use Rattle.dae_base.proofs.Laws.{plus_small, times_least}
@@ -19,64 +19,132 @@ use Rattle.dae_select_walks.specs.Walks.{Setting, Comes}
 use Rattle.dae_select_walks.specs.Layout.{CodeAt}
 use Rattle.dae_select_walks.specs.Live.{in_option, is}
 use Rattle.dae_select_walks.specs.Homes.{Contents, held, kept, is_home_register, kept_at, slot_at, resident_home}
-use Rattle.dae_select_walks.specs.Agrees.{Plan, Moment, Waiting, Shows, Stands, AreIn, AreWaiting, AreResident, IsWithin, depth_of}
+use Rattle.dae_select_walks.specs.Agrees.{Plan, Moment, Waiting, Shows, Stands, AreIn, AreWaiting, AreResident, IsWithin, depth_of, return_address, counted_depth}
 use Rattle.dae_select_walks.specs.Compiled.{Lands, IsAnswered, with_result, waiting_of, result_of, with_env}
 use Rattle.dae_select_walks.proofs.LawsOfWalks.{comes_here, comes_map, comes_more, comes_then}
 use Rattle.dae_select_walks.proofs.LawsOfWalks.{put, step}
-use Rattle.dae_select_blocks.specs.Blocks.{register_or, move_code, back_code, restore_code, result_code, leave_code}
+use Rattle.dae_select_blocks.specs.Blocks.{register_or, move_code, back_code, restore_code, result_code, count_code, epilogue_code, leave_code}
 use Rattle.dae_select_blocks.specs.Code.{registers_in}
 use Rattle.dae_select_blocks.specs.Fits.{Fits}
 use Rattle.dae_select_blocks.specs.Wanted.{IsWantedResult}
-use Rattle.dae_select_blocks.proofs.Plain.{plain_computes, put_nowhere, computes, loads_word}
+use Rattle.dae_select_blocks.proofs.Plain.{plain_computes, put_nowhere, put_same, put_other, computes, loads_word}
 use Rattle.dae_select_blocks.proofs.Runs.{Runs, runs_nothing, runs_quiet, code_take, code_drop}
-use Rattle.dae_select_blocks.proofs.Agreement.{Ready, IsScratch, ready_like, resident_high, frame_inside, waiting_same}
+use Rattle.dae_select_blocks.proofs.Agreement.{Ready, ready_like, resident_high, frame_inside, waiting_same, address_same}
 use Rattle.dae_select_blocks.proofs.Operands.{like_put, runs_move}
 use Rattle.dae_select_blocks.proofs.Computing.{plus_zero, is_scratch, register_plain}
 use Rattle.dae_select_blocks.proofs.Actions.{To, ends, ready_stays, kept as goes_home}
 use Rattle.dae_select_blocks.proofs.Calls.{kept_register, register_kept, Restored, runs_restore, base_is, among_not, among_other}
-use Rattle.dae_select_blocks.proofs.Deeper.{Moved, runs_back}
+use Rattle.dae_select_blocks.proofs.Deeper.{Moved, runs_count, runs_back}
 use Rattle.dae_select_blocks.proofs.Jumps.{ready}
 
-link_scratch : (plan : Plan) → IsScratch plan 1
-link_scratch plan = record { zero = (omega arith); two = (omega arith); three = (omega arith); home = refl; depth = λ by_a. (omega arith); addresses = λ by_a. (omega arith) }
-
 module _ (s : Setting) (plan : Plan) (variables : ℕ → ℕ) (fine : Fits s plan variables) where
-  -- the processor is about to go back to a word of the code, with the result in x6
-  pub record Goes' (live : VariableSet) (m : Moment) (target : ℕ) (result : Option ℕ) (k : ℕ) (p : Processor) : Type 0 where
+  -- the processor has gone back to a word of the code, with the result in x6
+  pub record Goes' (m : Moment) (target : ℕ) (result : Option ℕ) (k : ℕ) (p : Processor) : Type 0 where
     pub contents : Contents
     pub shows : Shows plan.private contents k p
-    pub ready : Ready plan live m contents
+    pub base : ℕ
+    pub pointer : contents.register 2 ≡ 4 * base
+    pub begins : contents.register 3 ≡ m.frame
+    pub low : m.frame ≤ plan.memory
+    pub depth : plan.by_a ≡ true → contents.register 10 ≡ length m.waiting
+    pub addresses : plan.by_a ≡ true → contents.register 4 ≡ plan.memory - 16
+    pub residents : AreResident plan contents
+    pub waiting : AreWaiting plan contents (4 * target) base m.frame m.waiting
     pub given : (x : ℕ) → result ≡ Some x → contents.register 6 ≡ x
 
-  -- the last two instructions
-  lasts : {live : VariableSet} {m : Moment} {c : Contents} {k : ℕ} {p : Processor} (target : ℕ) (result : Option ℕ) (h : Ready plan live m c) → ((x : ℕ) → result ≡ Some x → c.register 6 ≡ x) → c.word h.agrees.base ≡ 4 * target → target < 2 ^ 29 → k + 2 < 2 ^ 29 → CodeAt s.code k (Lw 1 2 (pos 0) ∷ (Jalr 0 1 (pos 0) ∷ [])) → Shows plan.private c k p → Comes s 2 p (Goes' live m target result target)
-  lasts {live} {m} {c} {k} target result h given there near small at shows =
-      let base : ℕ = h.agrees.base in
-      let inside = frame_inside s plan variables fine h in let long = fine.words m.function in
-      let found : plus (c.register 2) (word (pos 0)) ≡ 4 * base = rw h.agrees.pointer (let wide = fine.private in omega arith) in
-      let to : ℕ → Env → Processor → Type 0 = λ k env q. Unit {0} in
-      let v : ℕ = c.word base in
-      let first = loads_word s plan.private to {c = c} 1 2 (pos 0) base (omega arith) (omega arith) found (omega arith) k at.0 (omega arith) at.1 at.2 _ shows in
-      let c1 : Contents = put 1 v c in
-      let h1 = ready_like s plan variables fine 1 (link_scratch plan) (like_put 1 v c (h.small base) h.fits) h in
-      let lands : plus v (word (pos 0)) / 2 * 2 ≡ 4 * target = rw there (omega arith) in
-      let second = step s plan.private (Jalr 0 1 (pos 0)) 0 1 0 0 target at.3.0 (λ pc x y. plus pc 4) (λ pc x y. plus x (word (pos 0)) / 2 * 2) Nothing first.1.holds at.3.1 at.3.2 refl (plain_computes s.copies s.side 0 1 0 (omega arith) (omega arith) (omega arith)) (plus_small (4 * (k + 1)) 4) lands in
-      comes_more s first.1.goes (comes_more s second.goes (comes_here s {n = 0} (record { contents = c1; shows = (rw (put_nowhere 0 (plus (4 * (k + 1)) 4) c1 refl) at second.holds); ready = h1; given = given })))
+  -- what a function ends with: the address comes into x1, where it isn't there, and the function isn't counted any more
+  record Closed (m : Moment) (target : ℕ) (c c' : Contents) : Type 0 where
+    pub link : c'.register 1 ≡ 4 * target
+    pub ten : plan.by_a ≡ true → c'.register 10 ≡ length m.waiting
+    pub words : (i : ℕ) → c'.word i ≡ c.word i
+    pub registers : (j : ℕ) → j ≢ 1 → j ≢ 10 → c'.register j ≡ c.register j
+
+  runs_epilogue : {live : VariableSet} {m : Moment} {c : Contents} {d : Deed} (to : ℕ → Env → Processor → Type 0) (target : ℕ) (is : List Inst) (h : Ready plan live m c) → return_address plan m.function c h.agrees.base ≡ 4 * target →
+      ((c' : Contents) → Closed m target c c' → Runs s plan.private to is c' d) → Runs s plan.private to (epilogue_code plan.by_a (plan.leaf m.function) ++ is) c d
+  runs_epilogue {m = m} {c = c} {d = d} to target is h there run = by (plan.leaf m.function) refl
+    where
+      by : (leaf : Bool) → plan.leaf m.function ≡ leaf → Runs s plan.private to ((if leaf then [] else Lw 1 2 (pos 0) ∷ count_code plan.by_a (negsuc 0)) ++ is) c d
+      by true e =
+          let found : return_address plan m.function c h.agrees.base ≡ c.register 1 = ap (λ (leaf : Bool). if leaf then c.register 1 else c.word h.agrees.base) e in
+          let counted : counted_depth plan m.function (depth_of m) ≡ depth_of m - 1 = ap (λ (leaf : Bool). if leaf then depth_of m - 1 else depth_of m) e in
+          let before : depth_of m - 1 ≡ length m.waiting = omega arith in
+          run c (record { link = sym found ∙ there; ten = λ a. h.agrees.depth a ∙ (counted ∙ before); words = λ i. refl; registers = λ j one ten. refl })
+      by false e =
+          let base : ℕ = h.agrees.base in
+          let inside = frame_inside s plan variables fine h in let long = fine.words m.function in let wide = fine.private in
+          let v : ℕ = c.word base in
+          let found : return_address plan m.function c base ≡ v = ap (λ (leaf : Bool). if leaf then c.register 1 else c.word base) e in
+          let counted : counted_depth plan m.function (depth_of m) ≡ depth_of m = ap (λ (leaf : Bool). if leaf then depth_of m - 1 else depth_of m) e in
+          let address : plus (c.register 2) (word (pos 0)) ≡ 4 * base = rw h.agrees.pointer (omega arith) in
+          let c1 : Contents = put 1 v c in
+          let like = like_put 1 v c (h.small base) h.fits in
+          let ten : plan.by_a ≡ true → c.register 10 ≡ depth_of m = λ a. h.agrees.depth a ∙ counted in
+          let less : plan.by_a ≡ true → plus (c1.register 10) (word (negsuc 0)) ≡ length m.waiting = λ a. (let deep = h.agrees.within.depth in let lim = fine.limit in rw (ten a) (omega arith)) in
+          runs_quiet s plan.private to (loads_word s plan.private to {c = c} 1 2 (pos 0) base (omega arith) (omega arith) address (omega arith)) (
+          runs_count s plan to {c = c1} (length m.waiting) (negsuc 0) is like.fits less (λ c2 counts.
+          run c2 (record {
+            link = counts.others 1 (omega arith) ∙ (put_same 1 v c (omega arith) (omega arith) ∙ (sym found ∙ there));
+            ten = counts.ten;
+            words = counts.words;
+            registers = λ j one ten. counts.others j ten ∙ put_other 1 v j c one;
+          })))
+
+  -- whatever x1 is then
+  goes_back_so : {live : VariableSet} {m : Moment} {c : Contents} {k : ℕ} {p : Processor} (c1 : Contents) (target : ℕ) (result : Option ℕ) (h : Ready plan live m c) → ((x : ℕ) → result ≡ Some x → c.register 6 ≡ x) → return_address plan m.function c h.agrees.base ≡ 4 * target →
+      Closed m target c c1 → Shows plan.private c1 k p → Goes' m target result k p
+  goes_back_so {live} {m} {c} c1 target result h given there closed shows =
+      let a = h.agrees in
+      record {
+        contents = c1;
+        shows = shows;
+        base = a.base;
+        pointer = closed.registers 2 (omega arith) (omega arith) ∙ a.pointer;
+        begins = closed.registers 3 (omega arith) (omega arith) ∙ a.frame;
+        low = a.within.frame;
+        depth = closed.ten;
+        addresses = λ e. closed.registers 4 (omega arith) (omega arith) ∙ a.addresses e;
+        residents = λ n r e.
+            let high = resident_high (resident_home 27 plan.residents n) r e in
+            closed.registers r (omega arith) (omega arith) ∙ a.residents n r e;
+        waiting = waiting_same s plan variables fine c c1 (return_address plan m.function c a.base) (4 * target) a.base m.frame m.waiting (sym there) (λ i l. closed.words i) a.waiting;
+        given = λ x e. closed.registers 6 (omega arith) (omega arith) ∙ given x e;
+      }
+
+  -- the jump goes to the address that is in x1
+  jumps_back : {live : VariableSet} {m : Moment} {c c1 : Contents} {k : ℕ} {p : Processor} (target : ℕ) (result : Option ℕ) (h : Ready plan live m c) → ((x : ℕ) → result ≡ Some x → c.register 6 ≡ x) → return_address plan m.function c h.agrees.base ≡ 4 * target → target < 2 ^ 29 →
+      Closed m target c c1 → CodeAt s.code k (Jalr 0 1 (pos 0) ∷ []) → Shows plan.private c1 k p → Comes s 1 p (Goes' m target result target)
+  jumps_back {c1 = c1} {k = k} target result h given there near closed at shows =
+      let lands : plus (c1.register 1) (word (pos 0)) / 2 * 2 ≡ 4 * target = rw closed.link (omega arith) in
+      let only = step s plan.private (Jalr 0 1 (pos 0)) 0 1 0 0 target at.0 (λ pc x y. plus pc 4) (λ pc x y. plus x (word (pos 0)) / 2 * 2) Nothing shows at.1 at.2 refl (plain_computes s.copies s.side 0 1 0 (omega arith) (omega arith) (omega arith)) (plus_small (4 * k) 4) lands in
+      comes_more s only.goes (comes_here s {n = 0} (goes_back_so c1 target result h given there closed (rw (put_nowhere 0 (plus (4 * k) 4) c1 refl) at only.holds)))
 
   -- what runs with nothing behind it
   runs_alone : {c : Contents} {d : Deed} {to : ℕ → Env → Processor → Type 0} (is : List Inst) → Runs s plan.private to (is ++ []) c d → Runs s plan.private to is c d
   runs_alone is run = rw append-nil at run
 
-  -- from the frame's first word, whoever waits there
-  pub leaves : {live : VariableSet} {m : Moment} {k : ℕ} {p : Processor} (y : Option Operand) (target : ℕ) (h : Stands plan live m k p) → IsWantedResult y → ((u : ℕ) → in_option y u ≡ true → live u ≡ true) → target < 2 ^ 29 → h.contents.word h.agrees.base ≡ 4 * target → k + length (leave_code (plan.home m.function) y) < 2 ^ 29 → CodeAt s.code k (leave_code (plan.home m.function) y) →
-      Comes s (length (leave_code (plan.home m.function) y)) p (Goes' live m target (result_of y m.env) target)
-  leaves None target h wanted reads near there small at = lasts target None (ready s plan variables fine h) (λ x e. absurd cc) there near (omega arith) at h.shows
+  -- the last instructions
+  lasts : {live : VariableSet} {m : Moment} {c : Contents} {k : ℕ} {p : Processor} (target : ℕ) (result : Option ℕ) (h : Ready plan live m c) → ((x : ℕ) → result ≡ Some x → c.register 6 ≡ x) → return_address plan m.function c h.agrees.base ≡ 4 * target → target < 2 ^ 29 →
+      k + length (epilogue_code plan.by_a (plan.leaf m.function) ++ Jalr 0 1 (pos 0) ∷ []) < 2 ^ 29 → CodeAt s.code k (epilogue_code plan.by_a (plan.leaf m.function) ++ Jalr 0 1 (pos 0) ∷ []) → Shows plan.private c k p → Comes s (length (epilogue_code plan.by_a (plan.leaf m.function) ++ Jalr 0 1 (pos 0) ∷ [])) p (Goes' m target result target)
+  lasts {live} {m} {c} {k} {p} target result h given there near small at shows =
+      let code : List Inst = epilogue_code plan.by_a (plan.leaf m.function) in
+      let rest : List Inst = Jalr 0 1 (pos 0) ∷ [] in
+      let all : length (code ++ rest) ≡ length code + 1 = length-append code rest in
+      let to : ℕ → Env → Processor → Type 0 = λ j env q. (c1 : Contents) × Shows plan.private c1 j q × Closed m target c c1 in
+      let run : Runs s plan.private to code c (Went m.env) = runs_alone code (runs_epilogue to target [] h there (λ c1 closed. runs_nothing s plan.private to {env = m.env} (λ j q t. (c1, t, closed)))) in
+      let first = run.from k (omega arith) (code_take s.code k code rest at) p shows in
+      comes_map s (length (code ++ rest)) (omega arith) (λ q g. g) (
+      comes_then s first (λ q t. jumps_back target result h given there near t.2 (code_drop s.code k code rest at) t.1))
+
+  -- to the address that the function returns to, whoever waits there
+  pub leaves : {live : VariableSet} {m : Moment} {k : ℕ} {p : Processor} (y : Option Operand) (target : ℕ) (h : Stands plan live m k p) → IsWantedResult y → ((u : ℕ) → in_option y u ≡ true → live u ≡ true) → target < 2 ^ 29 → return_address plan m.function h.contents h.agrees.base ≡ 4 * target → k + length (leave_code plan.by_a (plan.leaf m.function) (plan.home m.function) y) < 2 ^ 29 → CodeAt s.code k (leave_code plan.by_a (plan.leaf m.function) (plan.home m.function) y) →
+      Comes s (length (leave_code plan.by_a (plan.leaf m.function) (plan.home m.function) y)) p (Goes' m target (result_of y m.env) target)
+  leaves {m = m} None target h wanted reads near there small at = lasts target None (ready s plan variables fine h) (λ x e. absurd cc) there near small at h.shows
   leaves {live} {m} {k} {p} (Some x) target h wanted reads near there small at =
       let h0 = ready s plan variables fine h in
       let code : List Inst = move_code (plan.home m.function) 6 x in
-      let rest : List Inst = Lw 1 2 (pos 0) ∷ (Jalr 0 1 (pos 0) ∷ []) in
+      let rest : List Inst = epilogue_code plan.by_a (plan.leaf m.function) ++ Jalr 0 1 (pos 0) ∷ [] in
       let all = length-append code rest in
-      let to : ℕ → Env → Processor → Type 0 = λ j env q. (c : Contents) × Shows plan.private c j q × (h' : Ready plan live m c) × (c.register 6 ≡ value x m.env) × (c.word h'.agrees.base ≡ 4 * target) in
+      let to : ℕ → Env → Processor → Type 0 = λ j env q. (c : Contents) × Shows plan.private c j q × (h' : Ready plan live m c) × (c.register 6 ≡ value x m.env) × (return_address plan m.function c h'.agrees.base ≡ 4 * target) in
       let run : Runs s plan.private to code h.contents (Went m.env) =
       runs_alone code (runs_move s plan variables fine to 6 x [] h0 reads wanted (λ c1 r imm like plain same small.
       let h1 = ready_like s plan variables fine 5 (is_scratch plan 5 (omega arith) (omega arith)) like h0 in
@@ -85,30 +153,30 @@ module _ (s : Setting) (plan : Plan) (variables : ℕ → ℕ) (fine : Fits s pl
       let h2 = ready_like s plan variables fine 6 (is_scratch plan 6 (omega arith) (omega arith)) l2 h1 in
       let based : h2.agrees.base ≡ h0.agrees.base = base_is s plan variables fine to h2 h0.agrees.base (like.registers 2 (omega arith) ∙ h0.agrees.pointer) in
       runs_quiet s plan.private to (computes s plan.private to (Addi 6 r imm) 6 r 0 (λ x y. plus x (word imm)) refl (omega arith) plain (omega arith) (plus_small (c1.register r) (word imm))) (rw same (
-      runs_nothing s plan.private to {env = m.env} (λ j q shows. (c2, shows, h2, refl, rw based (like.words h0.agrees.base ∙ there))))))) in
+      let same_address : return_address plan m.function c2 h2.agrees.base ≡ 4 * target = subst (λ (b : ℕ). return_address plan m.function c2 b ≡ 4 * target) (sym based) (address_same s plan variables fine m.function h0.agrees.base h.contents c2 (l2.registers 1 (omega arith) ∙ like.registers 1 (omega arith)) (like.words h0.agrees.base) ∙ there) in
+      runs_nothing s plan.private to {env = m.env} (λ j q shows. (c2, shows, h2, refl, same_address)))))) in
       let first = run.from k (omega arith) (code_take s.code k code rest at) p h.shows in
-      comes_map s (length (leave_code (plan.home m.function) (Some x))) (omega arith) (λ q g. g) (
+      comes_map s (length (leave_code plan.by_a (plan.leaf m.function) (plan.home m.function) (Some x))) (omega arith) (λ q g. g) (
       comes_then s first (λ q t. lasts target (Some (value x m.env)) t.2 (λ z e. (let same : value x m.env ≡ z = cc in t.3 ∙ same)) t.4 near (omega arith) (code_drop s.code k code rest at) t.1))
 
   -- a return to the call that waits
-  pub return_done : {live : VariableSet} {m : Moment} {k : ℕ} {p : Processor} (y : Option Operand) (w : Waiting) (ws : List Waiting) (h : Stands plan live m k p) → m.waiting ≡ w ∷ ws → IsWantedResult y → ((u : ℕ) → in_option y u ≡ true → live u ≡ true) → k + length (leave_code (plan.home m.function) y) < 2 ^ 29 → CodeAt s.code k (leave_code (plan.home m.function) y) →
-      Comes s (length (leave_code (plan.home m.function) y)) p (Lands plan w ws (result_of y m.env))
+  pub return_done : {live : VariableSet} {m : Moment} {k : ℕ} {p : Processor} (y : Option Operand) (w : Waiting) (ws : List Waiting) (h : Stands plan live m k p) → m.waiting ≡ w ∷ ws → IsWantedResult y → ((u : ℕ) → in_option y u ≡ true → live u ≡ true) → k + length (leave_code plan.by_a (plan.leaf m.function) (plan.home m.function) y) < 2 ^ 29 → CodeAt s.code k (leave_code plan.by_a (plan.leaf m.function) (plan.home m.function) y) →
+      Comes s (length (leave_code plan.by_a (plan.leaf m.function) (plan.home m.function) y)) p (Lands plan w ws (result_of y m.env))
   return_done {live} {m} y w ws h is wanted reads small at =
-      let waits : AreWaiting plan h.contents h.agrees.base m.frame (w ∷ ws) = (let a = h.agrees.waiting in rw is at a) in
-      comes_map s (length (leave_code (plan.home m.function) y)) (omega arith) (λ q g.
-      let a = g.ready.agrees in
+      let waits : AreWaiting plan h.contents (return_address plan m.function h.contents h.agrees.base) h.agrees.base m.frame (w ∷ ws) = (let a = h.agrees.waiting in rw is at a) in
+      comes_map s (length (leave_code plan.by_a (plan.leaf m.function) (plan.home m.function) y)) (omega arith) (λ q g.
       record {
         contents = g.contents;
         shows = g.shows;
-        base = a.base;
+        base = g.base;
         frame = m.frame;
-        pointer = a.pointer;
-        begins = a.frame;
-        low = a.within.frame;
-        depth = λ e. a.depth e ∙ (rw is (omega arith));
-        addresses = a.addresses;
-        residents = a.residents;
-        waiting = (let z = a.waiting in rw is at z);
+        pointer = g.pointer;
+        begins = g.begins;
+        low = g.low;
+        depth = λ e. g.depth e ∙ (rw is (omega arith));
+        addresses = g.addresses;
+        residents = g.residents;
+        waiting = (let z = g.waiting in rw is at z);
         given = g.given;
       })
       (leaves y w.back h wanted reads waits.5 waits.6 small at)
@@ -117,11 +185,12 @@ module _ (s : Setting) (plan : Plan) (variables : ℕ → ℕ) (fine : Fits s pl
 
   -- the caller's frames are back, and what it kept is in its registers
   back_again : (m : Moment) (w : Waiting) (base below : ℕ) (c c1 c2 : Contents) → w.function ≡ m.function → w.env ≡ m.env → w.frame ≡ m.frame → IsWithin plan m → ((u : ℕ) → w.live u ≡ true → u < variables m.function) →
-      c.register 0 ≡ 0 → ((i : ℕ) → c.word i < 2 ^ 32) → AreIn (kept c below) (plan.home w.function) w.live w.env → AreWaiting plan c below w.frame m.waiting → below + (plan.limit + 1 - (length m.waiting + 1)) * plan.largest ≤ plan.private →
-      (plan.by_a ≡ true → c.register 4 ≡ plan.memory - 16) → AreResident plan c → Moved plan below m.frame (depth_of m) c c1 → Restored (registers_in (plan.home m.function) (variables m.function) w.live) below c1 c2 → Ready plan w.live m c2
-  back_again m w base below c c1 c2 is_function is_env is_frame within scope none small variables' waiting room addresses residents moved restored =
+      c.register 0 ≡ 0 → ((i : ℕ) → c.word i < 2 ^ 32) → AreIn (kept c below) (plan.home w.function) w.live w.env → plan.leaf m.function ≡ false → AreWaiting plan c (c.word below) below w.frame m.waiting → below + (plan.limit + 1 - (length m.waiting + 1)) * plan.largest ≤ plan.private →
+      (plan.by_a ≡ true → c.register 10 ≡ depth_of m) → (plan.by_a ≡ true → c.register 4 ≡ plan.memory - 16) → AreResident plan c → Moved below m.frame c c1 → Restored (registers_in (plan.home m.function) (variables m.function) w.live) below c1 c2 → Ready plan w.live m c2
+  back_again m w base below c c1 c2 is_function is_env is_frame within scope none small variables' calls waiting room ten addresses residents moved restored =
+      let counted : counted_depth plan m.function (depth_of m) ≡ depth_of m = ap (λ (leaf : Bool). if leaf then depth_of m - 1 else depth_of m) calls in
       record {
-        zero = restored.others 0 (among_not (plan.home m.function) (variables m.function) 0 w.live refl) ∙ (moved.others 0 (omega arith) (omega arith) (omega arith) (omega arith) ∙ none);
+        zero = restored.others 0 (among_not (plan.home m.function) (variables m.function) 0 w.live refl) ∙ (moved.others 0 (omega arith) (omega arith) (omega arith) ∙ none);
         fits = restored.fits;
         small = λ i. rw (restored.words i, moved.words i) (small i);
         agrees = record {
@@ -129,13 +198,14 @@ module _ (s : Setting) (plan : Plan) (variables : ℕ → ℕ) (fine : Fits s pl
           variables = λ u e. one u e (plan.home m.function u) refl;
           pointer = restored.others 2 (among_not (plan.home m.function) (variables m.function) 2 w.live refl) ∙ moved.two;
           frame = restored.others 3 (among_not (plan.home m.function) (variables m.function) 3 w.live refl) ∙ moved.three;
-          depth = λ e. restored.others 10 (among_not (plan.home m.function) (variables m.function) 10 w.live refl) ∙ moved.ten e;
-          addresses = λ e. restored.others 4 (among_not (plan.home m.function) (variables m.function) 4 w.live refl) ∙ (moved.others 4 (omega arith) (omega arith) (omega arith) (omega arith) ∙ addresses e);
+          depth = λ e. restored.others 10 (among_not (plan.home m.function) (variables m.function) 10 w.live refl) ∙ (moved.others 10 (omega arith) (omega arith) (omega arith) ∙ (ten e ∙ sym counted));
+          addresses = λ e. restored.others 4 (among_not (plan.home m.function) (variables m.function) 4 w.live refl) ∙ (moved.others 4 (omega arith) (omega arith) (omega arith) ∙ addresses e);
           residents = λ n r e.
               let high = resident_high (resident_home 27 plan.residents n) r e in
               restored.others r (among_other (plan.home m.function) (variables m.function) r w.live (λ v l. fine.apart m.function v n r l e))
-              ∙ (moved.others r (omega arith) (omega arith) (omega arith) (omega arith) ∙ residents n r e);
-          waiting = waiting_same s plan variables fine c c2 below m.frame m.waiting (λ i l. restored.words i ∙ moved.words i) (rw is_frame at waiting);
+              ∙ (moved.others r (omega arith) (omega arith) (omega arith) ∙ residents n r e);
+          waiting = waiting_same s plan variables fine c c2 (c.word below) (return_address plan m.function c2 below) below m.frame m.waiting
+              (ap (λ (leaf : Bool). if leaf then c2.register 1 else c2.word below) calls ∙ (restored.words below ∙ moved.words below)) (λ i l. restored.words i ∙ moved.words i) (rw is_frame at waiting);
           room = room;
           within = within;
         };
@@ -169,13 +239,13 @@ module _ (s : Setting) (plan : Plan) (variables : ℕ → ℕ) (fine : Fits s pl
       goes_home s plan variables fine live behind m v x h ((λ u l ne. (rw l (grind (arith, nat_tests)), apart u v (grind (arith, nat_tests)) l ne)), scope v (grind (arith, nat_tests))) small))
 
   pub resumes : {m : Moment} {p : Processor} (v : Option ℕ) (behind : VariableSet) (back : ℕ) (result : Option ℕ) → IsWithin plan m → IsAnswered v result → ((u : ℕ) → behind u ≡ true → is v u ≡ false → u < variables m.function) → ((x : ℕ) → is v x ≡ true → x < variables m.function) →
-      ((u x : ℕ) → is v x ≡ true → behind u ≡ true → u ≢ x → plan.home m.function u ≢ plan.home m.function x) →
+      ((u x : ℕ) → is v x ≡ true → behind u ≡ true → u ≢ x → plan.home m.function u ≢ plan.home m.function x) → plan.leaf m.function ≡ false →
       Lands plan (waiting_of v behind back m) m.waiting result p →
       back + length (back_code plan m.function ++ (restore_code (registers_in (plan.home m.function) (variables m.function) (λ u. behind u && not (is v u))) ++ result_code (plan.home m.function) v)) < 2 ^ 29 →
       CodeAt s.code back (back_code plan m.function ++ (restore_code (registers_in (plan.home m.function) (variables m.function) (λ u. behind u && not (is v u))) ++ result_code (plan.home m.function) v)) →
       Comes s (length (back_code plan m.function ++ (restore_code (registers_in (plan.home m.function) (variables m.function) (λ u. behind u && not (is v u))) ++ result_code (plan.home m.function) v))) p
       (Stands plan behind (with_env (with_result v result m.env) m) (back + length (back_code plan m.function ++ (restore_code (registers_in (plan.home m.function) (variables m.function) (λ u. behind u && not (is v u))) ++ result_code (plan.home m.function) v))))
-  resumes {m} {p} v behind back result within answered scope own apart l small at =
+  resumes {m} {p} v behind back result within answered scope own apart calls l small at =
       let c : Contents = l.contents in
       let waits = l.waiting in
       let below : ℕ = waits.0 in
@@ -188,10 +258,10 @@ module _ (s : Setting) (plan : Plan) (variables : ℕ → ℕ) (fine : Fits s pl
       let room = waits.4 in let low = l.low in let begins = waits.2 in
       let once = times_least (plan.limit + 1 - (length m.waiting + 1)) plan.largest (omega arith) in
       let run : Runs s plan.private to (back_code plan m.function ++ (restore_code rs ++ result_code (plan.home m.function) v)) c (Went (with_result v result m.env)) =
-      runs_back s plan to m.function below m.frame (depth_of m) (restore_code rs ++ result_code (plan.home m.function) v) l.shows.zero l.shows.fits two three (λ e. l.depth e ∙ (omega arith)) (omega arith) (omega arith) (omega arith) (λ c1 moved.
+      runs_back s plan to m.function below m.frame (restore_code rs ++ result_code (plan.home m.function) v) l.shows.zero l.shows.fits two three (omega arith) (omega arith) (λ c1 moved.
       runs_restore s plan variables fine to below rs (result_code (plan.home m.function) v) (λ q e. register_kept (plan.home m.function) (variables m.function) q kept_set e) moved.two (omega arith) moved.fits (λ i. rw (moved.words i) (l.shows.holds i)) (λ c2 restored.
-      let h2 = back_again m (waiting_of v behind back m) l.base below c c1 c2 refl refl refl within (λ u e. scope u (front (behind u) (is v u) e) (rear (behind u) (is v u) e)) l.shows.zero l.shows.holds waits.7 waits.8 room l.addresses l.residents moved restored in
-      finish m behind v result own answered h2 apart (λ x e. restored.others 6 (among_not (plan.home m.function) (variables m.function) 6 kept_set refl) ∙ (moved.others 6 (omega arith) (omega arith) (omega arith) (omega arith) ∙ l.given x e)))) in
+      let h2 = back_again m (waiting_of v behind back m) l.base below c c1 c2 refl refl refl within (λ u e. scope u (front (behind u) (is v u) e) (rear (behind u) (is v u) e)) l.shows.zero l.shows.holds waits.7 calls waits.8 room l.depth l.addresses l.residents moved restored in
+      finish m behind v result own answered h2 apart (λ x e. restored.others 6 (among_not (plan.home m.function) (variables m.function) 6 kept_set refl) ∙ (moved.others 6 (omega arith) (omega arith) (omega arith) ∙ l.given x e)))) in
       run.from back small at p l.shows
     where
       front : (a b : Bool) → (a && not b) ≡ true → a ≡ true

@@ -1,14 +1,13 @@
 -- How long blocks are.
 use Rattle.std.specs.List.{AllByRecursion}
 use Rattle.std.proofs.Common.{◌≡◌, refl, ℕ, zero, suc, ◌+◌, ◌-◌, ◌*◌, ◌%◌, ◌^◌, ◌≤◌, Bool, true, false, ◌&&◌, List, [], ◌∷◌, ◌++◌, Option, Some, None, length, arith, length-append}
-use Rattle.std.specs.Prelude.{nat_lt, nat_eq, if◌then◌else◌, pos, negsuc}
-use Rattle.std.proofs.lemmas.Bool.Decides.{nat_tests}
+use Rattle.std.specs.Prelude.{nat_lt, nat_eq, if◌then◌else◌, pos, ℤ}
 use Rattle.dae_base.specs.declared.Width.{Width}
 use Rattle.dae_base.specs.declared.Width.TheVariants.{B1, B2, B4}
 use Rattle.dae_base.specs.declared.LoadKind.{LoadKind}
 use Rattle.dae_base.specs.declared.LoadKind.TheVariants.{I8, U8, I16, U16, I32}
 use Rattle.dae_encode.specs.declared.Inst.{Inst}
-use Rattle.dae_encode.specs.declared.Inst.TheVariants.{Addi, Add, Sub, Bne, Bltu, Bgeu, Lw, Jalr, Ecall}
+use Rattle.dae_encode.specs.declared.Inst.TheVariants.{Addi, Add, Sub, Bne, Bltu, Bgeu, Jalr, Ecall}
 use Rattle.dae_base.specs.Words.{minus, size}
 use Rattle.dae_ir.specs.Classes.{VariableSet}
 use Rattle.dae_ir.specs.declared.form.Operand.{Operand}
@@ -26,12 +25,13 @@ use Rattle.dae_ir.specs.declared.stream.Action.{Action}
 use Rattle.dae_ir.specs.declared.stream.Action.TheVariants.{Set as Compute, Issue, Own, Receive, Address, Datum, Offer, Accept, Emit, Probe, Tell, Hear, Stop, Break, Continue, Call, Return}
 use Rattle.dae_ir.specs.declared.stream.Branch.{Branch}
 use Rattle.dae_ir.specs.declared.stream.Branch.TheVariants.{Silent, Tells, Hears}
+use Rattle.dae_ir.specs.declared.stream.Failure.{Failure}
 use Rattle.dae_select_walks.specs.declared.Home.{Home}
 use Rattle.dae_select_walks.specs.declared.Home.TheVariants.{Register, Slot}
 use Rattle.dae_select_walks.specs.Homes.{slot_at, kept_at, number_key, resident_register}
-use Rattle.dae_select_walks.specs.Agrees.{Plan}
-use Rattle.dae_select_blocks.specs.Blocks.{operation_code, issue_code, address_code, call_number, over, is_register, number_code, load_code, store_code, register_or, source, fetch_home, fetch, keep, compare_code, test_code, extend_code, value_code, fail_code, align_code, bounds_code, room_code, check_code, take_code, hear_code, stop_code, arguments_code, save_code, restore_code, deeper_code, back_code, result_code, leave_code, waits_at, enter_code, more_code, less_code, is_immediate, move_code, immediate_code, exchanged_code, behind_or, combine_registers, binary_code, compare_number_code, compare_registers, compare_operands, frame_code, system_code, one_way, jump_over, jump_back, goes_by, goes_code, frames_room_code, tell_number_code, against_zero, immediate_of, goes_back, fetch_number, residents_code, as_immediate}
-use Rattle.dae_select_blocks.specs.Code.{placed_code, some_below, filtered, home_registers, registers_in, with_home, early_code, action_code, branch_code, entry_code, start_code, finish_code, past_code, told_by, branch_by, ahead_by, before_branch, back_branch}
+use Rattle.dae_select_walks.specs.Agrees.{Plan, counted_depth}
+use Rattle.dae_select_blocks.specs.Blocks.{operation_code, issue_code, address_code, call_number, over, is_register, number_code, load_code, store_code, register_or, source, fetch_home, fetch, keep, compare_code, test_code, extend_code, value_code, fail_code, align_code, bounds_code, room_code, check_code, take_code, hear_code, stop_code, arguments_code, save_code, restore_code, deeper_code, back_code, result_code, leave_code, waits_at, enter_code, more_code, less_code, is_immediate, move_code, immediate_code, exchanged_code, behind_or, combine_registers, binary_code, compare_number_code, compare_registers, compare_operands, frame_code, system_code, one_way, jump_over, jump_back, goes_by, goes_code, frames_room_code, tell_number_code, against_zero, immediate_of, goes_back, fetch_number, residents_code, as_immediate, prologue_code, epilogue_code, enter_words, lower, reach_code}
+use Rattle.dae_select_blocks.specs.Code.{placed_code, some_below, filtered, home_registers, registers_in, with_home, early_code, action_code, branch_code, entry_code, start_code, finish_code, past_code, told_by, branch_by, ahead_by, before_branch, back_branch, late_code}
 use Rattle.dae_select_blocks.proofs.Simple.{IsSimple}
 
 either_short : (b : Bool) (x y : List Inst) (n : ℕ) → length x ≤ n → length y ≤ n → length (if b then x else y) ≤ n
@@ -156,18 +156,19 @@ check_short plan f (Place width x) =
 check_short plan f (Zero x) = let l = fail_short plan.by_a 1 in let a = behind_short (plan.home f) 5 5 x (Bne (source (plan.home f) 5 x) 0 (over plan.by_a) ∷ fail_code plan.by_a 1) (omega arith) in omega arith
 check_short plan f (Room g) =
     let n : ℕ = plan.memory - (plan.frame f + plan.frame g) in
-    let l1 = room_short n in let l2 = number_short 6 plan.limit in
-    let b1 = length-append (number_code 6 plan.limit) (Bltu 10 6 (pos 12) ∷ fail_code true 4) in
+    let l1 = room_short n in let l2 = number_short 6 (counted_depth plan f plan.limit) in
+    let b1 = length-append (number_code 6 (counted_depth plan f plan.limit)) (Bltu 10 6 (pos 12) ∷ fail_code true 4) in
     let room = either_short (nat_eq (plan.frame f + plan.frame g) 0) [] (room_code n) 5 (omega arith) (omega arith) in
     let frames : List Inst = frames_room_code plan.memory (plan.frame f + plan.frame g) in
-    let b2 = length-append frames (number_code 6 plan.limit ++ Bltu 10 6 (pos 12) ∷ fail_code true 4) in
-    either_short (nat_lt plan.memory (plan.frame f + plan.frame g)) (fail_code true 4) (frames ++ (number_code 6 plan.limit ++ Bltu 10 6 (pos 12) ∷ fail_code true 4)) 13 (omega arith) (omega arith)
+    let b2 = length-append frames (number_code 6 (counted_depth plan f plan.limit) ++ Bltu 10 6 (pos 12) ∷ fail_code true 4) in
+    either_short (nat_lt plan.memory (plan.frame f + plan.frame g)) (fail_code true 4) (frames ++ (number_code 6 (counted_depth plan f plan.limit) ++ Bltu 10 6 (pos 12) ∷ fail_code true 4)) 13 (omega arith) (omega arith)
 check_short plan f Frame = let l = room_short (plan.memory - plan.frame f) in either_short (nat_lt plan.memory (plan.frame f)) (fail_code true 4) (room_code (plan.memory - plan.frame f)) 13 (omega arith) (omega arith)
 check_short plan f Abort = omega arith
 
-hear_short : (b : Bool) → length (hear_code b) ≤ 4
-hear_short true = omega arith
-hear_short false = omega arith
+hear_short : (b : Bool) (only : Option Failure) → length (hear_code b only) ≤ 4
+hear_short true only = omega arith
+hear_short false None = omega arith
+hear_short false (Some failure) = omega arith
 
 stop_short : (b : Bool) (home : ℕ → Home) (x : Option Operand) → length (stop_code b home x) ≤ 6
 stop_short true home x = omega arith
@@ -179,22 +180,41 @@ pub simple_short : (plan : Plan) (variables : ℕ → ℕ) (f : ℕ) (a : Action
 simple_short plan variables f (Compute v x) live leaves skips is =
     let l = value_short (plan.home f) (register_or 5 (plan.home f v)) x in let k = keep_short (plan.home f v) in
     let both = length-append (value_code (plan.home f) (register_or 5 (plan.home f v)) x) (keep (plan.home f v)) in omega arith
-simple_short plan variables f (Issue kind x) live leaves skips is = let l = behind_short (plan.home f) 5 1 x (issue_code kind 30 (source (plan.home f) 5 x) ∷ []) (omega arith) in omega arith
-simple_short plan variables f (Own v kind x) live leaves skips is = let k = keep_short (plan.home f v) in let l = behind_short (plan.home f) 5 5 x (issue_code kind 31 (source (plan.home f) 5 x) ∷ take_code 31 (plan.home f v)) (omega arith) in omega arith
+simple_short plan variables f (Issue kind x) live leaves skips is = let l = behind_short (plan.home f) 5 1 x (issue_code kind 30 (source (plan.home f) 5 x) (pos 0) ∷ []) (omega arith) in omega arith
+simple_short plan variables f (Own v kind x) live leaves skips is = let k = keep_short (plan.home f v) in let l = behind_short (plan.home f) 5 5 x (issue_code kind 31 (source (plan.home f) 5 x) (pos 0) ∷ take_code 31 (plan.home f v)) (omega arith) in omega arith
 simple_short plan variables f (Receive v) live leaves skips is = let k = keep_short (plan.home f v) in omega arith
-simple_short plan variables f (Address width x) live leaves skips is = let l = behind_short (plan.home f) 5 1 x (address_code width (source (plan.home f) 5 x) ∷ []) (omega arith) in omega arith
+simple_short plan variables f (Address width x) live leaves skips is = let l = behind_short (plan.home f) 5 1 x (address_code width (source (plan.home f) 5 x) (pos 0) ∷ []) (omega arith) in omega arith
 simple_short plan variables f (Datum x) live leaves skips is = let l = move_short (plan.home f) 30 x in omega arith
 simple_short plan variables f (Offer v) live leaves skips is = let l = move_short (plan.home f) 28 (Variable v) in omega arith
 simple_short plan variables f (Accept v) live leaves skips is = let k = keep_short (plan.home f v) in omega arith
 simple_short plan variables f (Emit spelling x) live leaves skips is = let l = moved_short (plan.home f) 10 2 x (Addi 17 0 (pos (call_number spelling)) ∷ (Ecall ∷ [])) (omega arith) in omega arith
 simple_short plan variables f (Probe check) live leaves skips is = check_short plan f check
 simple_short plan variables f (Tell x) live leaves skips is = let l = move_short (plan.home f) 29 x in omega arith
-simple_short plan variables f Hear live leaves skips is = let l = hear_short plan.by_a in omega arith
+simple_short plan variables f (Hear only) live leaves skips is = let l = hear_short plan.by_a only in omega arith
 simple_short plan variables f (Stop x) live leaves skips is = let l = stop_short plan.by_a (plan.home f) x in omega arith
 simple_short plan variables f Break live leaves skips is = elim is [ ]
 simple_short plan variables f Continue live leaves skips is = elim is [ ]
 simple_short plan variables f (Call v g xs) live leaves skips is = elim is [ ]
 simple_short plan variables f (Return x) live leaves skips is = elim is [ ]
+
+take_code_short : (queue : ℕ) (place : Home) → length (take_code queue place) ≤ 4
+take_code_short queue place = let k = keep_short place in omega arith
+
+-- an access that adds the number of a sum, and what is behind it
+reach_short : (home : ℕ → Home) (y : Value) (access : ℕ → ℤ → Inst) (rest : List Inst) → length rest ≤ 4 → length (reach_code home y access rest) ≤ 8
+reach_short home (Binary operator x (Number n)) access rest h = let l = behind_short home 5 5 x (access (source home 5 x) (lower n) ∷ rest) (omega arith) in omega arith
+reach_short home _ access rest h = omega arith
+
+-- the blocks of pairs that compute a value late
+pub late_short : (home : ℕ → Home) (y : Value) (a : Action) → length (late_code home a y) ≤ 13
+late_short home y (Compute d z) =
+    let l = value_short home (register_or 5 (home d)) y in let k = keep_short (home d) in
+    let both = length-append (value_code home (register_or 5 (home d)) y) (keep (home d)) in omega arith
+late_short home y (Datum z) = let l = value_short home 30 y in omega arith
+late_short home y (Issue kind z) = let l = reach_short home y (issue_code kind 30) [] (omega arith) in omega arith
+late_short home y (Own v kind z) = let l = reach_short home y (issue_code kind 31) (take_code 31 (home v)) (take_code_short 31 (home v)) in omega arith
+late_short home y (Address width z) = let l = reach_short home y (address_code width) [] (omega arith) in omega arith
+late_short home y _ = omega arith
 
 -- and that of a pair which takes a word
 pub early_short : (home : ℕ → Home) (q v d : ℕ) (y : Value) → length (early_code home q v d y) ≤ 13
@@ -336,26 +356,40 @@ less_short r n =
     let l = number_short 5 n in let both = length-append (number_code 5 n) (Sub r r 5 ∷ []) in
     either_short (nat_eq n 0) _ _ 3 (omega arith) (either_short (is_immediate (minus 0 n)) _ (number_code 5 n ++ Sub r r 5 ∷ []) 3 (omega arith) (omega arith))
 
-deeper_short : (plan : Plan) (f : ℕ) → length (deeper_code plan f) ≤ 7
+deeper_short : (plan : Plan) (f : ℕ) → length (deeper_code plan f) ≤ 6
 deeper_short plan f =
     let l1 = more_short 3 (plan.frame f % 2 ^ 32) in let l2 = more_short 2 (4 * plan.words f) in
-    let l3 = either_short plan.by_a (Addi 10 10 (pos 1) ∷ []) [] 1 (omega arith) (omega arith) in
-    let b1 = length-append (more_code 2 (4 * plan.words f)) (if plan.by_a then Addi 10 10 (pos 1) ∷ [] else []) in
-    let b2 = length-append (more_code 3 (plan.frame f % 2 ^ 32)) (more_code 2 (4 * plan.words f) ++ (if plan.by_a then Addi 10 10 (pos 1) ∷ [] else [])) in
+    let both = length-append (more_code 3 (plan.frame f % 2 ^ 32)) (more_code 2 (4 * plan.words f)) in
     omega arith
 
-returning_short : (plan : Plan) (f : ℕ) → length (back_code plan f) ≤ 7
+returning_short : (plan : Plan) (f : ℕ) → length (back_code plan f) ≤ 6
 returning_short plan f =
     let l1 = less_short 3 (plan.frame f % 2 ^ 32) in let l2 = less_short 2 (4 * plan.words f) in
-    let l3 = either_short plan.by_a (Addi 10 10 (negsuc 0) ∷ []) [] 1 (omega arith) (omega arith) in
-    let b1 = length-append (less_code 2 (4 * plan.words f)) (if plan.by_a then Addi 10 10 (negsuc 0) ∷ [] else []) in
-    let b2 = length-append (less_code 3 (plan.frame f % 2 ^ 32)) (less_code 2 (4 * plan.words f) ++ (if plan.by_a then Addi 10 10 (negsuc 0) ∷ [] else [])) in
+    let both = length-append (less_code 3 (plan.frame f % 2 ^ 32)) (less_code 2 (4 * plan.words f)) in
     omega arith
 
-pub entry_short : (plan : Plan) (variables : ℕ → ℕ) (g : ℕ) (live : VariableSet) → length (entry_code plan variables g live) ≤ 19
-entry_short plan variables g live = let b = restored_short (plan.home g) (variables g) live in omega arith
+-- the address to return to takes an instruction where it isn't a leaf's, and on A the depth another
+prologue_short : (by_a leaf : Bool) → length (prologue_code by_a leaf) ≤ 2
+prologue_short by_a true = omega arith
+prologue_short true false = omega arith
+prologue_short false false = omega arith
 
-pub prepared_short : (plan : Plan) (variables : ℕ → ℕ) (f g : ℕ) (xs : List Argument) (live : VariableSet) → length (arguments_code plan f g xs ++ (save_code (registers_in (plan.home f) (variables f) live) ++ deeper_code plan f)) ≤ 25 + 6 * length xs
+prologue_alone : (by_a leaf : Bool) → length (prologue_code by_a leaf ++ []) ≤ 2
+prologue_alone by_a true = omega arith
+prologue_alone true false = omega arith
+prologue_alone false false = omega arith
+
+return_short : (by_a leaf : Bool) → length (epilogue_code by_a leaf ++ Jalr 0 1 (pos 0) ∷ []) ≤ 3
+return_short by_a true = omega arith
+return_short true false = omega arith
+return_short false false = omega arith
+
+pub entry_short : (plan : Plan) (variables : ℕ → ℕ) (g : ℕ) (live : VariableSet) → length (entry_code plan variables g live) ≤ 20
+entry_short plan variables g live =
+    let a = prologue_short plan.by_a (plan.leaf g) in let b = restored_short (plan.home g) (variables g) live in
+    let both = length-append (prologue_code plan.by_a (plan.leaf g)) (restore_code (registers_in (plan.home g) (variables g) live)) in omega arith
+
+pub prepared_short : (plan : Plan) (variables : ℕ → ℕ) (f g : ℕ) (xs : List Argument) (live : VariableSet) → length (arguments_code plan f g xs ++ (save_code (registers_in (plan.home f) (variables f) live) ++ deeper_code plan f)) ≤ 24 + 6 * length xs
 prepared_short plan variables f g xs live =
     let rs : List ℕ = registers_in (plan.home f) (variables f) live in
     let a = arguments_short plan f g xs in let c = saved_short (plan.home f) (variables f) live in
@@ -363,7 +397,7 @@ prepared_short plan variables f g xs live =
     let l1 = length-append (save_code rs) (deeper_code plan f) in let l2 = length-append (arguments_code plan f g xs) (save_code rs ++ deeper_code plan f) in
     omega arith
 
-pub resumed_short : (plan : Plan) (variables : ℕ → ℕ) (f : ℕ) (v : Option ℕ) (live : VariableSet) → length (back_code plan f ++ (restore_code (registers_in (plan.home f) (variables f) live) ++ result_code (plan.home f) v)) ≤ 29
+pub resumed_short : (plan : Plan) (variables : ℕ → ℕ) (f : ℕ) (v : Option ℕ) (live : VariableSet) → length (back_code plan f ++ (restore_code (registers_in (plan.home f) (variables f) live) ++ result_code (plan.home f) v)) ≤ 28
 resumed_short plan variables f v live =
     let rs : List ℕ = registers_in (plan.home f) (variables f) live in
     let c = restored_short (plan.home f) (variables f) live in
@@ -376,20 +410,17 @@ resumed_short plan variables f v live =
     result_short home None = omega arith
     result_short home (Some v) = let k = keep_short (home v) in omega arith
 
-pub leave_short : (home : ℕ → Home) (y : Option Operand) → length (leave_code home y) ≤ 6
-leave_short home None = omega arith
-leave_short home (Some x) = moved_short home 6 2 x (Lw 1 2 (pos 0) ∷ (Jalr 0 1 (pos 0) ∷ [])) (omega arith)
+pub leave_short : (by_a leaf : Bool) (home : ℕ → Home) (y : Option Operand) → length (leave_code by_a leaf home y) ≤ 7
+leave_short by_a leaf home None = let l = return_short by_a leaf in omega arith
+leave_short by_a leaf home (Some x) = moved_short home 6 3 x (epilogue_code by_a leaf ++ Jalr 0 1 (pos 0) ∷ []) (return_short by_a leaf)
 
--- behind its end a function returns 0
-zero_immediate : is_immediate 0 ≡ true
-unfolding is_immediate
-zero_immediate = grind (arith, nat_tests)
+pub enter_long : (near : Bool) (word : ℕ) → length (enter_code near word) ≡ enter_words near
+enter_long true word = refl
+enter_long false word = refl
 
-pub leaves_zero : (home : ℕ → Home) → length (leave_code home (Some (Number 0))) ≤ 3
-leaves_zero home = rw zero_immediate (omega arith)
-
-addresses_short : (n : ℕ) → length (number_code 4 n ++ Addi 10 0 (pos 1) ∷ []) ≤ 3
-addresses_short n = let l = number_short 4 n in let both = length-append (number_code 4 n) (Addi 10 0 (pos 1) ∷ []) in omega arith
+pub enter_few : (near : Bool) → enter_words near ≤ 2
+enter_few true = omega arith
+enter_few false = omega arith
 
 pub finish_some : (b : Bool) → 1 ≤ length (finish_code b)
 finish_some true = omega arith
@@ -401,17 +432,18 @@ residents_short r [] = omega arith
 residents_short r (n ∷ ns) = let l = number_short r n in let rest = residents_short (r - 1) ns in let both = length-append (number_code r n) (residents_code (r - 1) ns) in omega arith
 
 -- what a side begins with, and what main returns to
-pub opening_short : (plan : Plan) (main frames : ℕ) → length (start_code plan main frames) + length (finish_code plan.by_a) ≤ 8 + length (residents_code 27 plan.residents)
+pub opening_short : (plan : Plan) (main frames : ℕ) → length (start_code plan main frames) + length (finish_code plan.by_a) ≤ 7 + length (residents_code 27 plan.residents)
 opening_short plan main frames =
     let l1 = number_short 3 frames in let l2 = both plan.by_a in
-    let counts : List Inst = if plan.by_a then number_code 4 (plan.memory - 16) ++ Addi 10 0 (pos 1) ∷ [] else [] in
-    let b0 = length-append (residents_code 27 plan.residents) counts in
-    let b1 = length-append (number_code 3 frames) (residents_code 27 plan.residents ++ counts) in
-    let b2 = length-append (number_code 3 frames ++ (residents_code 27 plan.residents ++ counts)) (enter_code (plan.entry main)) in
+    let e1 = enter_long plan.near (plan.entry main) in let e2 = enter_few plan.near in
+    let addresses : List Inst = if plan.by_a then number_code 4 (plan.memory - 16) else [] in
+    let b0 = length-append (residents_code 27 plan.residents) addresses in
+    let b1 = length-append (number_code 3 frames) (residents_code 27 plan.residents ++ addresses) in
+    let b2 = length-append (number_code 3 frames ++ (residents_code 27 plan.residents ++ addresses)) (enter_code plan.near (plan.entry main)) in
     omega arith
   where
-    both : (b : Bool) → length (if b then number_code 4 (plan.memory - 16) ++ Addi 10 0 (pos 1) ∷ [] else []) + length (finish_code b) ≤ 4
-    both true = let l = addresses_short (plan.memory - 16) in omega arith
+    both : (b : Bool) → length (if b then number_code 4 (plan.memory - 16) else []) + length (finish_code b) ≤ 3
+    both true = let l = number_short 4 (plan.memory - 16) in omega arith
     both false = omega arith
 
 -- ---- where nothing is live
@@ -428,5 +460,5 @@ registers_none : (home : ℕ → Home) (n : ℕ) (live : VariableSet) → ((u : 
 unfolding registers_in
 registers_none home n live h = filtered_none (λ r. some_below n (λ v. live v && is_register r (home v))) (λ r. some_none n (λ v. live v && is_register r (home v)) (λ v. rw (h v) refl)) home_registers
 
-pub entry_alone : (plan : Plan) (variables : ℕ → ℕ) (g : ℕ) (live : VariableSet) → ((u : ℕ) → live u ≡ false) → length (entry_code plan variables g live) ≤ 1
-entry_alone plan variables g live h = rw (registers_none (plan.home g) (variables g) live h) (omega arith)
+pub entry_alone : (plan : Plan) (variables : ℕ → ℕ) (g : ℕ) (live : VariableSet) → ((u : ℕ) → live u ≡ false) → length (entry_code plan variables g live) ≤ 2
+entry_alone plan variables g live h = rw (registers_none (plan.home g) (variables g) live h) (prologue_alone plan.by_a (plan.leaf g))

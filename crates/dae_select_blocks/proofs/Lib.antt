@@ -13,6 +13,7 @@ mod Jumps
 mod Simple
 mod Sent
 mod Early
+mod Reaching
 mod Pairs
 mod Whole
 mod Calls

@@ -123,6 +123,7 @@ module _ (s : Setting) (plan : Plan) (variables : ℕ → ℕ) (fine : Fits s pl
         zero = put_other h x 0 c (omega arith);
         two = put_other h x 2 c (omega arith);
         three = put_other h x 3 c (omega arith);
+        link = put_other h x 1 c (omega arith);
         depth = λ by_a. put_other h x 10 c (λ same. k.2 (sym same));
         addresses = λ by_a. put_other h x 4 c (omega arith);
         below = λ i l. refl;
@@ -142,6 +143,7 @@ module _ (s : Setting) (plan : Plan) (variables : ℕ → ℕ) (fine : Fits s pl
         zero = refl;
         two = refl;
         three = refl;
+        link = refl;
         depth = λ by_a. refl;
         addresses = λ by_a. refl;
         below = λ j k. (let far : j ≢ base + slot_at i = omega arith in word_other j far);

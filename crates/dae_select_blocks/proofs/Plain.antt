@@ -10,7 +10,7 @@ use Rattle.dae_base.specs.declared.Width.TheVariants.{B4}
 use Rattle.dae_encode.specs.declared.QueueUse.TheVariants.{Nothing, Take, Push}
 use Rattle.dae_encode.specs.declared.Inst.{Inst}
 use Rattle.dae_encode.specs.declared.Form.TheVariants.{Computes, Loads, Stores}
-use Rattle.dae_encode.specs.declared.Inst.TheVariants.{Lw, Sw, Addi}
+use Rattle.dae_encode.specs.declared.Inst.TheVariants.{Lw, Sw, Addi, Beq}
 use Rattle.std.proofs.Math.Path.{fun_ext}
 use Rattle.dae_encode.specs.Instructions.{effect, on_two, branch}
 use Rattle.dae_encode.specs.Uses.{queue_use}
@@ -120,6 +120,23 @@ module _ (s : Setting) (private : ℕ) (to : ℕ → Env → Processor → Type 
       let same : plus (read c x q) (word (pos 0)) ≡ x = rw given (omega arith) in
       let one = step s private (Addi t q (pos 0)) t q 0 x (k + 1) w (λ pc x y. plus x (word (pos 0))) (λ pc x y. plus pc 4) (Take queue) h here is refl legal (rw same fits) (omega arith) in
       (plus (read c 0 q) (word (pos 0)), rw same at one)
+
+  -- a branch on the message at the front of a queue: where that is 0 over n words behind it, and else on
+  pub hears_zero : {c : Contents} (queue : Queue) (imm : ℤ) (n : ℕ) → queue_use s.copies s.side (Computes 0 29 0) ≡ Some (Take queue) → c.register 0 ≡ 0 → word imm ≡ 4 * (n + 1) → n < 1000 →
+      Here s private to (Beq 29 0 imm) c (λ k p. (v : ℕ) × Acts s p (event (Take queue) v 0 []) (Shows private c (k + 1 + n)))
+  hears_zero {c} queue imm n legal zero far short = λ k w small here is p h.
+      let test : nat_eq (read c 0 29) (read c 0 0) ≡ true = rw zero refl in
+      let lands : plus (4 * k) (if nat_eq (read c 0 29) (read c 0 0) then word imm else 4) ≡ 4 * (k + 1 + n) = rw (test, far) (omega arith) in
+      let one = step s private (Beq 29 0 imm) 0 29 0 0 (k + 1 + n) w (λ pc x y. 0) (λ pc x y. plus pc (if nat_eq x y then word imm else 4)) (Take queue) h here is refl legal (omega arith) lands in
+      (0, rw (put_nowhere 0 0 c refl) at one)
+
+  pub hears_other : {c : Contents} (queue : Queue) (imm : ℤ) (x : ℕ) → queue_use s.copies s.side (Computes 0 29 0) ≡ Some (Take queue) → c.register 0 ≡ 0 → nat_eq x 0 ≡ false →
+      Here s private to (Beq 29 0 imm) c (λ k p. (v : ℕ) × Acts s p (event (Take queue) v x []) (Shows private c (k + 1)))
+  hears_other {c} queue imm x legal zero some = λ k w small here is p h.
+      let test : nat_eq (read c x 29) (read c x 0) ≡ false = rw (zero, some) refl in
+      let lands : plus (4 * k) (if nat_eq (read c x 29) (read c x 0) then word imm else 4) ≡ 4 * (k + 1) = rw test (omega arith) in
+      let one = step s private (Beq 29 0 imm) 0 29 0 x (k + 1) w (λ pc x y. 0) (λ pc x y. plus pc (if nat_eq x y then word imm else 4)) (Take queue) h here is refl legal (omega arith) lands in
+      (0, rw (put_nowhere 0 0 c refl) at one)
 
   pub pushes : {c : Contents} (q x : ℕ) (imm : ℤ) (queue : Queue) (v : ℕ) → x < 28 → (nat_lt 0 q && nat_lt q 28) ≡ false → queue_use s.copies s.side (Computes q x 0) ≡ Some (Push queue) → plus (c.register x) (word imm) ≡ v →
       Here s private to (Addi q x imm) c (λ k p. Acts s p (event (Push queue) v 0 []) (Shows private c (k + 1)))

@@ -11,6 +11,9 @@ use Rattle.dae_encode.specs.declared.Inst.{Inst}
 use Rattle.dae_encode.specs.declared.Inst.TheVariants.{Lui, Auipc, Jal, Jalr, Lw, Sw, Addi, Add}
 use Rattle.dae_ir.specs.declared.form.Operand.{Operand}
 use Rattle.dae_ir.specs.declared.form.Operand.TheVariants.{Variable, Number}
+use Rattle.dae_ir.specs.declared.stream.Failure.{Failure}
+use Rattle.dae_ir.specs.declared.stream.Failure.TheVariants.{OutOfBounds, OutOfRoom}
+use Rattle.dae_ir.specs.Deeds.{failure_code}
 use Rattle.dae_select_walks.specs.Layout.{CodeAt}
 use Rattle.dae_select_walks.specs.declared.Home.{Home}
 use Rattle.dae_select_walks.specs.declared.Home.TheVariants.{Register, Slot}
@@ -34,6 +37,10 @@ words_are_code (i ∷ is) before' rest h =
     (encoded i, spot before' (map encoded is ++ rest) (encoded i), decode_encoded i h.0, (rw (same, long) at more))
 
 -- ---- immediates
+
+pub failure_small : (failure : Failure) → failure_code failure < 2048
+failure_small OutOfBounds = omega arith
+failure_small OutOfRoom = omega arith
 
 signed_fits : (x : ℕ) → x < 2 ^ 32 → IsSigned 32 (signed x)
 signed_fits x h = omega (arith, ints)

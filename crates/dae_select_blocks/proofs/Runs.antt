@@ -1,6 +1,7 @@
 -- A list of instructions does a deed, from each processor that shows these contents where the list stands.
-use Rattle.std.proofs.Common.{◌≡◌, ℕ, suc, ◌+◌, ◌^◌, ◌<◌, ◌≤◌, true, List, [], ◌∷◌, ◌++◌, length, subst, arith, length-append}
-use Rattle.std.specs.Prelude.{slice_get, Some}
+use Rattle.std.proofs.Common.{◌≡◌, ℕ, suc, ◌+◌, ◌^◌, ◌<◌, ◌≤◌, Bool, true, false, List, [], ◌∷◌, ◌++◌, length, refl, subst, arith, length-append}
+use Rattle.std.specs.Prelude.{nat_eq, if◌then◌else◌, slice_get, Some}
+use Rattle.std.proofs.lemmas.Bool.Decides.{nat_tests}
 use Rattle.dae_encode.specs.declared.QueueUse.TheVariants.{Nothing, Take as Takes, Push as Pushes, Load, StoreAddress}
 use Rattle.dae_encode.specs.declared.Inst.{Inst}
 use Rattle.dae_encode.specs.Spelling.{decode}
@@ -68,6 +69,19 @@ module _ (s : Setting) (private : ℕ) (to : ℕ → Env → Processor → Type 
 
   pub runs_take : {i : Inst} {is : List Inst} {c : Contents} {queue : Queue} {go : ℕ → Deed} (got : ℕ → Contents) → ((x : ℕ) → x < 2 ^ 32 → Here i c (λ k p. (put : ℕ) × Acts s p (event (Takes queue) put x []) (Shows private (got x) (k + 1)))) → ((x : ℕ) → x < 2 ^ 32 → Runs is (got x) (go x)) → Runs (i ∷ is) c (Take queue go)
   runs_take {is = is} got does r = record { from = λ k small at p h. nears_here s (length is) (omega arith) (λ x fits. let a = does x fits k at.0 (omega arith) at.1 at.2 p h in (a.0, next_runs k (r x fits) small at a.1)) }
+
+  -- a branch that takes a word: where it is 0 over what stands behind it, and else on to that
+  pub runs_hear : {i : Inst} {c : Contents} {queue : Queue} (d : Deed) (go : ℕ → Deed) (skipped : List Inst) → Here i c (λ k p. (put : ℕ) × Acts s p (event (Takes queue) put 0 []) (Shows private c (k + 1 + length skipped))) → ((x : ℕ) → nat_eq x 0 ≡ false → Here i c (λ k p. (put : ℕ) × Acts s p (event (Takes queue) put x []) (Shows private c (k + 1)))) → Runs [] c d → ((x : ℕ) → nat_eq x 0 ≡ false → Runs skipped c (go x)) → Runs (i ∷ skipped) c (Take queue (λ y. if nat_eq y 0 then d else go y))
+  runs_hear {i} {c} {queue} d go skipped over on none some = record { from = λ k small at p h. nears_here s (length skipped) (omega arith) (λ x fits. by k small at p h x (nat_eq x 0) refl) }
+    where
+      by : (k : ℕ) → k + length (i ∷ skipped) < 2 ^ 29 → CodeAt s.code k (i ∷ skipped) → (p : Processor) → Shows private c k p → (x : ℕ) (b : Bool) → nat_eq x 0 ≡ b → (put : ℕ) × Acts s p (event (Takes queue) put x []) (Does s (length skipped) (if b then d else go x) (to (k + length (i ∷ skipped))))
+      by k small at p h x true e =
+          let zero : x ≡ 0 = grind (arith, nat_tests) in
+          let a = over k at.0 (omega arith) at.1 at.2 p h in
+          let there : ℕ = k + 1 + length skipped in
+          let same : there + 0 ≡ k + length (i ∷ skipped) = omega arith in
+          rw zero (a.0, acts_map s (λ q g. does_map s (to (there + 0)) (to (k + length (i ∷ skipped))) 0 (length skipped) (omega arith) (λ env r t. subst (λ (j : ℕ). to j env r) same t) d q (none.from there (omega arith) tt q g)) a.1)
+      by k small at p h x false e = let a = on x e k at.0 (omega arith) at.1 at.2 p h in (a.0, next_runs k (some x e) small at a.1)
 
   pub runs_reserve : {i : Inst} {is : List Inst} {c : Contents} {queue : Queue} {kind : LoadKind} {a : ℕ} {d : Deed} → (is_within 16 s.memory (width_of kind) a ≡ true → Here i c (λ k p. Acts s p (event (Load queue kind) a 0 []) (Shows private c (k + 1)))) → Runs is c d → Runs (i ∷ is) c (Reserve queue kind a d)
   runs_reserve {is = is} does r = record { from = λ k small at p h good. nears_here s (length is) (omega arith) (next_runs k r small at (does good k at.0 (omega arith) at.1 at.2 p h)) }

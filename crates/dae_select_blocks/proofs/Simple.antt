@@ -76,7 +76,7 @@ around home variables a k x goes_on right = record {
     kept false false = refl
 
 module _ (s : Setting) (plan : Plan) (variables : ℕ → ℕ) (fine : Fits s plan variables) (program : Program) (is_plan : IsPlanOf program plan) (entries : ℕ → VariableSet) where
-  a_side : plan.by_a ≡ true → s.side ≡ A
+  pub a_side : plan.by_a ≡ true → s.side ≡ A
   a_side e = fine.side ∙ ap side e
 
   pub e_side : plan.by_a ≡ false → s.side ≡ E
@@ -93,7 +93,7 @@ module _ (s : Setting) (plan : Plan) (variables : ℕ → ℕ) (fine : Fits s pl
     stops false e (Some x) wanted reads h = stop_e_done s plan variables fine live live' m x e h reads wanted
 
     -- each block from contents that agree
-    pub simple_runs : {c : Contents} (a : Action) (leaves skips : List Inst) → IsSimple a → IsWanted plan s.copies entries a → Around (plan.home m.function) (variables m.function) a live live' → Ready plan live m c →
+    pub simple_runs : {c : Contents} (a : Action) (leaves skips : List Inst) → IsSimple a → IsWanted plan s.copies entries (plan.leaf m.function) a → Around (plan.home m.function) (variables m.function) a live live' → Ready plan live m c →
         Does' s plan variables fine live live' m (action_code plan variables m.function a live' leaves skips) c (deed program plan.by_a a w m.env)
     simple_runs (Compute v x) leaves skips is wanted round h =
         rw world.frame (set_done s plan variables fine live live' m v x h round.reads wanted ((λ u l ne. (round.stays u l (grind (arith, nat_tests)), round.apart u v (grind (arith, nat_tests)) l ne)), round.scope v (grind (arith, nat_tests))))
@@ -109,7 +109,7 @@ module _ (s : Setting) (plan : Plan) (variables : ℕ → ℕ) (fine : Fits s pl
         accept_done s plan variables fine live live' m (e_side wanted.0) v wanted.1 h ((λ u l ne. (round.stays u l (grind (arith, nat_tests)), round.apart u v (grind (arith, nat_tests)) l ne)), round.scope v (grind (arith, nat_tests)))
     simple_runs (Emit spelling x) leaves skips is wanted round h = emit_done s plan variables fine live live' m spelling x wanted.0 h round.reads wanted.1 (λ u l. round.stays u l refl)
     simple_runs (Tell x) leaves skips is wanted round h = tell_done s plan variables fine live live' m x h round.reads wanted (λ u l. round.stays u l refl)
-    simple_runs Hear leaves skips is wanted round h = hear_done s plan variables fine live live' m h (λ u l. round.stays u l refl)
+    simple_runs (Hear only) leaves skips is wanted round h = hear_done s plan variables fine live live' m only h (λ u l. round.stays u l refl)
     simple_runs (Probe (Zero x)) leaves skips is wanted round h = zero_done s plan variables fine live live' m x h round.reads wanted (λ u l. round.stays u l refl)
     simple_runs (Probe (Place width x)) leaves skips is wanted round h =
         rw world.memory (flagged (misplaced width (value x m.env) plan.memory) true wanted.0 (place_done s plan variables fine live live' m wanted.0 m.function width x refl h round.reads wanted.1 (λ u l. round.stays u l refl)))
@@ -125,32 +125,32 @@ module _ (s : Setting) (plan : Plan) (variables : ℕ → ℕ) (fine : Fits s pl
     simple_runs (Return x) leaves skips is wanted round h = elim is [ ]
 
     -- and the test of a place whose address is aligned
-    pub placed_runs : {c : Contents} (width : Width) (x : Operand) → IsWanted plan s.copies entries (Probe (Place width x)) → Around (plan.home m.function) (variables m.function) (Probe (Place width x)) live live' → value x m.env % size width ≡ 0 → Ready plan live m c →
+    pub placed_runs : {c : Contents} (width : Width) (x : Operand) → IsWanted plan s.copies entries (plan.leaf m.function) (Probe (Place width x)) → Around (plan.home m.function) (variables m.function) (Probe (Place width x)) live live' → value x m.env % size width ≡ 0 → Ready plan live m c →
         Does' s plan variables fine live live' m (placed_code (plan.home m.function) (Probe (Place width x))) c (deed program plan.by_a (Probe (Place width x)) w m.env)
     placed_runs width x wanted round four h =
         rw world.memory (flagged (misplaced width (value x m.env) plan.memory) true wanted.0 (bounds_done s plan variables fine live live' m wanted.0 width x four h round.reads wanted.1 (λ u l. round.stays u l refl)))
 
 module _ (s : Setting) (plan : Plan) (variables : ℕ → ℕ) (fine : Fits s plan variables) (program : Program) (is_plan : IsPlanOf program plan) (entries : ℕ → VariableSet) (most widest : ℕ) where
   -- an action that goes on to the next
-  pub simple_done : (f : ℕ) (a : Action) (live live' : VariableSet) (leaves skips : List Inst) (k : ℕ) → IsSimple a → IsWanted plan s.copies entries a → Around (plan.home f) (variables f) a live live' →
+  pub simple_done : (f : ℕ) (a : Action) (live live' : VariableSet) (leaves skips : List Inst) (k : ℕ) → IsSimple a → IsWanted plan s.copies entries (plan.leaf f) a → Around (plan.home f) (variables f) a live live' →
       CodeAt s.code k (action_code plan variables f a live' leaves skips) → k + length (action_code plan variables f a live' leaves skips) < 2 ^ 29 → length (action_code plan variables f a live' leaves skips) ≤ most →
       (m : Moment) (w : World) (p : Processor) → At s plan program entries most widest f (exit k live) m p → IsWorldOf plan m w →
       Does s most (deed program plan.by_a a w m.env) (λ env. At s plan program entries most widest f (exit (k + length (action_code plan variables f a live' leaves skips)) live') (with_env env m)) p
   simple_done f a live live' leaves skips k simple wanted round at small few m w p h world =
-      subst (λ (g : ℕ). Around (plan.home g) (variables g) a live live' → CodeAt s.code k (action_code plan variables g a live' leaves skips) → k + length (action_code plan variables g a live' leaves skips) < 2 ^ 29 → length (action_code plan variables g a live' leaves skips) ≤ most →
+      subst (λ (g : ℕ). IsWanted plan s.copies entries (plan.leaf g) a → Around (plan.home g) (variables g) a live live' → CodeAt s.code k (action_code plan variables g a live' leaves skips) → k + length (action_code plan variables g a live' leaves skips) < 2 ^ 29 → length (action_code plan variables g a live' leaves skips) ≤ most →
       Does s most (deed program plan.by_a a w m.env) (λ env q. (m.function ≡ g) × Stands plan live' (with_env env m) (k + length (action_code plan variables g a live' leaves skips)) q) p) h.0
-      (λ round at small few.
+      (λ wanted round at small few.
       let run = simple_runs s plan variables fine program is_plan entries live live' m w world a leaves skips simple wanted round (ready s plan variables fine h.1) in
       does_map s (To s plan variables fine live live' m (k + length (action_code plan variables m.function a live' leaves skips))) (λ env q. (m.function ≡ m.function) × Stands plan live' (with_env env m) (k + length (action_code plan variables m.function a live' leaves skips)) q)
       (length (action_code plan variables m.function a live' leaves skips)) most few (λ env q t. (refl, t)) (deed program plan.by_a a w m.env) p
       (run.from k small at p h.1.shows))
-      round at small few
+      wanted round at small few
 
   abbrev placed_block : ℕ → Width → Operand → List Inst
   placed_block f width y = placed_code (plan.home f) (Probe (Place width y))
 
   -- a test of a place whose address is known to be aligned
-  pub placed_done : (f : ℕ) (width : Width) (y : Operand) (live live' : VariableSet) (known : Facts) (k : ℕ) → IsWanted plan s.copies entries (Probe (Place width y)) → Around (plan.home f) (variables f) (Probe (Place width y)) live live' → is_aligned width (operand_bounds known y) ≡ true →
+  pub placed_done : (f : ℕ) (width : Width) (y : Operand) (live live' : VariableSet) (known : Facts) (k : ℕ) → IsWanted plan s.copies entries (plan.leaf f) (Probe (Place width y)) → Around (plan.home f) (variables f) (Probe (Place width y)) live live' → is_aligned width (operand_bounds known y) ≡ true →
       CodeAt s.code k (placed_block f width y) → k + length (placed_block f width y) < 2 ^ 29 → length (placed_block f width y) ≤ most →
       (m : Moment) (w : World) (p : Processor) → At s plan program entries most widest f (exit k live) m p → IsWorldOf plan m w → Hold known m.env →
       Does s most (deed program plan.by_a (Probe (Place width y)) w m.env) (λ env. At s plan program entries most widest f (exit (k + length (placed_block f width y)) live') (with_env env m)) p
@@ -165,7 +165,7 @@ module _ (s : Setting) (plan : Plan) (variables : ℕ → ℕ) (fine : Fits s pl
       round at small few
 
   -- a test of a place whose address is known to be good takes nothing
-  pub passed_done : (f : ℕ) (width : Width) (y : Operand) (live live' : VariableSet) (known : Facts) (k : ℕ) → IsWanted plan s.copies entries (Probe (Place width y)) → ((u : ℕ) → live' u ≡ true → live u ≡ true) → is_good plan.memory width (operand_bounds known y) ≡ true →
+  pub passed_done : (f : ℕ) (width : Width) (y : Operand) (live live' : VariableSet) (known : Facts) (k : ℕ) → IsWanted plan s.copies entries (plan.leaf f) (Probe (Place width y)) → ((u : ℕ) → live' u ≡ true → live u ≡ true) → is_good plan.memory width (operand_bounds known y) ≡ true →
       (m : Moment) (w : World) (p : Processor) → At s plan program entries most widest f (exit k live) m p → IsWorldOf plan m w → Hold known m.env →
       Does s most (deed program plan.by_a (Probe (Place width y)) w m.env) (λ env. At s plan program entries most widest f (exit (k + 0) live') (with_env env m)) p
   passed_done f width y live live' known k wanted less good m w p h world facts =

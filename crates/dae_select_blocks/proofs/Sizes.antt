@@ -18,12 +18,12 @@ use Rattle.dae_select_walks.specs.Facts.{Facts, facts_behind, facts_in_first, fa
 use Rattle.dae_select_walks.specs.declared.Need.{Need}
 use Rattle.dae_select_walks.specs.declared.Need.TheVariants.{All, Ends, Nothing}
 use Rattle.dae_select_walks.specs.Agrees.{Plan}
-use Rattle.dae_select_blocks.specs.Blocks.{arguments_code, save_code, restore_code, deeper_code, back_code, result_code, enter_code, jump_words, jump_over}
-use Rattle.dae_select_blocks.specs.Code.{registers_in, action_code, call_code, does_nothing, standing_behind, late_code, placed_code, needed_code, block_code, code_of, tail_of, loop_code, bottom_code, bottom_test, has_bottom, leaves_first, is_near}
+use Rattle.dae_select_blocks.specs.Blocks.{arguments_code, save_code, restore_code, deeper_code, back_code, result_code, enter_code, jump_words, jump_over, enter_words}
+use Rattle.dae_select_blocks.specs.Code.{registers_in, action_code, call_code, does_nothing, standing_behind, late_code, placed_code, needed_code, block_code, code_of, tail_of, loop_code, bottom_code, bottom_test, has_bottom, leaves_first, is_near, is_dead}
 use Rattle.dae_select_blocks.specs.Sizes.{one_call, most_words_in}
 use Rattle.dae_select_blocks.proofs.Simple.{IsSimple}
 use Rattle.dae_select_blocks.proofs.Pairs.{by_pairs}
-use Rattle.dae_select_blocks.proofs.Lengths.{value_short, simple_short, early_short, branch_short, back_branch_short, over_short, back_short, past_short, placed_short, prepared_short, resumed_short, leave_short}
+use Rattle.dae_select_blocks.proofs.Lengths.{simple_short, early_short, branch_short, back_branch_short, over_short, back_short, past_short, placed_short, prepared_short, resumed_short, leave_short, enter_long, enter_few, late_short}
 
 pub append_short : (xs ys : List Inst) (m n : ℕ) → length xs ≤ m → length ys ≤ n → length (xs ++ ys) ≤ m + n
 append_short xs ys m n h k = let l = length-append xs ys in omega arith
@@ -40,7 +40,7 @@ module _ (short : Bool) (plan : Plan) (variables : ℕ → ℕ) (f : ℕ) where
   call_length : (v : Option ℕ) (g : ℕ) (xs : List Argument) (k : VariableSet) → length (call_code plan variables f v g xs k) ≤ 56 + 6 * length xs
   call_length v g xs k =
       let rs = registers_in (plan.home f) (variables f) k in
-      let A = arguments_code plan f g xs in let B = save_code rs in let D = deeper_code plan f in let E = enter_code (plan.entry g) in
+      let A = arguments_code plan f g xs in let B = save_code rs in let D = deeper_code plan f in let E = enter_code plan.near (plan.entry g) in
       let R = back_code plan f ++ (restore_code rs ++ result_code (plan.home f) v) in
       let before' = prepared_short plan variables f g xs k in
       let after' = resumed_short plan variables f v k in
@@ -50,7 +50,8 @@ module _ (short : Bool) (plan : Plan) (variables : ℕ → ℕ) (f : ℕ) where
       let four = length-append E R in
       let five = length-append A (B ++ D) in
       let six = length-append B D in
-      let enters : length E ≡ 2 = refl in
+      let enters : length E ≡ enter_words plan.near = enter_long plan.near (plan.entry g) in
+      let few = enter_few plan.near in
       omega arith
 
   simple : (a : Action) (k : VariableSet) (l s : ℕ) → IsSimple a → 14 ≤ 14 * action_weight a → length (action_code plan variables f a k (jump_over short l) (jump_over short s)) ≤ 14 * action_weight a + 42 * one_call a
@@ -68,12 +69,12 @@ module _ (short : Bool) (plan : Plan) (variables : ℕ → ℕ) (f : ℕ) where
   action_length (Emit spelling x) k l s = simple (Emit spelling x) k l s tt (omega arith)
   action_length (Probe check) k l s = simple (Probe check) k l s tt (omega arith)
   action_length (Tell x) k l s = simple (Tell x) k l s tt (omega arith)
-  action_length Hear k l s = simple Hear k l s tt (omega arith)
+  action_length (Hear only) k l s = simple (Hear only) k l s tt (omega arith)
   action_length (Stop x) k l s = simple (Stop x) k l s tt (omega arith)
   action_length Break k l s = let h = over_short short l in omega arith
   action_length Continue k l s = let h = over_short short s in omega arith
   action_length (Call v g xs) k l s = let h = call_length v g xs (λ u. k u && not (is v u)) in omega arith
-  action_length (Return x) k l s = let h = leave_short (plan.home f) x in omega arith
+  action_length (Return x) k l s = let h = leave_short plan.by_a (plan.leaf f) (plan.home f) x in omega arith
 
   -- a pair's block is no longer than one of its actions may be
   abbrev BlockFits : Facts → Standing → Ways → ℕ → ℕ → Action → Actions → Standing → Type 0
@@ -81,7 +82,10 @@ module _ (short : Bool) (plan : Plan) (variables : ℕ → ℕ) (f : ℕ) where
 
   late_length : (t : ℕ) (y : Value) (a : Action) → length (late_code (plan.home f) a y) ≤ 14 * action_weight a + 42 * one_call a
   late_length t y (Compute d z) = action_length (Compute d y) none 0 0
-  late_length t y (Datum z) = let h = value_short (plan.home f) 30 y in omega arith
+  late_length t y (Datum z) = let h = late_short (plan.home f) y (Datum z) in omega arith
+  late_length t y (Issue kind z) = let h = late_short (plan.home f) y (Issue kind z) in omega arith
+  late_length t y (Own v kind z) = let h = late_short (plan.home f) y (Own v kind z) in omega arith
+  late_length t y (Address width z) = let h = late_short (plan.home f) y (Address width z) in omega arith
   late_length t y a = omega arith
 
   -- a test without that of the alignment is shorter than one with it
@@ -98,7 +102,7 @@ module _ (short : Bool) (plan : Plan) (variables : ℕ → ℕ) (f : ℕ) where
   block_length known (Early v y) x l s a k = omega arith
   block_length known (Late t y) x l s a k = late_length t y a
   block_length known Settled x l s a k =
-      by_pairs (BlockFits known Settled x l s) x (λ a k. settled_length (need_of plan.memory known a k) a (live k x) l s) (λ t y m b k e passes dead. omega arith)
+      by_pairs (BlockFits known Settled x l s) x (λ a k. either_length (is_dead a (live k x)) [] (needed_code plan variables f (need_of plan.memory known a k) a (live k x) (jump_over short l) (jump_over short s)) _ (λ e. omega arith) (settled_length (need_of plan.memory known a k) a (live k x) l s)) (λ t y m b k e passes dead. omega arith)
       (λ v m d y k e once dead. (let h = early_short (plan.home f) 30 v d y in omega arith)) (λ v m d y k e once dead. (let h = early_short (plan.home f) 28 v d y in omega arith)) a k
 
   mutual

@@ -15,12 +15,12 @@ use Rattle.dae_ir.specs.Streams.{Actions}
 use Rattle.dae_ir.specs.Deeds.{deed, Push, Went, told_on}
 use Rattle.dae_ir.specs.declared.stream.Argument.{Argument}
 use Rattle.dae_base.specs.declared.Width.{Width}
-use Rattle.dae_base.proofs.Laws.{and_true}
+use Rattle.dae_base.proofs.Laws.{not_true, and_true}
 use Rattle.dae_ir.specs.declared.form.Operand.{Operand}
 use Rattle.dae_ir.specs.declared.form.Check.TheVariants.{Place}
-use Rattle.dae_ir.specs.declared.form.Operand.TheVariants.{Variable}
+use Rattle.dae_ir.specs.declared.form.Operand.TheVariants.{Variable, Number}
 use Rattle.dae_ir.specs.declared.form.Value.{Value}
-use Rattle.dae_ir.specs.declared.form.Value.TheVariants.{Same}
+use Rattle.dae_ir.specs.declared.form.Value.TheVariants.{Same, Binary}
 use Rattle.dae_ir.specs.declared.stream.Mark.{Mark}
 use Rattle.dae_ir.specs.declared.stream.Action.{Action}
 use Rattle.dae_ir.specs.declared.stream.Action.TheVariants.{Set as Compute, Issue, Own, Receive, Address, Datum, Offer, Accept, Emit, Probe, Tell, Hear, Stop, Break, Continue, Call, Return}
@@ -38,16 +38,17 @@ use Rattle.dae_select_walks.specs.declared.Standing.TheVariants.{Settled, Early,
 use Rattle.dae_select_walks.specs.Compiled.{Exit, Exits, exit, exits, ways_of, with_env, IsWorldOf, At, Leads, Turns, GoesBack, is_told, begins_told, ActionDone, BranchDone, CodeDone, bit}
 use Rattle.dae_select_walks.proofs.LawsOfWalks.{comes_here, comes_more, nears_here, comes_map, does_map, acts_map, turn_again}
 use Rattle.dae_select_walks.specs.Layout.{CodeAt}
+use Rattle.dae_meaning.specs.declared.Operator.TheVariants.{Add as Plus}
 use Rattle.dae_meaning.specs.declared.Comparison.{Comparison}
 use Rattle.dae_meaning.specs.declared.Comparison.TheVariants.{NotEqual}
-use Rattle.dae_select_blocks.specs.Blocks.{value_code, jump_words, jump_over, jump_back, one_way, goes_code, goes_back}
-use Rattle.dae_select_blocks.specs.Code.{written_last, action_code, branch_by, ahead_by, branch_code, before_branch, back_branch, bottom_test, leaves_first, is_near, has_bottom, tail_of, loop_code, bottom_code, does_nothing, past_code, standing_behind, early_code, placed_code, block_code, code_of}
+use Rattle.dae_select_blocks.specs.Blocks.{jump_words, jump_over, jump_back, one_way, goes_code, goes_back}
+use Rattle.dae_select_blocks.specs.Code.{written_last, is_offset_sum, action_code, branch_by, ahead_by, branch_code, before_branch, back_branch, bottom_test, leaves_first, is_near, has_bottom, tail_of, loop_code, bottom_code, does_nothing, past_code, standing_behind, late_code, early_code, placed_code, is_dead, needed_code, block_code, code_of}
 use Rattle.dae_select_blocks.specs.Fits.{Fits}
 use Rattle.dae_select_blocks.specs.Wanted.{IsWanted, IsWantedBranch, IsPlanOf, IsRight}
 use Rattle.dae_select_blocks.proofs.Runs.{code_take, code_drop}
 use Rattle.dae_select_blocks.proofs.Uses.{takes_load_left, takes_load_right, takes_copy_left, takes_copy_right}
-use Rattle.dae_select_blocks.proofs.Simple.{IsSimple, around, e_side, simple_done, placed_done, passed_done, itself_done}
-use Rattle.dae_select_blocks.proofs.Pairs.{passed_on, by_pairs, entered_at, Suits, suits_behind, AreLateNumbers, late_first, late_second, late_sent, early_first, early_second}
+use Rattle.dae_select_blocks.proofs.Simple.{IsSimple, around, a_side, e_side, simple_done, placed_done, passed_done, itself_done}
+use Rattle.dae_select_blocks.proofs.Pairs.{ForAccesses, passed_on, offset_sum, by_pairs, entered_at, Suits, suits_behind, AreLateNumbers, dead_held, dead_done, late_first, late_second, late_sent, late_issue, late_address, late_own, early_first, early_second}
 use Rattle.dae_select_blocks.proofs.Lengths.{back_branch_long}
 use Rattle.dae_select_blocks.proofs.Jumps.{goes_if, jump_long, back_long, hears_some, leads_over, turns_over, turns_back, stands_less, silent_done, tells_done, hears_done, AllLong, GoesFrom, ahead_long, ahead_goes, back_long_all, back_goes}
 
@@ -76,7 +77,7 @@ module _ (s : Setting) (plan : Plan) (variables : ℕ → ℕ) (fine : Fits s pl
 
   -- what every action wants of the place where it stands: its block, short enough, and homes that are apart
   pub record Stood (f : ℕ) (a : Action) (behind : VariableSet) (x : Ways) (leaves skips k : ℕ) : Type 0 where
-    pub wanted : IsWanted plan s.copies entries a
+    pub wanted : IsWanted plan s.copies entries (plan.leaf f) a
     pub right : IsRight (plan.home f) (variables f) (with_all (before a behind x) (sets a))
     pub stands : CodeAt s.code k (block_of f a behind leaves skips)
     pub small : k + length (block_of f a behind leaves skips) < 2 ^ 29
@@ -93,7 +94,7 @@ module _ (s : Setting) (plan : Plan) (variables : ℕ → ℕ) (fine : Fits s pl
   module _ (blocks : (f : ℕ) (a : Action) (live : VariableSet) (leaves skips : List Inst) → IsSimple a → length (action_code plan variables f a live leaves skips) ≤ most)
       (placed : (f : ℕ) (a : Action) → length (placed_code (plan.home f) a) ≤ most)
       (early_short : (f q v d : ℕ) (y : Value) → length (early_code (plan.home f) q v d y) ≤ most)
-      (sent_short : (f : ℕ) (y : Value) → length (value_code (plan.home f) 30 y) ≤ most)
+      (late_short : (f : ℕ) (y : Value) (a : Action) → length (late_code (plan.home f) a y) ≤ most)
       (branches : (f : ℕ) (b : Branch) (way : Bool) (n : ℕ) → length (branch_code (plan.home f) short b way n) + 2 ≤ most)
       (backs : (f : ℕ) (b : Branch) (way : Bool) (n : ℕ) → length (back_branch (plan.home f) b way n) + 2 ≤ most)
       (calls : (f g : ℕ) (v : Option ℕ) (xs : List Argument) (k : VariableSet) (x : Exits) (leaves skips here : ℕ) → Stood f (Call v g xs) k (ways_of x) leaves skips here → Done' f unknown (Call v g xs) k x leaves skips here)
@@ -149,22 +150,29 @@ module _ (s : Setting) (plan : Plan) (variables : ℕ → ℕ) (fine : Fits s pl
     action_done f known (Emit spelling y) k x leaves skips here settled to_leave to_skip low near close t = simply f known (Emit spelling y) k x leaves skips here tt (λ u. refl) t
     action_done f known (Probe check) k x leaves skips here settled to_leave to_skip low near close t = simply f known (Probe check) k x leaves skips here tt (λ u. refl) t
     action_done f known (Tell y) k x leaves skips here settled to_leave to_skip low near close t = simply f known (Tell y) k x leaves skips here tt (λ u. refl) t
-    action_done f known Hear k x leaves skips here settled to_leave to_skip low near close t = simply f known Hear k x leaves skips here tt (λ u. refl) t
+    action_done f known (Hear only) k x leaves skips here settled to_leave to_skip low near close t = simply f known (Hear only) k x leaves skips here tt (λ u. refl) t
 
     -- ---- actions in their lists, alone or in pairs
 
-    -- the block of an action, where things stand so before it and so behind it, does it
+    -- this block, where things stand so before an action and so behind it, does the action
+    abbrev BlockDone : ℕ → Facts → List Inst → Standing → Mark → Exits → ℕ → ℕ → ℕ → Action → Actions → Standing → Type 0
+    BlockDone f known block standing mark x leaves skips here a k standing' =
+        Suits standing (Do mark a k) (ways_of x) → AreLateNumbers standing → AreSettled x → IsWanted plan s.copies entries (plan.leaf f) a → Each (IsWanted plan s.copies entries (plan.leaf f)) IsWantedBranch k →
+        IsRight (plan.home f) (variables f) (with_all (before a (live k (ways_of x)) (ways_of x)) (sets a)) → AllByRecursion (IsRight (plan.home f) (variables f)) (lives k (ways_of x)) →
+        CodeAt s.code here block → lo ≤ here → here + length block < 2 ^ 29 →
+        here + length block + leaves ≡ x.leaves.word → here + length block + skips ≡ x.skips.word → x.leaves.word ≤ hi → x.skips.word ≤ hi →
+        ActionDone s plan program entries most widest f known a (entered_at standing (Do mark a k) (ways_of x) here) (entered_at standing' k (ways_of x) (here + length block)) x
+        × AreLateNumbers standing'
+
+    -- the block of the action does it
     abbrev StepDone : ℕ → Facts → Need → Standing → Mark → Exits → ℕ → ℕ → ℕ → Action → Actions → Standing → Type 0
     StepDone f known need standing mark x leaves skips here a k standing' =
-        Suits standing (Do mark a k) (ways_of x) → AreLateNumbers standing → AreSettled x → IsWanted plan s.copies entries a → Each (IsWanted plan s.copies entries) IsWantedBranch k →
-        IsRight (plan.home f) (variables f) (with_all (before a (live k (ways_of x)) (ways_of x)) (sets a)) → AllByRecursion (IsRight (plan.home f) (variables f)) (lives k (ways_of x)) →
-        CodeAt s.code here (block_code plan variables f need standing a standing' (live k (ways_of x)) (jump_over short leaves) (jump_over short skips)) → lo ≤ here →
-        here + length (block_code plan variables f need standing a standing' (live k (ways_of x)) (jump_over short leaves) (jump_over short skips)) < 2 ^ 29 →
-        here + length (block_code plan variables f need standing a standing' (live k (ways_of x)) (jump_over short leaves) (jump_over short skips)) + leaves ≡ x.leaves.word →
-        here + length (block_code plan variables f need standing a standing' (live k (ways_of x)) (jump_over short leaves) (jump_over short skips)) + skips ≡ x.skips.word → x.leaves.word ≤ hi → x.skips.word ≤ hi →
-        ActionDone s plan program entries most widest f known a (entered_at standing (Do mark a k) (ways_of x) here)
-        (entered_at standing' k (ways_of x) (here + length (block_code plan variables f need standing a standing' (live k (ways_of x)) (jump_over short leaves) (jump_over short skips)))) x
-        × AreLateNumbers standing'
+        BlockDone f known (block_code plan variables f need standing a standing' (live k (ways_of x)) (jump_over short leaves) (jump_over short skips)) standing mark x leaves skips here a k standing'
+
+    -- and that of an action alone
+    abbrev AloneDone : ℕ → Facts → Need → Mark → Exits → ℕ → ℕ → ℕ → Action → Actions → Type 0
+    AloneDone f known need mark x leaves skips here a k =
+        BlockDone f known (needed_code plan variables f need a (live k (ways_of x)) (jump_over short leaves) (jump_over short skips)) Settled mark x leaves skips here a k Settled
 
     late_step : (f t : ℕ) (known : Facts) (need : Need) (y : Value) (d : ℕ) (mark : Mark) (k : Actions) (x : Exits) (leaves skips here : ℕ) → live k (ways_of x) t ≡ false → StepDone f known need (Late t y) mark x leaves skips here (Compute d (Same (Variable t))) k Settled
     late_step f t known need y d mark k x leaves skips here dead suits numbers settled wanted more right rights at low small to_leave to_skip near close = (
@@ -174,28 +182,49 @@ module _ (s : Setting) (plan : Plan) (variables : ℕ → ℕ) (fine : Fits s pl
 
     sent_step : (f t : ℕ) (known : Facts) (need : Need) (y : Value) (mark : Mark) (k : Actions) (x : Exits) (leaves skips here : ℕ) → live k (ways_of x) t ≡ false → written_last y ≡ true → StepDone f known need (Late t y) mark x leaves skips here (Datum (Variable t)) k Settled
     sent_step f t known need y mark k x leaves skips here dead last suits numbers settled wanted more right rights at low small to_leave to_skip near close = (
-      late_sent s plan variables fine program is_plan entries most widest f t y (live k (ways_of x)) known (ways_of x) x here (e_side s plan variables fine program is_plan entries wanted.0) last dead numbers at small (sent_short f y),
+      late_sent s plan variables fine program is_plan entries most widest f t y (live k (ways_of x)) known (ways_of x) x here (e_side s plan variables fine program is_plan entries wanted.0) last dead numbers at small (late_short f y (Datum (Variable t))),
       tt,
     )
+
+    -- or it accesses memory at a sum
+    reached_step : (f t : ℕ) (known : Facts) (need : Need) (y : Value) (mark : Mark) (k : Actions) (x : Exits) (leaves skips here : ℕ) → live k (ways_of x) t ≡ false → is_offset_sum y ≡ true → ForAccesses (λ (a : Action). StepDone f known need (Late t y) mark x leaves skips here a k Settled) t
+    reached_step f t known need y mark k x leaves skips here dead adds =
+        offset_sum (λ (z : Value). ForAccesses (λ (a : Action). StepDone f known need (Late t z) mark x leaves skips here a k Settled) t) y adds (λ v n fits. record {
+          issue = λ kind suits numbers settled wanted more right rights at low small to_leave to_skip near close. (
+            late_issue s plan variables fine program is_plan entries most widest (a_side s plan variables fine program is_plan entries wanted.0) f t v n fits numbers.1 (live k (ways_of x)) dead known (ways_of x) x here
+                kind at small (late_short f (Binary Plus (Variable v) (Number n)) (Issue kind (Variable t))),
+            tt,
+          );
+          own = λ d kind suits numbers settled wanted more right rights at low small to_leave to_skip near close. (
+            late_own s plan variables fine program is_plan entries most widest (a_side s plan variables fine program is_plan entries wanted.0) f t v n fits numbers.1 (live k (ways_of x)) dead known (ways_of x) x here
+                d kind right at small (late_short f (Binary Plus (Variable v) (Number n)) (Own d kind (Variable t))),
+            tt,
+          );
+          address = λ width suits numbers settled wanted more right rights at low small to_leave to_skip near close. (
+            late_address s plan variables fine program is_plan entries most widest (a_side s plan variables fine program is_plan entries wanted.0) f t v n fits numbers.1 (live k (ways_of x)) dead known (ways_of x) x here
+                width at small (late_short f (Binary Plus (Variable v) (Number n)) (Address width (Variable t))),
+            tt,
+          );
+        })
 
     early_step : (f v : ℕ) (known : Facts) (need : Need) (y : Value) (mark : Mark) (k : Actions) (x : Exits) (leaves skips here : ℕ) → StepDone f known need (Early v y) mark x leaves skips here (Compute v y) k Settled
     early_step f v known need y mark k x leaves skips here suits numbers settled wanted more right rights at low small to_leave to_skip near close = (early_second s plan variables fine program is_plan entries most widest f v y (live k (ways_of x)) known x here, tt)
 
     -- an action alone
-    plain_step : (f : ℕ) (known : Facts) (mark : Mark) (a : Action) (k : Actions) (x : Exits) (leaves skips here : ℕ) → StepDone f known All Settled mark x leaves skips here a k Settled
+    plain_step : (f : ℕ) (known : Facts) (mark : Mark) (a : Action) (k : Actions) (x : Exits) (leaves skips here : ℕ) → AloneDone f known All mark x leaves skips here a k
     plain_step f known mark a k x leaves skips here suits numbers settled wanted more right rights at low small to_leave to_skip near close = (
       action_done f known a (live k (ways_of x)) x leaves skips here settled to_leave to_skip low near close (record { wanted = wanted; right = right; stands = at; small = small }),
       tt,
     )
 
-    placed_step : (f : ℕ) (known : Facts) (mark : Mark) (width : Width) (y : Operand) (k : Actions) (x : Exits) (leaves skips here : ℕ) (aligned : Bool) → is_aligned width (operand_bounds known y) ≡ aligned → StepDone f known (if aligned then Ends else All) Settled mark x leaves skips here (Probe (Place width y)) k Settled
+    placed_step : (f : ℕ) (known : Facts) (mark : Mark) (width : Width) (y : Operand) (k : Actions) (x : Exits) (leaves skips here : ℕ) (aligned : Bool) → is_aligned width (operand_bounds known y) ≡ aligned → AloneDone f known (if aligned then Ends else All) mark x leaves skips here (Probe (Place width y)) k
     placed_step f known mark width y k x leaves skips here false e = plain_step f known mark (Probe (Place width y)) k x leaves skips here
     placed_step f known mark width y k x leaves skips here true e = λ suits numbers settled wanted more right rights at low small to_leave to_skip near close. (
       placed_done s plan variables fine program is_plan entries most widest f width y (before (Probe (Place width y)) (live k (ways_of x)) (ways_of x)) (live k (ways_of x)) known here wanted (around (plan.home f) (variables f) (Probe (Place width y)) (live k (ways_of x)) (ways_of x) (λ u. refl) right) e at small (placed f (Probe (Place width y))),
       tt,
     )
 
-    passed_step : (f : ℕ) (known : Facts) (mark : Mark) (width : Width) (y : Operand) (k : Actions) (x : Exits) (leaves skips here : ℕ) (told good : Bool) → is_good plan.memory width (operand_bounds known y) ≡ good → StepDone f known (if told && good then Nothing else (if is_aligned width (operand_bounds known y) then Ends else All)) Settled mark x leaves skips here (Probe (Place width y)) k Settled
+    passed_step : (f : ℕ) (known : Facts) (mark : Mark) (width : Width) (y : Operand) (k : Actions) (x : Exits) (leaves skips here : ℕ) (told good : Bool) → is_good plan.memory width (operand_bounds known y) ≡ good → AloneDone f known (if told && good then Nothing else (if is_aligned width (operand_bounds known y) then Ends else All)) mark x leaves skips here (Probe (Place width y)) k
     passed_step f known mark width y k x leaves skips here false good e = placed_step f known mark width y k x leaves skips here (is_aligned width (operand_bounds known y)) refl
     passed_step f known mark width y k x leaves skips here true false e = placed_step f known mark width y k x leaves skips here (is_aligned width (operand_bounds known y)) refl
     passed_step f known mark width y k x leaves skips here true true e = λ suits numbers settled wanted more right rights at low small to_leave to_skip near close. (
@@ -207,11 +236,11 @@ module _ (s : Setting) (plan : Plan) (variables : ℕ → ℕ) (fine : Fits s pl
         stays true c e = refl
         stays false c e = rw e refl
 
-    itself_step : (f : ℕ) (known : Facts) (mark : Mark) (v u : ℕ) (k : Actions) (x : Exits) (leaves skips here : ℕ) (same : Bool) → nat_eq u v ≡ same → StepDone f known (if same then Nothing else All) Settled mark x leaves skips here (Compute v (Same (Variable u))) k Settled
+    itself_step : (f : ℕ) (known : Facts) (mark : Mark) (v u : ℕ) (k : Actions) (x : Exits) (leaves skips here : ℕ) (same : Bool) → nat_eq u v ≡ same → AloneDone f known (if same then Nothing else All) mark x leaves skips here (Compute v (Same (Variable u))) k
     itself_step f known mark v u k x leaves skips here false e = plain_step f known mark (Compute v (Same (Variable u))) k x leaves skips here
     itself_step f known mark v u k x leaves skips here true e =
         let is : u ≡ v = grind (arith, nat_tests) in
-        subst (λ (z : ℕ). StepDone f known Nothing Settled mark x leaves skips here (Compute v (Same (Variable z))) k Settled) (sym is)
+        subst (λ (z : ℕ). AloneDone f known Nothing mark x leaves skips here (Compute v (Same (Variable z))) k) (sym is)
         (λ suits numbers settled wanted more right rights at low small to_leave to_skip near close. (
           itself_done s plan variables fine program is_plan entries most widest f v (before (Compute v (Same (Variable v))) (live k (ways_of x)) (ways_of x)) (live k (ways_of x)) known here (λ w l. still (nat_eq w v) (live k (ways_of x) w) l),
           tt,
@@ -221,10 +250,27 @@ module _ (s : Setting) (plan : Plan) (variables : ℕ → ℕ) (fine : Fits s pl
         still true c e = refl
         still false c e = rw e refl
 
+    needed_step : (f : ℕ) (known : Facts) (mark : Mark) (a : Action) (k : Actions) (x : Exits) (leaves skips here : ℕ) → AloneDone f known (need_of plan.memory known a k) mark x leaves skips here a k
+    needed_step f known mark (Compute v (Same (Variable u))) k x leaves skips here = itself_step f known mark v u k x leaves skips here (nat_eq u v) refl
+    needed_step f known mark (Probe (Place width y)) k x leaves skips here = passed_step f known mark width y k x leaves skips here (tells_within 24 k) (is_good plan.memory width (operand_bounds known y)) refl
+    needed_step f known mark a k x leaves skips here = plain_step f known mark a k x leaves skips here
+
+    -- nothing is needed of what computes a variable that isn't live
+    dead_step : (f : ℕ) (known : Facts) (mark : Mark) (a : Action) (k : Actions) (x : Exits) (leaves skips here : ℕ) → is_dead a (live k (ways_of x)) ≡ true → BlockDone f known [] Settled mark x leaves skips here a k Settled
+    dead_step f known mark (Compute v y) k x leaves skips here e = λ suits numbers settled wanted more right rights at low small to_leave to_skip near close.
+        (let dead = not_true (live k (ways_of x) v) e in (
+          dead_done s plan variables fine program is_plan entries most widest f v y (before (Compute v y) (live k (ways_of x)) (ways_of x)) (live k (ways_of x)) known here dead (λ u l. dead_held v y (live k (ways_of x)) (ways_of x) u dead l),
+          tt,
+        ))
+    dead_step f known mark _ k x leaves skips here e = absurd cc
+
     alone_step : (f : ℕ) (known : Facts) (mark : Mark) (a : Action) (k : Actions) (x : Exits) (leaves skips here : ℕ) → StepDone f known (need_of plan.memory known a k) Settled mark x leaves skips here a k Settled
-    alone_step f known mark (Compute v (Same (Variable u))) k x leaves skips here = itself_step f known mark v u k x leaves skips here (nat_eq u v) refl
-    alone_step f known mark (Probe (Place width y)) k x leaves skips here = passed_step f known mark width y k x leaves skips here (tells_within 24 k) (is_good plan.memory width (operand_bounds known y)) refl
-    alone_step f known mark a k x leaves skips here = plain_step f known mark a k x leaves skips here
+    alone_step f known mark a k x leaves skips here = by (is_dead a (live k (ways_of x))) refl
+      where
+        by : (b : Bool) → is_dead a (live k (ways_of x)) ≡ b
+            → BlockDone f known (if b then [] else needed_code plan variables f (need_of plan.memory known a k) a (live k (ways_of x)) (jump_over short leaves) (jump_over short skips)) Settled mark x leaves skips here a k Settled
+        by true e = dead_step f known mark a k x leaves skips here e
+        by false e = needed_step f known mark a k x leaves skips here
 
     step_done : (f : ℕ) (known : Facts) (standing : Standing) (mark : Mark) (a : Action) (k : Actions) (x : Exits) (leaves skips here : ℕ) → StepDone f known (need_of plan.memory known a k) standing mark x leaves skips here a k (standing_behind a k (ways_of x))
     step_done f known Settled mark a k x leaves skips here =
@@ -251,7 +297,8 @@ module _ (s : Setting) (plan : Plan) (variables : ℕ → ℕ) (fine : Fits s pl
         a k
     step_done f known (Late t y) mark a k x leaves skips here = λ suits.
         subst (λ (standing : Standing). StepDone f known (need_of plan.memory known a k) (Late t y) mark x leaves skips here a k standing) (sym suits.1)
-        (passed_on (λ (b : Action). StepDone f known (need_of plan.memory known a k) (Late t y) mark x leaves skips here b k Settled) t y a suits.0 (λ d. late_step f t known (need_of plan.memory known a k) y d mark k x leaves skips here suits.2) (λ last. sent_step f t known (need_of plan.memory known a k) y mark k x leaves skips here suits.2 last)) suits
+        (passed_on (λ (b : Action). StepDone f known (need_of plan.memory known a k) (Late t y) mark x leaves skips here b k Settled) t y a suits.0 (λ d. late_step f t known (need_of plan.memory known a k) y d mark k x leaves skips here suits.2) (λ last. sent_step f t known (need_of plan.memory known a k) y mark k x leaves skips here suits.2 last)
+        (λ adds. reached_step f t known (need_of plan.memory known a k) y mark k x leaves skips here suits.2 adds)) suits
     step_done f known (Early v y) mark a k x leaves skips here = λ suits.
         subst (λ (standing : Standing). StepDone f known (need_of plan.memory known a k) (Early v y) mark x leaves skips here a k standing) (sym suits.1)
         (subst (λ (b : Action). StepDone f known (need_of plan.memory known a k) (Early v y) mark x leaves skips here b k Settled) (sym suits.0) (early_step f v known (need_of plan.memory known a k) y mark k x leaves skips here)) suits
@@ -340,7 +387,7 @@ module _ (s : Setting) (plan : Plan) (variables : ℕ → ℕ) (fine : Fits s pl
     -- that the code of a list does it, wherever it stands
     abbrev CodeIs : ℕ → Facts → Actions → Type 0
     CodeIs f known code =
-        (x : Exits) (leaves skips here : ℕ) → AreSettled x → Each (IsWanted plan s.copies entries) IsWantedBranch code → AllByRecursion (IsRight (plan.home f) (variables f)) (lives code (ways_of x)) →
+        (x : Exits) (leaves skips here : ℕ) → AreSettled x → Each (IsWanted plan s.copies entries (plan.leaf f)) IsWantedBranch code → AllByRecursion (IsRight (plan.home f) (variables f)) (lives code (ways_of x)) →
         CodeAt s.code here (code_of short plan variables f Settled known code (ways_of x) leaves skips) → lo ≤ here → here + length (code_of short plan variables f Settled known code (ways_of x) leaves skips) ≤ hi →
         here + length (code_of short plan variables f Settled known code (ways_of x) leaves skips) + leaves ≡ x.leaves.word → here + length (code_of short plan variables f Settled known code (ways_of x) leaves skips) + skips ≡ x.skips.word → x.leaves.word ≤ hi → x.skips.word ≤ hi →
         Leads s plan program entries most widest f (exit (here + length (code_of short plan variables f Settled known code (ways_of x) leaves skips)) x.next.live) x.next → CodeDone s plan program entries most widest f known code (exit here (live code (ways_of x))) x
@@ -364,7 +411,7 @@ module _ (s : Setting) (plan : Plan) (variables : ℕ → ℕ) (fine : Fits s pl
     back_here f false here e = absurd cc
 
     -- a loop whose turn ends with a jump back
-    top_done : (f : ℕ) (known : Facts) (mark : Mark) (body step k : Actions) (x : Exits) (leaves skips here : ℕ) → CodeIs f (facts_at_turn plan.memory body step known) body → CodeIs f (facts_at_step plan.memory body step known) step → CodeIs f (facts_past_loop body step known) k → AreSettled x → Each (IsWanted plan s.copies entries) IsWantedBranch (Loop mark body step k) → AllByRecursion (IsRight (plan.home f) (variables f)) (lives (Loop mark body step k) (ways_of x)) →
+    top_done : (f : ℕ) (known : Facts) (mark : Mark) (body step k : Actions) (x : Exits) (leaves skips here : ℕ) → CodeIs f (facts_at_turn plan.memory body step known) body → CodeIs f (facts_at_step plan.memory body step known) step → CodeIs f (facts_past_loop body step known) k → AreSettled x → Each (IsWanted plan s.copies entries (plan.leaf f)) IsWantedBranch (Loop mark body step k) → AllByRecursion (IsRight (plan.home f) (variables f)) (lives (Loop mark body step k) (ways_of x)) →
         lo ≤ here → x.leaves.word ≤ hi → x.skips.word ≤ hi → Put f (loop_code short (code_of short plan variables f Settled (facts_at_turn plan.memory body step known) body (body_ways body step (live k (ways_of x)))) (code_of short plan variables f Settled (facts_at_step plan.memory body step known) step (step_ways body step (live k (ways_of x))) (jump_words short) 0) (code_of short plan variables f Settled (facts_past_loop body step known) k (ways_of x) leaves skips)) x leaves skips here →
         CodeDone s plan program entries most widest f known (Loop mark body step k) (exit here (live (Loop mark body step k) (ways_of x))) x
     top_done f known mark body step k x leaves skips here in_body in_step in_rest settled wanted apart low near close put =
@@ -414,7 +461,7 @@ module _ (s : Setting) (plan : Plan) (variables : ℕ → ℕ) (fine : Fits s pl
     breaks_done f known code x here is settled there ends = absurd cc
 
     -- a loop whose test stands behind its step
-    bottom_done : (f : ℕ) (known : Facts) (mark m : Mark) (b : Branch) (p q t step k : Actions) (x : Exits) (leaves skips here : ℕ) → leaves_first (If m b p q t) ≡ true → CodeIs f (facts_past_if b p q (facts_at_turn plan.memory (If m b p q t) step known)) t → CodeIs f (facts_at_step plan.memory (If m b p q t) step known) step → CodeIs f (facts_past_loop (If m b p q t) step known) k → AreSettled x → Each (IsWanted plan s.copies entries) IsWantedBranch (Loop mark (If m b p q t) step k) → AllByRecursion (IsRight (plan.home f) (variables f)) (lives (Loop mark (If m b p q t) step k) (ways_of x)) →
+    bottom_done : (f : ℕ) (known : Facts) (mark m : Mark) (b : Branch) (p q t step k : Actions) (x : Exits) (leaves skips here : ℕ) → leaves_first (If m b p q t) ≡ true → CodeIs f (facts_past_if b p q (facts_at_turn plan.memory (If m b p q t) step known)) t → CodeIs f (facts_at_step plan.memory (If m b p q t) step known) step → CodeIs f (facts_past_loop (If m b p q t) step known) k → AreSettled x → Each (IsWanted plan s.copies entries (plan.leaf f)) IsWantedBranch (Loop mark (If m b p q t) step k) → AllByRecursion (IsRight (plan.home f) (variables f)) (lives (Loop mark (If m b p q t) step k) (ways_of x)) →
         lo ≤ here → x.leaves.word ≤ hi → x.skips.word ≤ hi → Put f (bottom_code short (tail_of short plan variables f (facts_at_turn plan.memory (If m b p q t) step known) (If m b p q t) (body_ways (If m b p q t) step (live k (ways_of x)))) (code_of short plan variables f Settled (facts_at_step plan.memory (If m b p q t) step known) step (step_ways (If m b p q t) step (live k (ways_of x)))) (bottom_test (plan.home f) (If m b p q t)) (code_of short plan variables f Settled (facts_past_loop (If m b p q t) step known) k (ways_of x) leaves skips)) x leaves skips here →
         CodeDone s plan program entries most widest f known (Loop mark (If m b p q t) step k) (exit here (live (Loop mark (If m b p q t) step k) (ways_of x))) x
     bottom_done f known mark m b p q t step k x leaves skips here is in_tail in_step in_rest settled wanted apart low near close put =
@@ -476,7 +523,7 @@ module _ (s : Setting) (plan : Plan) (variables : ℕ → ℕ) (fine : Fits s pl
               (subst (λ (j : ℕ). Leads s plan program entries most widest f (exit j x.next.live) x.next) (sym done) ends),
         )
 
-    pub code_done : (f : ℕ) (standing : Standing) (known : Facts) (code : Actions) (x : Exits) (leaves skips here : ℕ) → Suits standing code (ways_of x) → AreLateNumbers standing → AreSettled x → Each (IsWanted plan s.copies entries) IsWantedBranch code → AllByRecursion (IsRight (plan.home f) (variables f)) (lives code (ways_of x)) →
+    pub code_done : (f : ℕ) (standing : Standing) (known : Facts) (code : Actions) (x : Exits) (leaves skips here : ℕ) → Suits standing code (ways_of x) → AreLateNumbers standing → AreSettled x → Each (IsWanted plan s.copies entries (plan.leaf f)) IsWantedBranch code → AllByRecursion (IsRight (plan.home f) (variables f)) (lives code (ways_of x)) →
         CodeAt s.code here (code_of short plan variables f standing known code (ways_of x) leaves skips) → lo ≤ here → here + length (code_of short plan variables f standing known code (ways_of x) leaves skips) ≤ hi →
         here + length (code_of short plan variables f standing known code (ways_of x) leaves skips) + leaves ≡ x.leaves.word → here + length (code_of short plan variables f standing known code (ways_of x) leaves skips) + skips ≡ x.skips.word → x.leaves.word ≤ hi → x.skips.word ≤ hi →
         Leads s plan program entries most widest f (exit (here + length (code_of short plan variables f standing known code (ways_of x) leaves skips)) x.next.live) x.next → CodeDone s plan program entries most widest f known code (entered_at standing code (ways_of x) here) x

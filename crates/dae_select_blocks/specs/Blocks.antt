@@ -1,7 +1,7 @@
 -- The block of each action. Registers: x1 the address to return to, x2 where the private frame begins, x3 where the frame
 -- in common memory does, x5, x6 and x7 for the work of one block, x6 also for a call's result. On A x4 is how many addresses
--- common memory has, and x10 the depth. On E x10 and x17 are for the environment call. A number that stays in a register is read
--- there.
+-- common memory has, and x10 the depth as it is counted. On E x10 and x17 are for the environment call. A number that stays in
+-- a register is read there.
 use Rattle.std.specs.Prelude.{ℕ, ◌+◌, ◌-◌, ◌*◌, ◌/◌, ◌%◌, ◌^◌, ℤ, pos, negsuc, Bool, true, false, not, ◌&&◌, nat_lt, nat_eq, if◌then◌else◌, List, [], ◌∷◌, ◌++◌, Option, Some, None, is_some, zero, suc}
 use Rattle.dae_base.specs.Words.{signed, size, minus}
 use Rattle.dae_base.specs.declared.Width.{Width}
@@ -24,10 +24,12 @@ use Rattle.dae_meaning.specs.declared.Spelling.TheVariants.{Byte, Signed, Unsign
 use Rattle.dae_ir.specs.declared.form.Check.{Check}
 use Rattle.dae_ir.specs.declared.form.Check.TheVariants.{Place, Zero, Room, Frame, Abort}
 use Rattle.dae_ir.specs.declared.stream.Argument.{Argument}
+use Rattle.dae_ir.specs.declared.stream.Failure.{Failure}
+use Rattle.dae_ir.specs.Deeds.{failure_code}
 use Rattle.dae_select_walks.specs.declared.Home.{Home}
 use Rattle.dae_select_walks.specs.declared.Home.TheVariants.{Register, Slot}
 use Rattle.dae_select_walks.specs.Homes.{kept_at, slot_at, number_key, resident_register}
-use Rattle.dae_select_walks.specs.Agrees.{Plan}
+use Rattle.dae_select_walks.specs.Agrees.{Plan, counted_depth}
 
 -- ---- a word as the immediates of LUI and of the instruction after it: the second is signed, of twelve bits
 
@@ -294,7 +296,7 @@ place_code home width x = fetch home 5 x ++ (align_code width (source home 5 x) 
 abbrev pub zero_code : Bool → (ℕ → Home) → Operand → List Inst
 zero_code by_a home x = fetch home 5 x ++ Bne (source home 5 x) 0 (over by_a) ∷ fail_code by_a 1
 
--- the depth in x10 must be below the limit
+-- the depth that is counted in x10 must be below the limit
 abbrev pub depth_code : ℕ → List Inst
 depth_code limit = number_code 6 limit ++ Bltu 10 6 (pos 12) ∷ fail_code true 4
 
@@ -313,23 +315,28 @@ frame_room_code memory own = if nat_lt memory own then fail_code true 4 else roo
 abbrev pub check_code : Plan → ℕ → Check → List Inst
 check_code plan f (Place width x) = place_code (plan.home f) width x
 check_code plan f (Zero x) = zero_code plan.by_a (plan.home f) x
-check_code plan f (Room g) = call_room_code plan.memory plan.limit (plan.frame f) (plan.frame g)
+check_code plan f (Room g) = call_room_code plan.memory (counted_depth plan f plan.limit) (plan.frame f) (plan.frame g)
 check_code plan f Frame = frame_room_code plan.memory (plan.frame f)
 check_code plan f Abort = fail_code true 5
 
--- ---- accesses
+-- ---- accesses, at the sum of a register and an offset
 
-abbrev pub issue_code : LoadKind → ℕ → ℕ → Inst
-issue_code I8 queue base = Lb queue base (pos 0)
-issue_code U8 queue base = Lbu queue base (pos 0)
-issue_code I16 queue base = Lh queue base (pos 0)
-issue_code U16 queue base = Lhu queue base (pos 0)
-issue_code I32 queue base = Lw queue base (pos 0)
+abbrev pub issue_code : LoadKind → ℕ → ℕ → ℤ → Inst
+issue_code I8 queue base offset = Lb queue base offset
+issue_code U8 queue base offset = Lbu queue base offset
+issue_code I16 queue base offset = Lh queue base offset
+issue_code U16 queue base offset = Lhu queue base offset
+issue_code I32 queue base offset = Lw queue base offset
 
-abbrev pub address_code : Width → ℕ → Inst
-address_code B1 base = Sb base 30 (pos 0)
-address_code B2 base = Sh base 30 (pos 0)
-address_code B4 base = Sw base 30 (pos 0)
+abbrev pub address_code : Width → ℕ → ℤ → Inst
+address_code B1 base offset = Sb base 30 offset
+address_code B2 base offset = Sh base 30 offset
+address_code B4 base offset = Sw base 30 offset
+
+-- an access that adds the number of a sum to the other operand, and then this
+abbrev pub reach_code : (ℕ → Home) → Value → (ℕ → ℤ → Inst) → List Inst → List Inst
+reach_code home (Binary operator x (Number n)) access rest = fetch home 5 x ++ access (source home 5 x) (lower n) ∷ rest
+reach_code home value access rest = []
 
 -- what is at the front of a queue goes home
 abbrev pub take_code : ℕ → Home → List Inst
@@ -337,7 +344,7 @@ take_code queue home = Addi (register_or 5 home) queue (pos 0) ∷ keep home
 
 -- A reserves a slot of its own loads, and takes it into a variable
 abbrev pub own_code : (ℕ → Home) → ℕ → LoadKind → Operand → List Inst
-own_code home v kind x = fetch home 5 x ++ issue_code kind 31 (source home 5 x) ∷ take_code 31 (home v)
+own_code home v kind x = fetch home 5 x ++ issue_code kind 31 (source home 5 x) (pos 0) ∷ take_code 31 (home v)
 
 abbrev pub call_number : Spelling → ℕ
 call_number Byte = 1
@@ -348,9 +355,12 @@ call_number Hexadecimal = 4
 abbrev pub system_code : (ℕ → Home) → ℕ → Operand → List Inst
 system_code home n x = move_code home 10 x ++ Addi 17 0 (pos n) ∷ (Ecall ∷ [])
 
-abbrev pub hear_code : Bool → List Inst
-hear_code true = Addi 5 29 (pos 0) ∷ (Beq 5 0 (pos 8) ∷ (Ecall ∷ []))
-hear_code false = Addi 10 29 (pos 0) ∷ (Beq 10 0 (pos 12) ∷ (Addi 17 0 (pos 5) ∷ (Ecall ∷ [])))
+-- a message is taken. Where it needn't be kept a branch takes it: A halts without a code, and E knows the code where the checks can
+-- fail in one way alone
+abbrev pub hear_code : Bool → Option Failure → List Inst
+hear_code true only = Beq 29 0 (pos 8) ∷ (Ecall ∷ [])
+hear_code false None = Addi 10 29 (pos 0) ∷ (Beq 10 0 (pos 12) ∷ (Addi 17 0 (pos 5) ∷ (Ecall ∷ [])))
+hear_code false (Some failure) = Beq 29 0 (pos 16) ∷ (Addi 10 0 (pos (failure_code failure)) ∷ (Addi 17 0 (pos 5) ∷ (Ecall ∷ [])))
 
 abbrev pub stop_code : Bool → (ℕ → Home) → Option Operand → List Inst
 stop_code true home x = Ecall ∷ []
@@ -380,8 +390,15 @@ abbrev pub jump_back : Bool → ℕ → List Inst
 jump_back true n = Jal 0 (near_offset ((2 ^ 32 - 4 * n % 2 ^ 32) % 2 ^ 32)) ∷ []
 jump_back false n = jump_by ((2 ^ 32 - 4 * n % 2 ^ 32) % 2 ^ 32)
 
-abbrev pub enter_code : ℕ → List Inst
-enter_code word = Lui 5 (upper (4 * word)) ∷ (Jalr 1 5 (lower (4 * word)) ∷ [])
+-- the words of the way into a function: JALR alone where the immediate reaches the word at which it is entered, and else LUI and
+-- JALR
+abbrev pub enter_words : Bool → ℕ
+enter_words true = 1
+enter_words false = 2
+
+abbrev pub enter_code : Bool → ℕ → List Inst
+enter_code true word = Jalr 1 0 (lower (4 * word)) ∷ []
+enter_code false word = Lui 5 (upper (4 * word)) ∷ (Jalr 1 5 (lower (4 * word)) ∷ [])
 
 -- ---- branches
 
@@ -466,17 +483,28 @@ less_code r n =
 
 -- the frames of the function that is called follow the caller's
 abbrev pub deeper_code : Plan → ℕ → List Inst
-deeper_code plan f =
-    more_code 3 (plan.frame f % 2 ^ 32) ++ (more_code 2 (4 * plan.words f) ++ (if plan.by_a then Addi 10 10 (pos 1) ∷ [] else []))
+deeper_code plan f = more_code 3 (plan.frame f % 2 ^ 32) ++ more_code 2 (4 * plan.words f)
 
 abbrev pub back_code : Plan → ℕ → List Inst
-back_code plan f =
-    less_code 3 (plan.frame f % 2 ^ 32) ++ (less_code 2 (4 * plan.words f) ++ (if plan.by_a then Addi 10 10 (negsuc 0) ∷ [] else []))
+back_code plan f = less_code 3 (plan.frame f % 2 ^ 32) ++ less_code 2 (4 * plan.words f)
 
 abbrev pub result_code : (ℕ → Home) → Option ℕ → List Inst
 result_code home None = []
 result_code home (Some v) = Addi (register_or 5 (home v)) 6 (pos 0) ∷ keep (home v)
 
-abbrev pub leave_code : (ℕ → Home) → Option Operand → List Inst
-leave_code home None = Lw 1 2 (pos 0) ∷ (Jalr 0 1 (pos 0) ∷ [])
-leave_code home (Some x) = move_code home 6 x ++ Lw 1 2 (pos 0) ∷ (Jalr 0 1 (pos 0) ∷ [])
+-- A counts so much more
+abbrev pub count_code : Bool → ℤ → List Inst
+count_code by_a more = if by_a then Addi 10 10 more ∷ [] else []
+
+-- the address to return to goes into the first word of the frame, and A counts the function, but a leaf, whose address stays in
+-- x1
+abbrev pub prologue_code : Bool → Bool → List Inst
+prologue_code by_a leaf = if leaf then [] else Sw 2 1 (pos 0) ∷ count_code by_a (pos 1)
+
+-- and the address comes from there into x1
+abbrev pub epilogue_code : Bool → Bool → List Inst
+epilogue_code by_a leaf = if leaf then [] else Lw 1 2 (pos 0) ∷ count_code by_a (negsuc 0)
+
+abbrev pub leave_code : Bool → Bool → (ℕ → Home) → Option Operand → List Inst
+leave_code by_a leaf home None = epilogue_code by_a leaf ++ Jalr 0 1 (pos 0) ∷ []
+leave_code by_a leaf home (Some x) = move_code home 6 x ++ (epilogue_code by_a leaf ++ Jalr 0 1 (pos 0) ∷ [])

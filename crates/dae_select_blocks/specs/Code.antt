@@ -2,7 +2,7 @@
 -- code of a list stands anywhere, and depends only on the words at which functions are entered.
 use Rattle.std.specs.Prelude.{ℕ, zero, suc, ◌+◌, ◌-◌, Bool, true, false, not, ◌&&◌, ◌||◌, nat_eq, nat_lt, List, [], ◌∷◌, ◌++◌, length, Option, Some, pos, if◌then◌else◌, None}
 use Rattle.dae_encode.specs.declared.Inst.{Inst}
-use Rattle.dae_encode.specs.declared.Inst.TheVariants.{Sw, Addi, Ecall}
+use Rattle.dae_encode.specs.declared.Inst.TheVariants.{Addi, Ecall}
 use Rattle.dae_ir.specs.Code.{Done, Do, If, Loop}
 use Rattle.dae_ir.specs.Classes.{VariableSet}
 use Rattle.dae_ir.specs.Streams.{Actions}
@@ -16,6 +16,7 @@ use Rattle.dae_ir.specs.declared.stream.Action.{Action}
 use Rattle.dae_ir.specs.declared.stream.Action.TheVariants.{Set as Compute, Issue, Own, Receive, Address, Datum, Offer, Accept, Emit, Probe, Tell, Hear, Stop, Break, Continue, Call, Return}
 use Rattle.dae_ir.specs.declared.stream.Branch.{Branch}
 use Rattle.dae_ir.specs.declared.stream.Branch.TheVariants.{Silent, Tells, Hears}
+use Rattle.dae_meaning.specs.declared.Operator.TheVariants.{Add as Plus}
 use Rattle.dae_meaning.specs.declared.Comparison.{Comparison}
 use Rattle.dae_meaning.specs.declared.Comparison.TheVariants.{NotEqual}
 use Rattle.dae_select_walks.specs.declared.Home.{Home}
@@ -28,7 +29,7 @@ use Rattle.dae_select_walks.specs.Agrees.{Plan}
 use Rattle.dae_select_walks.specs.Compiled.{is_told}
 use Rattle.dae_select_walks.specs.declared.Standing.{Standing}
 use Rattle.dae_select_walks.specs.declared.Standing.TheVariants.{Settled, Early, Late}
-use Rattle.dae_select_blocks.specs.Blocks.{number_code, register_or, source, fetch, keep, value_code, issue_code, address_code, take_code, own_code, move_code, call_number, system_code, hear_code, stop_code, check_code, bounds_code, residents_code, test_code, jump_over, jump_back, enter_code, goes_back, arguments_code, is_register, save_code, restore_code, deeper_code, back_code, result_code, leave_code, jump_words, one_way, goes_code, tell_number_code, against_zero, immediate_of}
+use Rattle.dae_select_blocks.specs.Blocks.{number_code, register_or, source, fetch, keep, value_code, issue_code, address_code, take_code, own_code, move_code, call_number, system_code, hear_code, stop_code, check_code, bounds_code, residents_code, test_code, jump_over, jump_back, enter_code, goes_back, arguments_code, is_register, save_code, restore_code, deeper_code, back_code, result_code, prologue_code, leave_code, jump_words, one_way, goes_code, tell_number_code, against_zero, immediate_of, is_immediate, reach_code}
 use Rattle.dae_select_blocks.specs.Sizes.{most_words_in, is_short}
 
 -- ---- the registers that a call keeps
@@ -53,29 +54,29 @@ registers_in home variables live = filtered (λ r. some_below variables (λ v. l
 
 abbrev pub call_code : Plan → (ℕ → ℕ) → ℕ → Option ℕ → ℕ → List Argument → VariableSet → List Inst
 call_code plan variables f v g xs live =
-    arguments_code plan f g xs ++ (save_code (registers_in (plan.home f) (variables f) live) ++ (deeper_code plan f ++ (enter_code (plan.entry g)
+    arguments_code plan f g xs ++ (save_code (registers_in (plan.home f) (variables f) live) ++ (deeper_code plan f ++ (enter_code plan.near (plan.entry g)
     ++ (back_code plan f ++ (restore_code (registers_in (plan.home f) (variables f) live) ++ result_code (plan.home f) v)))))
 
 -- the block of an action in the function f, behind which these variables are live, with the jumps to where a Break goes and a
 -- Continue
 abbrev pub action_code : Plan → (ℕ → ℕ) → ℕ → Action → VariableSet → List Inst → List Inst → List Inst
 action_code plan variables f (Compute v x) live leaves skips = value_code (plan.home f) (register_or 5 (plan.home f v)) x ++ keep (plan.home f v)
-action_code plan variables f (Issue kind x) live leaves skips = fetch (plan.home f) 5 x ++ issue_code kind 30 (source (plan.home f) 5 x) ∷ []
+action_code plan variables f (Issue kind x) live leaves skips = fetch (plan.home f) 5 x ++ issue_code kind 30 (source (plan.home f) 5 x) (pos 0) ∷ []
 action_code plan variables f (Own v kind x) live leaves skips = own_code (plan.home f) v kind x
 action_code plan variables f (Receive v) live leaves skips = take_code 30 (plan.home f v)
-action_code plan variables f (Address width x) live leaves skips = fetch (plan.home f) 5 x ++ address_code width (source (plan.home f) 5 x) ∷ []
+action_code plan variables f (Address width x) live leaves skips = fetch (plan.home f) 5 x ++ address_code width (source (plan.home f) 5 x) (pos 0) ∷ []
 action_code plan variables f (Datum x) live leaves skips = move_code (plan.home f) 30 x
 action_code plan variables f (Offer v) live leaves skips = move_code (plan.home f) 28 (Variable v)
 action_code plan variables f (Accept v) live leaves skips = take_code 28 (plan.home f v)
 action_code plan variables f (Emit spelling x) live leaves skips = system_code (plan.home f) (call_number spelling) x
 action_code plan variables f (Probe check) live leaves skips = check_code plan f check
 action_code plan variables f (Tell x) live leaves skips = move_code (plan.home f) 29 x
-action_code plan variables f Hear live leaves skips = hear_code plan.by_a
+action_code plan variables f (Hear only) live leaves skips = hear_code plan.by_a only
 action_code plan variables f (Stop x) live leaves skips = stop_code plan.by_a (plan.home f) x
 action_code plan variables f Break live leaves skips = leaves
 action_code plan variables f Continue live leaves skips = skips
 action_code plan variables f (Call v g xs) live leaves skips = call_code plan variables f v g xs (λ u. live u && not (is v u))
-action_code plan variables f (Return x) live leaves skips = leave_code (plan.home f) x
+action_code plan variables f (Return x) live leaves skips = leave_code plan.by_a (plan.leaf f) (plan.home f) x
 
 -- a test is told, and a branch follows: on its operands, which are still in their registers, or else on x7
 abbrev pub told_by : Option ℕ → (ℕ → Home) → (Comparison → ℕ → ℕ → List Inst) → Test → Bool → List Inst
@@ -122,10 +123,19 @@ written_last (Binary operator x y) = true
 written_last (Holds test) = false
 written_last (FrameAddress offset) = true
 
--- the action only moves the variable, which has this value, to where the value can be computed
+-- the sum of a variable and a number that an access can add to it
+abbrev pub is_offset_sum : Value → Bool
+is_offset_sum (Binary Plus (Variable v) (Number n)) = is_immediate n
+is_offset_sum x = false
+
+-- the action only moves the variable, which has this value, to where the value can be computed, or accesses memory there and can add
+-- the value up itself
 abbrev pub passes_on : ℕ → Value → Action → Bool
 passes_on t x (Compute s (Same (Variable u))) = nat_eq u t
 passes_on t x (Datum (Variable u)) = nat_eq u t && written_last x
+passes_on t x (Issue kind (Variable u)) = nat_eq u t && is_offset_sum x
+passes_on t x (Own v kind (Variable u)) = nat_eq u t && is_offset_sum x
+passes_on t x (Address width (Variable u)) = nat_eq u t && is_offset_sum x
 passes_on t x action = false
 
 -- the value reads the variable just once
@@ -159,10 +169,13 @@ abbrev pub standing_behind : Action → Actions → Ways → Standing
 standing_behind a (Do m b k) x = if_settled (standing_behind b k x) (pair_standing a b (live k x))
 standing_behind a code x = Settled
 
--- the block of an action that moves a variable on, where this value is computed in its stead
+-- the block of an action that moves a variable on, where this value is computed in its stead, or that accesses memory there
 abbrev pub late_code : (ℕ → Home) → Action → Value → List Inst
 late_code home (Compute s y) x = value_code home (register_or 5 (home s)) x ++ keep (home s)
 late_code home (Datum y) x = value_code home 30 x
+late_code home (Issue kind y) x = reach_code home x (issue_code kind 30) []
+late_code home (Own v kind y) x = reach_code home x (issue_code kind 31) (take_code 31 (home v))
+late_code home (Address width y) x = reach_code home x (address_code width) []
 late_code home action x = []
 
 -- the homes, but for this variable
@@ -184,19 +197,26 @@ abbrev pub placed_code : (ℕ → Home) → Action → List Inst
 placed_code home (Probe (Place width x)) = fetch home 5 x ++ bounds_code width (source home 5 x)
 placed_code home a = []
 
+-- the action only computes a variable that isn't live behind it
+abbrev pub is_dead : Action → VariableSet → Bool
+is_dead (Compute v x) live = not (live v)
+is_dead action live = false
+
 -- the block of an action alone, of which so much is needed
 abbrev pub needed_code : Plan → (ℕ → ℕ) → ℕ → Need → Action → VariableSet → List Inst → List Inst → List Inst
 needed_code plan variables f All a live leaves skips = action_code plan variables f a live leaves skips
 needed_code plan variables f Ends a live leaves skips = placed_code (plan.home f) a
 needed_code plan variables f Nothing a live leaves skips = []
 
--- the block of an action, where things stand so before it and so behind it, and so much of it is needed
+-- the block of an action, where things stand so before it and so behind it, and so much of it is needed. What computes a variable that
+-- isn't live has none
 abbrev pub block_code : Plan → (ℕ → ℕ) → ℕ → Need → Standing → Action → Standing → VariableSet → List Inst → List Inst → List Inst
 block_code plan variables f need (Late t x) a standing live leaves skips = late_code (plan.home f) a x
 block_code plan variables f need (Early v x) a standing live leaves skips = []
 block_code plan variables f need Settled a (Late t x) live leaves skips = []
 block_code plan variables f need Settled a (Early d x) live leaves skips = taking_code (plan.home f) a d x
-block_code plan variables f need Settled a Settled live leaves skips = needed_code plan variables f need a live leaves skips
+block_code plan variables f need Settled a Settled live leaves skips =
+    if is_dead a live then [] else needed_code plan variables f need a live leaves skips
 
 -- ---- structured code
 
@@ -284,23 +304,24 @@ abbrev mutual
 
 -- ---- functions
 
--- a function keeps the address to return to, and gets the parameters that it reads into their registers. Behind its end it
--- returns 0
+-- a function keeps the address to return to and counts itself, unless it is a leaf, and gets the parameters that it reads into
+-- their registers
 abbrev pub entry_code : Plan → (ℕ → ℕ) → ℕ → VariableSet → List Inst
-entry_code plan variables f live = Sw 2 1 (pos 0) ∷ restore_code (registers_in (plan.home f) (variables f) live)
+entry_code plan variables f live = prologue_code plan.by_a (plan.leaf f) ++ restore_code (registers_in (plan.home f) (variables f) live)
 
+-- its actions return or halt, so nothing stands behind them
 abbrev pub function_code : Plan → (ℕ → ℕ) → ℕ → Actions → List Inst
 function_code plan variables f code =
-    entry_code plan variables f (live code nowhere) ++ (code_of (is_short code) plan variables f Settled unknown code nowhere 0 0 ++ leave_code (plan.home f) (Some (Number 0)))
+    entry_code plan variables f (live code nowhere) ++ code_of (is_short code) plan variables f Settled unknown code nowhere 0 0
 
 -- where main returns to: A halts, and E halts with the result
 abbrev pub finish_code : Bool → List Inst
 finish_code true = Ecall ∷ []
 finish_code false = Addi 10 6 (pos 0) ∷ (Addi 17 0 (pos 0) ∷ (Ecall ∷ []))
 
--- the code that begins: where frames begin, the numbers that stay in registers, on A how many addresses common memory has and
--- that main stands at depth 1, and the call of main
+-- the code that begins: where frames begin, the numbers that stay in registers, on A how many addresses common memory has, and
+-- the call of main
 abbrev pub start_code : Plan → ℕ → ℕ → List Inst
 start_code plan main first =
-    (number_code 3 first ++ (residents_code 27 plan.residents ++ (if plan.by_a then number_code 4 (plan.memory - 16) ++ Addi 10 0 (pos 1) ∷ [] else [])))
-    ++ enter_code (plan.entry main)
+    (number_code 3 first ++ (residents_code 27 plan.residents ++ (if plan.by_a then number_code 4 (plan.memory - 16) else [])))
+    ++ enter_code plan.near (plan.entry main)

@@ -1,12 +1,10 @@
 -- What is proved of the code of a stream's functions.
-use Rattle.std.specs.Prelude.{◌≡◌, ℕ, ◌+◌, ◌*◌, ◌≤◌, ◌<◌, ◌^◌, false, [], ◌++◌, length, replicate, Some, None}
+use Rattle.std.specs.Prelude.{◌≡◌, ℕ, ◌+◌, ◌*◌, ◌≤◌, ◌<◌, ◌^◌, false, [], ◌++◌, length, replicate, None}
 use Rattle.std.specs.List.{AllByRecursion}
 use Rattle.dae_ir.specs.Code.{Each}
 use Rattle.dae_ir.specs.Classes.{VariableSet}
 use Rattle.dae_ir.specs.Form.{Program}
 use Rattle.dae_ir.specs.Streams.{Actions}
-use Rattle.dae_ir.specs.declared.form.Operand.TheVariants.{Number}
-use Rattle.dae_ir.specs.declared.stream.Action.TheVariants.{Return}
 use Rattle.dae_encode.specs.Processor.{Processor}
 use Rattle.dae_encode.specs.Spelling.{InRange}
 use Rattle.dae_select_walks.specs.Homes.{IsHome}
@@ -16,19 +14,18 @@ use Rattle.dae_select_walks.specs.Live.{nowhere, none, live, lives}
 use Rattle.dae_select_walks.specs.Facts.{unknown}
 use Rattle.dae_select_walks.specs.Agrees.{Plan, Stands as Stands'}
 use Rattle.dae_select_walks.specs.declared.Standing.TheVariants.{Settled}
-use Rattle.dae_select_walks.specs.Compiled.{exit, exits, ActionDone, CodeDone}
-use Rattle.dae_select_blocks.specs.Blocks.{leave_code}
+use Rattle.dae_select_walks.specs.Compiled.{exit, exits, CodeDone}
 use Rattle.dae_select_blocks.specs.Code.{code_of, function_code, start_code, finish_code}
 use Rattle.dae_select_blocks.specs.Sizes.{is_short}
 use Rattle.dae_select_blocks.specs.Fits.{Fits}
 use Rattle.dae_select_blocks.specs.Wanted.{IsWanted, IsWantedBranch, IsPlanOf, IsLinked, IsRight}
 
--- the code of a function's actions, with a return of 0 behind it, stands where the function starts
+-- the code of a function's actions stands where the function starts
 pub record Stands (s : Setting) (plan : Plan) (variables : ℕ → ℕ) (entries : ℕ → VariableSet) (f : ℕ) (code : Actions) : Type 0 where
-  pub wanted : Each (IsWanted plan s.copies entries) IsWantedBranch code
+  pub wanted : Each (IsWanted plan s.copies entries (plan.leaf f)) IsWantedBranch code
   pub right : AllByRecursion (IsRight (plan.home f) (variables f)) (lives code nowhere)
-  pub there : CodeAt s.code (plan.start f) (code_of (is_short code) plan variables f Settled unknown code nowhere 0 0 ++ leave_code (plan.home f) (Some (Number 0)))
-  pub small : plan.start f + length (code_of (is_short code) plan variables f Settled unknown code nowhere 0 0 ++ leave_code (plan.home f) (Some (Number 0))) < 2 ^ 29
+  pub there : CodeAt s.code (plan.start f) (code_of (is_short code) plan variables f Settled unknown code nowhere 0 0)
+  pub small : plan.start f + length (code_of (is_short code) plan variables f Settled unknown code nowhere 0 0) < 2 ^ 29
 
 -- then it does them, action by action, in at most 14 instructions an action, 46 a call and 6 more an argument
 abbrev pub CodeDoes : Type 0
@@ -36,7 +33,6 @@ CodeDoes =
     (s : Setting) (plan : Plan) (variables : ℕ → ℕ) (program : Program) (entries : ℕ → VariableSet) → Fits s plan variables → IsPlanOf program plan → IsLinked s plan variables entries
     → (f : ℕ) (code : Actions) → Stands s plan variables entries f code
     → (end : ℕ) × CodeDone s plan program entries 14 46 f unknown code (exit (plan.start f) (live code nowhere)) (exits (exit end none) (exit end none) (exit end none))
-    × ActionDone s plan program entries 14 46 f unknown (Return (Some (Number 0))) (exit end none) (exit end none) (exits (exit end none) (exit end none) (exit end none))
 
 -- with homes in their ranges the code of a function is of instructions that have words
 abbrev pub CodeInRange : Type 0

@@ -16,6 +16,10 @@ calls_in code = tally one_call (λ b. 0) code
 abbrev pub most_words_in : Actions → ℕ
 most_words_in code = 14 * actions_size code + 42 * calls_in code
 
+-- a function whose code makes no call is a leaf
+abbrev pub is_leaf : Actions → Bool
+is_leaf code = nat_lt (calls_in code) 1
+
 -- code so short that JAL reaches from anywhere in it to anywhere
 abbrev pub is_short : Actions → Bool
 is_short code = nat_lt (most_words_in code) (2 ^ 17)

@@ -58,26 +58,26 @@ abbrev pub gives : List Argument → VariableSet
 gives [] u = false
 gives (x ∷ xs) u = nat_eq u x.parameter || gives xs u
 
--- a call is of a function that is there, gives an argument for each variable that the function reads at its entry, and its parameters have homes of their
--- own
-abbrev pub IsWanted : Plan → Bool → (ℕ → VariableSet) → Action → Type 0
-IsWanted plan copies entries (Compute v x) = AreNumbers x
-IsWanted plan copies entries (Issue kind x) = (plan.by_a ≡ true) × IsNumber x
-IsWanted plan copies entries (Own v kind x) = (plan.by_a ≡ true) × IsNumber x
-IsWanted plan copies entries (Receive v) = plan.by_a ≡ false
-IsWanted plan copies entries (Address width x) = (plan.by_a ≡ true) × IsNumber x
-IsWanted plan copies entries (Datum x) = (plan.by_a ≡ false) × IsNumber x
-IsWanted plan copies entries (Offer v) = (plan.by_a ≡ true) × (copies ≡ true)
-IsWanted plan copies entries (Accept v) = (plan.by_a ≡ false) × (copies ≡ true)
-IsWanted plan copies entries (Emit spelling x) = (plan.by_a ≡ false) × IsNumber x
-IsWanted plan copies entries (Probe check) = IsWantedCheck plan.by_a check
-IsWanted plan copies entries (Tell x) = IsNumber x
-IsWanted plan copies entries Hear = Unit {0}
-IsWanted plan copies entries (Stop x) = IsWantedStop plan.by_a x
-IsWanted plan copies entries Break = Unit {0}
-IsWanted plan copies entries Continue = Unit {0}
-IsWanted plan copies entries (Call v f xs) = AreGiven xs × (f < plan.functions) × ((u : ℕ) → entries f u ≡ true → gives xs u ≡ true) × AreApart (plan.home f) (gives xs)
-IsWanted plan copies entries (Return x) = IsWantedResult x
+-- a call is of a function that is there, gives an argument for each variable that the function reads at its entry, its parameters have homes of their
+-- own, and no leaf makes it
+abbrev pub IsWanted : Plan → Bool → (ℕ → VariableSet) → Bool → Action → Type 0
+IsWanted plan copies entries leaf (Compute v x) = AreNumbers x
+IsWanted plan copies entries leaf (Issue kind x) = (plan.by_a ≡ true) × IsNumber x
+IsWanted plan copies entries leaf (Own v kind x) = (plan.by_a ≡ true) × IsNumber x
+IsWanted plan copies entries leaf (Receive v) = plan.by_a ≡ false
+IsWanted plan copies entries leaf (Address width x) = (plan.by_a ≡ true) × IsNumber x
+IsWanted plan copies entries leaf (Datum x) = (plan.by_a ≡ false) × IsNumber x
+IsWanted plan copies entries leaf (Offer v) = (plan.by_a ≡ true) × (copies ≡ true)
+IsWanted plan copies entries leaf (Accept v) = (plan.by_a ≡ false) × (copies ≡ true)
+IsWanted plan copies entries leaf (Emit spelling x) = (plan.by_a ≡ false) × IsNumber x
+IsWanted plan copies entries leaf (Probe check) = IsWantedCheck plan.by_a check
+IsWanted plan copies entries leaf (Tell x) = IsNumber x
+IsWanted plan copies entries leaf (Hear only) = Unit {0}
+IsWanted plan copies entries leaf (Stop x) = IsWantedStop plan.by_a x
+IsWanted plan copies entries leaf Break = Unit {0}
+IsWanted plan copies entries leaf Continue = Unit {0}
+IsWanted plan copies entries leaf (Call v f xs) = AreGiven xs × (f < plan.functions) × ((u : ℕ) → entries f u ≡ true → gives xs u ≡ true) × AreApart (plan.home f) (gives xs) × (leaf ≡ false)
+IsWanted plan copies entries leaf (Return x) = IsWantedResult x
 
 abbrev pub IsWantedBranch : Branch → Type 0
 IsWantedBranch (Silent t) = IsNumber t.left × IsNumber t.right
@@ -89,11 +89,13 @@ pub record IsPlanOf (program : Program) (plan : Plan) : Type 0 where
   pub limit : program.limit ≡ plan.limit
   pub frame : (f : ℕ) → program.frame f ≡ plan.frame f
 
--- where the functions stand: each is entered at its entry code, and its actions begin behind that
+-- where the functions stand: each is entered at its entry code, below word 512 where one instruction enters it, and its actions
+-- begin behind that
 pub record IsLinked (s : Setting) (plan : Plan) (variables : ℕ → ℕ) (entries : ℕ → VariableSet) : Type 0 where
   pub entry : (g : ℕ) → g < plan.functions → CodeAt s.code (plan.entry g) (entry_code plan variables g (entries g))
   pub start : (g : ℕ) → g < plan.functions → plan.start g ≡ plan.entry g + length (entry_code plan variables g (entries g))
   pub near : (g : ℕ) → g < plan.functions → plan.start g < 2 ^ 29
+  pub close : (g : ℕ) → g < plan.functions → plan.near ≡ true → plan.entry g < 512
   pub reads : (g u : ℕ) → entries g u ≡ true → u < variables g
   pub finish : CodeAt s.code plan.finish (finish_code plan.by_a)
   pub low : plan.finish + 3 < 2 ^ 29

@@ -1,8 +1,9 @@
 -- The plan that layouts are.
-use Rattle.std.specs.Prelude.{ℕ, ◌<◌, ◌^◌, List, [], length, slice_get, Option, Some, None}
+use Rattle.std.specs.Prelude.{ℕ, ◌<◌, ◌^◌, Bool, false, List, [], length, slice_get, Option, Some, None}
 use Rattle.dae_select_walks.specs.declared.Home.{Home}
 use Rattle.dae_select_walks.specs.Homes.{frame_words, home_among}
 use Rattle.dae_select_walks.specs.Agrees.{Plan}
+use Rattle.dae_select_values.specs.Jumps.{is_jalr}
 use Rattle.dae_select_values.specs.Sides.{is_a}
 use Rattle.dae_select_values.specs.Tables.{IsNear}
 use Rattle.dae_select_calls.specs.declared.layouts.FunctionLayout.{FunctionLayout}
@@ -28,6 +29,10 @@ abbrev pub frame_at : Option FunctionLayout → ℕ
 frame_at None = 0
 frame_at (Some layout) = layout.frame
 
+abbrev pub leaf_at : Option FunctionLayout → Bool
+leaf_at None = false
+leaf_at (Some layout) = layout.leaf
+
 abbrev pub variables_of : Layouts → ℕ → ℕ
 variables_of all f = variables_at (slice_get all.functions f)
 
@@ -40,6 +45,8 @@ plan_of all = record {
   start = λ f. start_at (slice_get all.functions f);
   words = λ f. frame_words (variables_at (slice_get all.functions f));
   frame = λ f. frame_at (slice_get all.functions f);
+  leaf = λ f. leaf_at (slice_get all.functions f);
+  near = is_jalr all.calls;
   finish = all.finish;
   largest = all.largest;
   private = all.private;

@@ -1,11 +1,13 @@
 // The blocks of calls and returns, and the code that a function begins with.
 
-ghost use Rattle.std.specs.Prelude.{◌≡◌, ◌+◌, ◌++◌, ◌<◌, ◌^◌, ◌%◌, ◌&&◌, nat_lt, IfOk, OnOk};
-ghost use Rattle.dae_select_blocks.specs.Blocks.{waits_at, arguments_code, argument_code, is_register, save_code, restore_code, deeper_code, back_code, result_code, leave_code};
+ghost use Rattle.std.specs.Prelude.{◌≡◌, ◌+◌, ◌++◌, ◌∷◌, [], pos, ◌<◌, ◌^◌, ◌%◌, ◌&&◌, nat_lt, IfOk, OnOk};
+ghost use Rattle.dae_encode.specs.declared.Inst.TheVariants.{Jalr};
+ghost use Rattle.dae_select_blocks.specs.Blocks.{waits_at, arguments_code, argument_code, is_register, save_code, restore_code, deeper_code, back_code, result_code, count_code, prologue_code, epilogue_code, leave_code};
 ghost use Rattle.dae_select_blocks.specs.Code.{some_below, filtered, registers_in, call_code, entry_code};
 ghost use Rattle.dae_select_calls.specs.Layouts.{plan_of, AreSmall};
 ghost use Rattle.dae_select_calls.specs.Makings.{plan_by, variables_by, IsSound};
 ghost use Rattle.dae_select_walks.specs.Live.{with_all};
+ghost use Rattle.dae_select_values.specs.Sides.{is_a};
 ghost use Rattle.dae_select_values.specs.Tables.{IsNear, AreNear, home_by};
 ghost use Rattle.dae_select_live.specs.Members.{member};
 ghost use Rattle.dae_select_walks.specs.Homes.{kept_at};
@@ -200,18 +202,14 @@ fn low_word(frame: u64) -> u32
     (frame % 4_294_967_296) as u32
 }
 
-/// The frames of the function that is called follow the caller's; on A the call is one deeper.
+/// The frames of the function that is called follow the caller's.
 fn deeper_code(code: &mut Vec<Inst>, layouts: &Layouts, function: u32) -> Result<(), AllocError>
     requires { AreSmall layouts.now }
     ensures { OnOk result (code.new.items ≡ code.old.items
         ++ deeper_code (plan_of layouts.now) function) }
 {
     more_code(code, 3, low_word(layouts.frame(function)))?;
-    more_code(code, 2, 4 * (19 + layouts.variables(function)))?;
-    match layouts.side {
-        Side::A => code.extend_from_slice(&[Inst::Addi(10, 10, 1)]),
-        Side::E => Ok(()),
-    }
+    more_code(code, 2, 4 * (19 + layouts.variables(function)))
 }
 
 /// The frames are given up again.
@@ -221,11 +219,7 @@ fn back_code(code: &mut Vec<Inst>, layouts: &Layouts, function: u32) -> Result<(
         ++ back_code (plan_of layouts.now) function) }
 {
     less_code(code, 3, low_word(layouts.frame(function)))?;
-    less_code(code, 2, 4 * (19 + layouts.variables(function)))?;
-    match layouts.side {
-        Side::A => code.extend_from_slice(&[Inst::Addi(10, 10, -1)]),
-        Side::E => Ok(()),
-    }
+    less_code(code, 2, 4 * (19 + layouts.variables(function)))
 }
 
 fn result_code(
@@ -273,27 +267,76 @@ pub fn call_code(
     let registers = registers_in(making.alloc, making.homes, variables, live)?;
     save_code(code, registers.as_slice())?;
     deeper_code(code, layouts, making.function)?;
-    enter_code(code, layouts.entry(callee.function))?;
+    enter_code(code, layouts.calls, layouts.entry(callee.function))?;
     back_code(code, layouts, making.function)?;
     restore_code(code, registers.as_slice())?;
     result_code(code, making.homes, callee.result)
 }
 
+/// A counts so much more.
+fn count_code(code: &mut Vec<Inst>, side: Side, more: i32) -> Result<(), AllocError>
+    ensures { OnOk result (code.new.items ≡ code.old.items ++ count_code (is_a side) more) }
+{
+    match side {
+        Side::A => code.extend_from_slice(&[Inst::Addi(10, 10, more)]),
+        Side::E => Ok(()),
+    }
+}
+
+/// The address to return to, which is in x1, goes into the frame of a function that is no leaf, and A counts the function.
+fn prologue_code(code: &mut Vec<Inst>, making: &Making) -> Result<(), AllocError>
+    ensures { OnOk result (code.new.items ≡ code.old.items
+        ++ prologue_code (plan_by making.now).by_a
+        ((plan_by making.now).leaf making.now.function)) }
+{
+    if making.layouts.leaf(making.function) {
+        Ok(())
+    } else {
+        code.push(Inst::Sw(2, 1, 0))?;
+        count_code(code, making.layouts.side, 1)
+    }
+}
+
+/// The address comes from there into x1, where a leaf has it, and A counts the function no more.
+fn epilogue_code(code: &mut Vec<Inst>, making: &Making) -> Result<(), AllocError>
+    ensures { OnOk result (code.new.items ≡ code.old.items
+        ++ epilogue_code (plan_by making.now).by_a
+        ((plan_by making.now).leaf making.now.function)) }
+{
+    if making.layouts.leaf(making.function) {
+        Ok(())
+    } else {
+        code.push(Inst::Lw(1, 2, 0))?;
+        count_code(code, making.layouts.side, -1)
+    }
+}
+
+/// The jump to the address to return to.
+fn return_code(code: &mut Vec<Inst>, making: &Making) -> Result<(), AllocError>
+    ensures { OnOk result (code.new.items ≡ code.old.items
+        ++ (epilogue_code (plan_by making.now).by_a
+        ((plan_by making.now).leaf making.now.function) ++ Jalr 0 1 (pos 0) ∷ [])) }
+{
+    epilogue_code(code, making)?;
+    code.push(Inst::Jalr(0, 1, 0))
+}
+
 /// The block of a return.
 pub fn leave_code(
     code: &mut Vec<Inst>,
-    homes: HomeTable,
+    making: &Making,
     answer: Option<Operand>,
 ) -> Result<(), AllocError>
-    requires { AreNear homes }
+    requires { IsSound making.now }
     ensures { OnOk result (code.new.items ≡ code.old.items
-        ++ leave_code (home_by homes.entry) answer) }
+        ++ leave_code (plan_by making.now).by_a ((plan_by making.now).leaf making.now.function)
+        ((plan_by making.now).home making.now.function) answer) }
 {
     match answer {
-        None => code.extend_from_slice(&[Inst::Lw(1, 2, 0), Inst::Jalr(0, 1, 0)]),
+        None => return_code(code, making),
         Some(operand) => {
-            move_code(code, homes, 6, operand)?;
-            code.extend_from_slice(&[Inst::Lw(1, 2, 0), Inst::Jalr(0, 1, 0)])
+            move_code(code, making.homes, 6, operand)?;
+            return_code(code, making)
         }
     }
 }
@@ -305,7 +348,7 @@ pub fn entry_code(code: &mut Vec<Inst>, making: &Making, live: &LiveSet) -> Resu
         ++ entry_code (plan_by making.now) (variables_by making.now) making.now.function
         (member live.now)) }
 {
-    code.push(Inst::Sw(2, 1, 0))?;
+    prologue_code(code, making)?;
     let variables = making.layouts.variables(making.function);
     let registers = registers_in(making.alloc, making.homes, variables, live)?;
     restore_code(code, registers.as_slice())

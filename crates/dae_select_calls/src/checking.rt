@@ -178,7 +178,8 @@ pub fn check_code(code: &mut Vec<Inst>, making: &Making, check: Check) -> Result
         Check::Zero(operand) => zero_code(code, layouts.side, making.homes, operand),
         Check::Room(callee) => {
             let next = layouts.frame(callee);
-            call_room_code(code, layouts.memory, layouts.limit, own, next)
+            let limit = layouts.counted_limit(making.function);
+            call_room_code(code, layouts.memory, limit, own, next)
         }
         Check::Frame => frame_room_code(code, layouts.memory, own),
         Check::Abort => fail_code(code, Side::A, 5),

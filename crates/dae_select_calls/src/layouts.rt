@@ -1,30 +1,35 @@
 // What is settled before the code of a side is made.
 
 ghost use Rattle.std.specs.Prelude.{◌≡◌};
+ghost use Rattle.dae_select_walks.specs.Agrees.{counted_depth};
 ghost use Rattle.dae_select_calls.specs.Layouts.{plan_of, variables_of, AreSmall};
 ghost use Rattle.dae_select_values.specs.Tables.{AreNear, home_by};
 
 use dae_base::{Items, Side};
-use dae_select_values::{HomeTable, home_of};
+use dae_select_values::{CallForm, HomeTable, home_of};
 use dae_select_walks::Home;
 
 /// What is settled of a function: the homes of its variables, how many variables there are, the bytes of its frame in
-/// common memory, the word at which it is entered, and the word at which its actions begin.
+/// common memory, whether it is a leaf, which makes no call, the word at which it is entered, and the word at which its
+/// actions begin.
 #[derive(Drop)]
 pub struct FunctionLayout {
     pub homes: Items<Home>,
     pub variables: u32,
     pub frame: u64,
+    pub leaf: bool,
     pub entry: u32,
     pub start: u32,
 }
 
-/// What is settled of a side: its functions, the word that main returns to, the most words of a private frame, the words
-/// of private memory, the call limit, the bytes of common memory, and the numbers that stay in registers.
+/// What is settled of a side: its functions, the form of the ways into them, the word that main returns to, the most words
+/// of a private frame, the words of private memory, the call limit, the bytes of common memory, and the numbers that stay
+/// in registers.
 #[derive(Drop)]
 pub struct Layouts {
     pub side: Side,
     pub functions: Items<FunctionLayout>,
+    pub calls: CallForm,
     pub finish: u32,
     pub largest: u32,
     pub private: u32,
@@ -76,6 +81,27 @@ impl Layouts {
         match self.functions.as_slice().get(function as usize) {
             Some(layout) => layout.variables,
             None => 0,
+        }
+    }
+
+    /// Whether a function is a leaf.
+    pub fn leaf(&self, function: u32) -> bool
+        ensures { result ≡ (plan_of self.now).leaf function }
+    {
+        match self.functions.as_slice().get(function as usize) {
+            Some(layout) => layout.leaf,
+            None => false,
+        }
+    }
+
+    /// The call limit as it is counted in a function.
+    pub fn counted_limit(&self, function: u32) -> u16
+        ensures { result ≡ counted_depth (plan_of self.now) function self.now.limit }
+    {
+        if self.leaf(function) {
+            self.limit.saturating_sub(1)
+        } else {
+            self.limit
         }
     }
 

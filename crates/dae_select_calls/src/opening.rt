@@ -1,7 +1,6 @@
 // The code that a side begins with, and what main returns to.
 
-ghost use Rattle.std.specs.Prelude.{◌≡◌, ◌-◌, ◌++◌, ◌∷◌, [], pos, if◌then◌else◌, IfOk, OnOk};
-ghost use Rattle.dae_encode.specs.declared.Inst.TheVariants.{Addi};
+ghost use Rattle.std.specs.Prelude.{◌≡◌, ◌-◌, ◌++◌, [], if◌then◌else◌, IfOk, OnOk};
 ghost use Rattle.dae_select_blocks.specs.Blocks.{number_code, residents_code};
 ghost use Rattle.dae_select_blocks.specs.Code.{start_code, finish_code};
 ghost use Rattle.dae_select_values.specs.Sides.{is_a};
@@ -25,16 +24,13 @@ pub fn residents_code(code: &mut Vec<Inst>, residents: &[u32]) -> Result<(), All
     Ok(())
 }
 
-/// On A common memory has so many addresses, and main stands at depth 1.
-fn counts_code(code: &mut Vec<Inst>, side: Side, memory: u32) -> Result<(), AllocError>
+/// How many addresses common memory has, on A.
+fn addresses_code(code: &mut Vec<Inst>, side: Side, memory: u32) -> Result<(), AllocError>
     ensures { OnOk result (code.new.items ≡ code.old.items
-        ++ (if is_a side then number_code 4 (memory - 16) ++ Addi 10 0 (pos 1) ∷ [] else [])) }
+        ++ (if is_a side then number_code 4 (memory - 16) else [])) }
 {
     match side {
-        Side::A => {
-            number_code(code, 4, memory.saturating_sub(16))?;
-            code.extend_from_slice(&[Inst::Addi(10, 0, 1)])
-        }
+        Side::A => number_code(code, 4, memory.saturating_sub(16)),
         Side::E => Ok(()),
     }
 }
@@ -52,8 +48,8 @@ pub fn start_code(
     let mut code = Vec::new(alloc);
     number_code(&mut code, 3, frames)?;
     residents_code(&mut code, layouts.residents.as_slice())?;
-    counts_code(&mut code, layouts.side, layouts.memory)?;
-    enter_code(&mut code, layouts.entry(main))?;
+    addresses_code(&mut code, layouts.side, layouts.memory)?;
+    enter_code(&mut code, layouts.calls, layouts.entry(main))?;
     Ok(code)
 }
 

@@ -3,7 +3,7 @@
 #![tactic(auto)]
 
 pub use along::{Before, all_before};
-pub use bounds::is_good;
+pub use bounds::{is_aligned, is_good};
 pub use known::{Known, bounds_in, facts_behind, unknown};
 pub use sets::only_leaves;
 pub use through::{

@@ -95,8 +95,11 @@ pub fn add_action(set: &mut LiveSet, action: &Action) -> Result<(), AllocError>
         Action::Probe(check) => add_check(set, *check),
         Action::Stop(operand) | Action::Return(operand) => add_option(set, *operand),
         Action::Call(_, _, arguments) => add_arguments(set, arguments.as_slice()),
-        Action::Receive(_) | Action::Accept(_) | Action::Hear | Action::Break | Action::Continue =>
-            { Ok(()) }
+        Action::Receive(_)
+        | Action::Accept(_)
+        | Action::Hear(_)
+        | Action::Break
+        | Action::Continue => { Ok(()) }
     }
 }
 

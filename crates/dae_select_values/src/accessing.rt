@@ -1,28 +1,29 @@
 // The blocks of accesses to queues and memory, of printing and of halting.
 
-ghost use Rattle.std.specs.Prelude.{◌≡◌, ◌++◌, ◌∷◌, [], OnOk};
-ghost use Rattle.dae_select_blocks.specs.Blocks.{source, fetch, issue_code, address_code, take_code, call_number, system_code, hear_code, stop_code};
+ghost use Rattle.std.specs.Prelude.{◌≡◌, ◌++◌, ◌∷◌, [], OnOk, pos};
+ghost use Rattle.dae_ir.specs.Deeds.{failure_code};
+ghost use Rattle.dae_select_blocks.specs.Blocks.{source, fetch, issue_code, address_code, take_code, call_number, system_code, hear_code, stop_code, reach_code};
 ghost use Rattle.dae_select_values.specs.Sides.{is_a};
 ghost use Rattle.dae_select_values.specs.Tables.{IsNear, AreNear, home_by};
 
-use crate::fetching::{fetch, keep, move_code, register_or, source};
-use crate::tables::HomeTable;
+use crate::fetching::{fetch, keep, lower, move_code, register_or, source};
+use crate::tables::{HomeTable, home_of};
 use dae_base::{LoadKind, Side, Width};
 use dae_encode::Inst;
-use dae_ir::Operand;
+use dae_ir::{Failure, Operand, Value};
 use dae_meaning::Spelling;
 use dae_select_walks::Home;
 use std::alloc::AllocError;
 
-fn issue_inst(kind: LoadKind, queue: u8, base: u8) -> Inst
-    ensures { result ≡ issue_code kind queue base }
+fn issue_inst(kind: LoadKind, queue: u8, base: u8, offset: i32) -> Inst
+    ensures { result ≡ issue_code kind queue base offset }
 {
     match kind {
-        LoadKind::I8 => Inst::Lb(queue, base, 0),
-        LoadKind::U8 => Inst::Lbu(queue, base, 0),
-        LoadKind::I16 => Inst::Lh(queue, base, 0),
-        LoadKind::U16 => Inst::Lhu(queue, base, 0),
-        LoadKind::I32 => Inst::Lw(queue, base, 0),
+        LoadKind::I8 => Inst::Lb(queue, base, offset),
+        LoadKind::U8 => Inst::Lbu(queue, base, offset),
+        LoadKind::I16 => Inst::Lh(queue, base, offset),
+        LoadKind::U16 => Inst::Lhu(queue, base, offset),
+        LoadKind::I32 => Inst::Lw(queue, base, offset),
     }
 }
 
@@ -36,20 +37,71 @@ pub fn issue_code(
 ) -> Result<(), AllocError>
     requires { AreNear homes }
     ensures { OnOk result (code.new.items ≡ code.old.items ++ (fetch (home_by homes.entry) 5 operand
-        ++ issue_code kind queue (source (home_by homes.entry) 5 operand) ∷ [])) }
+        ++ issue_code kind queue (source (home_by homes.entry) 5 operand) (pos 0) ∷ [])) }
 {
     fetch(code, homes, 5, operand)?;
-    code.push(issue_inst(kind, queue, source(homes, 5, operand)))?;
+    code.push(issue_inst(kind, queue, source(homes, 5, operand), 0))?;
     Ok(())
 }
 
-fn address_inst(width: Width, base: u8) -> Inst
-    ensures { result ≡ address_code width base }
+/// The same from the sum of an operand and a number, where the value is one, which the load adds up itself.
+pub fn issue_at_sum(
+    code: &mut Vec<Inst>,
+    homes: HomeTable,
+    kind: LoadKind,
+    queue: u8,
+    value: Value,
+) -> Result<(), AllocError>
+    requires { AreNear homes }
+    ensures { OnOk result (code.new.items ≡ code.old.items
+        ++ reach_code (home_by homes.entry) value (issue_code kind queue) []) }
+{
+    match value {
+        Value::Binary(_, operand, Operand::Number(number)) => {
+            fetch(code, homes, 5, operand)?;
+            let base = source(homes, 5, operand);
+            code.push(issue_inst(kind, queue, base, lower(number)))?;
+            Ok(())
+        }
+        Value::Binary(_, _, Operand::Variable(_)) => Ok(()),
+        Value::Same(_) | Value::Extended(_, _) => Ok(()),
+        Value::Holds(_) | Value::FrameAddress(_) => Ok(()),
+    }
+}
+
+/// A slot of the access side's own loads is reserved for a load from such a sum, and the word is taken into a variable.
+pub fn own_at_sum(
+    code: &mut Vec<Inst>,
+    homes: HomeTable,
+    variable: u32,
+    kind: LoadKind,
+    value: Value,
+) -> Result<(), AllocError>
+    requires { AreNear homes }
+    ensures { OnOk result (code.new.items ≡ code.old.items
+        ++ reach_code (home_by homes.entry) value (issue_code kind 31)
+        (take_code 31 (home_by homes.entry variable))) }
+{
+    match value {
+        Value::Binary(_, operand, Operand::Number(number)) => {
+            fetch(code, homes, 5, operand)?;
+            let base = source(homes, 5, operand);
+            code.push(issue_inst(kind, 31, base, lower(number)))?;
+            take_code(code, 31, home_of(homes, variable))
+        }
+        Value::Binary(_, _, Operand::Variable(_)) => Ok(()),
+        Value::Same(_) | Value::Extended(_, _) => Ok(()),
+        Value::Holds(_) | Value::FrameAddress(_) => Ok(()),
+    }
+}
+
+fn address_inst(width: Width, base: u8, offset: i32) -> Inst
+    ensures { result ≡ address_code width base offset }
 {
     match width {
-        Width::B1 => Inst::Sb(base, 30, 0),
-        Width::B2 => Inst::Sh(base, 30, 0),
-        Width::B4 => Inst::Sw(base, 30, 0),
+        Width::B1 => Inst::Sb(base, 30, offset),
+        Width::B2 => Inst::Sh(base, 30, offset),
+        Width::B4 => Inst::Sw(base, 30, offset),
     }
 }
 
@@ -62,11 +114,35 @@ pub fn address_code(
 ) -> Result<(), AllocError>
     requires { AreNear homes }
     ensures { OnOk result (code.new.items ≡ code.old.items ++ (fetch (home_by homes.entry) 5 operand
-        ++ address_code width (source (home_by homes.entry) 5 operand) ∷ [])) }
+        ++ address_code width (source (home_by homes.entry) 5 operand) (pos 0) ∷ [])) }
 {
     fetch(code, homes, 5, operand)?;
-    code.push(address_inst(width, source(homes, 5, operand)))?;
+    code.push(address_inst(width, source(homes, 5, operand), 0))?;
     Ok(())
+}
+
+/// The same where it is the sum of an operand and a number, which the store adds up itself.
+pub fn address_at_sum(
+    code: &mut Vec<Inst>,
+    homes: HomeTable,
+    width: Width,
+    value: Value,
+) -> Result<(), AllocError>
+    requires { AreNear homes }
+    ensures { OnOk result (code.new.items ≡ code.old.items
+        ++ reach_code (home_by homes.entry) value (address_code width) []) }
+{
+    match value {
+        Value::Binary(_, operand, Operand::Number(number)) => {
+            fetch(code, homes, 5, operand)?;
+            let base = source(homes, 5, operand);
+            code.push(address_inst(width, base, lower(number)))?;
+            Ok(())
+        }
+        Value::Binary(_, _, Operand::Variable(_)) => Ok(()),
+        Value::Same(_) | Value::Extended(_, _) => Ok(()),
+        Value::Holds(_) | Value::FrameAddress(_) => Ok(()),
+    }
 }
 
 /// What is at the front of a queue goes home.
@@ -105,18 +181,38 @@ pub fn system_code(
     code.extend_from_slice(&[Inst::Addi(17, 0, i32::from(number)), Inst::Ecall])
 }
 
-/// A message is taken, and for a code other than 0 the processor halts.
-pub fn hear_code(code: &mut Vec<Inst>, side: Side) -> Result<(), AllocError>
-    ensures { OnOk result (code.new.items ≡ code.old.items ++ hear_code (is_a side)) }
+/// The code of the trap of a check that fails so.
+fn failure_code(failure: Failure) -> u8
+    ensures { result ≡ failure_code failure }
 {
-    match side {
-        Side::A => code.extend_from_slice(&[Inst::Addi(5, 29, 0), Inst::Beq(5, 0, 8), Inst::Ecall]),
-        Side::E => code.extend_from_slice(&[
+    match failure {
+        Failure::OutOfBounds => 2,
+        Failure::OutOfRoom => 4,
+    }
+}
+
+/// A message is taken, and for a code other than 0 the processor halts: where that can be the code of one failure alone, a
+/// branch takes it.
+pub fn hear_code(code: &mut Vec<Inst>, side: Side, only: Option<Failure>) -> Result<(), AllocError>
+    ensures { OnOk result (code.new.items ≡ code.old.items ++ hear_code (is_a side) only) }
+{
+    match (side, only) {
+        (Side::A, _) => code.extend_from_slice(&[Inst::Beq(29, 0, 8), Inst::Ecall]),
+        (Side::E, None) => code.extend_from_slice(&[
             Inst::Addi(10, 29, 0),
             Inst::Beq(10, 0, 12),
             Inst::Addi(17, 0, 5),
             Inst::Ecall,
         ]),
+        (Side::E, Some(failure)) => {
+            let trap = i32::from(failure_code(failure));
+            code.extend_from_slice(&[
+                Inst::Beq(29, 0, 16),
+                Inst::Addi(10, 0, trap),
+                Inst::Addi(17, 0, 5),
+                Inst::Ecall,
+            ])
+        }
     }
 }
 

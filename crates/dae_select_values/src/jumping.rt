@@ -6,7 +6,7 @@ ghost use Rattle.dae_select_blocks.specs.Blocks.{near_offset, jump_by, jump_word
 ghost use Rattle.dae_select_blocks.specs.Blocks.{source, against_zero, immediate_of, branch_inst, opposite, one_way, goes_code, back_offset};
 ghost use Rattle.dae_select_blocks.specs.Code.{told_by, branch_by, branch_code, back_branch};
 ghost use Rattle.dae_select_values.specs.Fronts.{IsFront};
-ghost use Rattle.dae_select_values.specs.Jumps.{is_jal};
+ghost use Rattle.dae_select_values.specs.Jumps.{is_jal, is_jalr};
 ghost use Rattle.dae_select_walks.specs.Edges.{is_then};
 ghost use Rattle.dae_select_values.specs.Tables.{AreNear, home_by};
 
@@ -103,15 +103,26 @@ pub fn jump_back(
     }
 }
 
+/// The form of the ways into functions: JALR alone, whose immediate reaches the words below 512, or LUI and JALR, which reach
+/// all.
+#[derive(Clone, Copy)]
+pub enum CallForm {
+    Low,
+    Anywhere,
+}
+
 /// The way into a function that is entered at this word.
-pub fn enter_code(code: &mut Vec<Inst>, word: u32) -> Result<(), AllocError>
+pub fn enter_code(code: &mut Vec<Inst>, form: CallForm, word: u32) -> Result<(), AllocError>
     requires { word < 2 ^ 30 }
-    ensures { OnOk result (code.new.items ≡ code.old.items ++ enter_code word) }
+    ensures { OnOk result (code.new.items ≡ code.old.items ++ enter_code (is_jalr form) word) }
 {
-    code.extend_from_slice(&[
-        Inst::Lui(5, upper(4 * word)),
-        Inst::Jalr(1, 5, lower(4 * word)),
-    ])
+    match form {
+        CallForm::Low => code.extend_from_slice(&[Inst::Jalr(1, 0, lower(4 * word))]),
+        CallForm::Anywhere => code.extend_from_slice(&[
+            Inst::Lui(5, upper(4 * word)),
+            Inst::Jalr(1, 5, lower(4 * word)),
+        ]),
+    }
 }
 
 fn branch_inst(relation: Comparison, first: u8, second: u8, offset: i32) -> Inst

@@ -14,7 +14,7 @@ use Rattle.dae_base.specs.declared.LoadKind.TheVariants.{I8, U8, I16, U16, I32}
 use Rattle.dae_base.specs.Words.{plus, minus, times, size, word, signed, extended}
 use Rattle.dae_ir.specs.Classes.{VariableSet}
 use Rattle.dae_ir.specs.Form.{Program, value, computed, fault, holds}
-use Rattle.dae_ir.specs.Deeds.{Went, Halts, probed, trapped, deed}
+use Rattle.dae_ir.specs.Deeds.{Went, Halts, probed, trapped, deed, heard_code}
 use Rattle.dae_ir.specs.declared.form.Operand.{Operand}
 use Rattle.dae_ir.specs.declared.form.Operand.TheVariants.{Variable, Number}
 use Rattle.dae_ir.specs.declared.form.Value.{Value}
@@ -681,9 +681,9 @@ deed_facts p by_a (Probe (Room f)) w env facts memory size h = probed_holds by_a
 deed_facts p by_a (Probe Frame) w env facts memory size h = probed_holds by_a facts env (fault p Frame w env) h
 deed_facts p by_a (Probe Abort) w env facts memory size h = probed_holds by_a facts env (fault p Abort w env) h
 deed_facts p by_a (Tell x) w env facts memory size h = h
-deed_facts p by_a Hear w env facts memory size h = λ y. by y (nat_eq y 0)
+deed_facts p by_a (Hear only) w env facts memory size h = λ y. by y (nat_eq y 0)
   where
-    by : (y : ℕ) (b : Bool) → LeavesOnly (Hold facts) (if b then Went env else Halts (trapped by_a y))
+    by : (y : ℕ) (b : Bool) → LeavesOnly (Hold facts) (if b then Went env else Halts (trapped by_a (heard_code only y)))
     by y true = h
     by y false = tt
 deed_facts p by_a (Stop x) w env facts memory size h = tt

@@ -211,7 +211,7 @@ straight_go memory (Do m (Datum y) k) known last guess others leaves skips e sai
 straight_go memory (Do m (Offer v) k) known last guess others leaves skips e said r = straight_go memory k known last guess others leaves skips e said (λ env h. r env h)
 straight_go memory (Do m (Emit spelling y) k) known last guess others leaves skips e said r = straight_go memory k known last guess others leaves skips e said (λ env h. r env h)
 straight_go memory (Do m (Tell y) k) known last guess others leaves skips e said r = straight_go memory k known last guess others leaves skips e said (λ env h. r env h)
-straight_go memory (Do m Hear k) known last guess others leaves skips e said r = straight_go memory k known last guess others leaves skips e said (λ env h. r env h)
+straight_go memory (Do m (Hear only) k) known last guess others leaves skips e said r = straight_go memory k known last guess others leaves skips e said (λ env h. r env h)
 straight_go memory (Do m (Stop y) k) known last guess others leaves skips e said r = straight_go memory k known last guess others leaves skips e said (λ env h. r env h)
 straight_go memory (If m b p q k) known last guess others leaves skips e said r = absurd cc
 straight_go memory (Loop m body step k) known last guess others leaves skips e said r = absurd cc
@@ -397,7 +397,7 @@ facts_go memory (Do m (Datum y) k) known o r = facts_go memory k (facts_behind m
 facts_go memory (Do m (Offer v) k) known o r = facts_go memory k (facts_behind memory (Offer v) known) o (reach_by (Do m (Offer v) k) k known.outer known.outer o (λ env h. h) r)
 facts_go memory (Do m (Emit spelling y) k) known o r = facts_go memory k (facts_behind memory (Emit spelling y) known) o (reach_by (Do m (Emit spelling y) k) k known.outer known.outer o (λ env h. h) r)
 facts_go memory (Do m (Tell y) k) known o r = facts_go memory k (facts_behind memory (Tell y) known) o (reach_by (Do m (Tell y) k) k known.outer known.outer o (λ env h. h) r)
-facts_go memory (Do m Hear k) known o r = facts_go memory k (facts_behind memory Hear known) o (reach_by (Do m Hear k) k known.outer known.outer o (λ env h. h) r)
+facts_go memory (Do m (Hear only) k) known o r = facts_go memory k (facts_behind memory (Hear only) known) o (reach_by (Do m (Hear only) k) k known.outer known.outer o (λ env h. h) r)
 facts_go memory (Do m (Stop y) k) known o r = facts_go memory k (facts_behind memory (Stop y) known) o (reach_by (Do m (Stop y) k) k known.outer known.outer o (λ env h. h) r)
 facts_go memory (If m b p q k) known o r =
     if_go memory m b p q k known o (only_leaves q) refl (λ known o r. facts_go memory p known o r) (λ known o r. facts_go memory q known o r) (λ known o r. facts_go memory k known o r) r

@@ -1,7 +1,7 @@
 -- What a processor holds at a moment of its stream: the variables that are live; the numbers that stay in registers; where the
 -- frame in common memory and the private frame begin; on A the depth and how many addresses common memory has; and for each waiting call its return address
 -- and what is live behind it.
-use Rattle.std.specs.Prelude.{◌≡◌, ℕ, ◌+◌, ◌-◌, ◌*◌, ◌^◌, ◌≤◌, ◌<◌, Bool, true, List, [], ◌∷◌, length, slice_index, Some, None}
+use Rattle.std.specs.Prelude.{◌≡◌, ℕ, ◌+◌, ◌-◌, ◌*◌, ◌^◌, ◌≤◌, ◌<◌, Bool, true, List, [], ◌∷◌, length, slice_index, Some, None, if◌then◌else◌}
 use Rattle.dae_base.specs.Words.{loaded}
 use Rattle.dae_base.specs.declared.LoadKind.TheVariants.{I32}
 use Rattle.dae_encode.specs.Processor.{Processor}
@@ -11,7 +11,8 @@ use Rattle.dae_select_walks.specs.Homes.{Contents, held, kept, resident_home, re
 use Rattle.dae_select_walks.specs.declared.Home.{Home}
 
 -- what is settled before the code runs: the side, the number of functions and their homes; of each function the words at which it is entered and at which its actions
--- begin, the words of its private frame and the bytes of its frame in common memory; the word that main returns to; the most
+-- begin, the words of its private frame, the bytes of its frame in common memory, and whether it is a leaf, which makes no
+-- call; whether one instruction enters them all; the word that main returns to; the most
 -- words of a private frame and the words of private memory; the call limit; the size of common memory; and the numbers that stay
 -- in registers
 pub record Plan : Type 0 where
@@ -22,6 +23,8 @@ pub record Plan : Type 0 where
   pub start : ℕ → ℕ
   pub words : ℕ → ℕ
   pub frame : ℕ → ℕ
+  pub leaf : ℕ → Bool
+  pub near : Bool
   pub finish : ℕ
   pub largest : ℕ
   pub private : ℕ
@@ -65,23 +68,32 @@ AreIn place home live env = (v : ℕ) → live v ≡ true → place (home v) ≡
 abbrev pub AreResident : Plan → Contents → Type 0
 AreResident plan c = (n r : ℕ) → resident_register (resident_home 27 plan.residents n) ≡ Some r → c.register r ≡ n
 
--- the calls that wait below a frame that begins at a word of private memory and at an address of common memory
-abbrev pub AreWaiting : Plan → Contents → ℕ → ℕ → List Waiting → Type 0
-AreWaiting plan c base frame [] = (base ≡ 0) × (plan.finish < 2 ^ 29) × (c.word base ≡ 4 * plan.finish)
-AreWaiting plan c base frame (w ∷ ws) =
+-- where a function finds the address to return to: a leaf in x1, any other in the first word of its frame
+abbrev pub return_address : Plan → ℕ → Contents → ℕ → ℕ
+return_address plan f c base = if plan.leaf f then c.register 1 else c.word base
+
+-- what A has counted in a function at a depth: a leaf isn't counted
+abbrev pub counted_depth : Plan → ℕ → ℕ → ℕ
+counted_depth plan f depth = if plan.leaf f then depth - 1 else depth
+
+-- the calls that wait below a frame that begins at a word of private memory and at an address of common memory, and that is
+-- left to this address. A function that waits has made a call, so its own is in its frame
+abbrev pub AreWaiting : Plan → Contents → ℕ → ℕ → ℕ → List Waiting → Type 0
+AreWaiting plan c address base frame [] = (base ≡ 0) × (plan.finish < 2 ^ 29) × (address ≡ 4 * plan.finish)
+AreWaiting plan c address base frame (w ∷ ws) =
     (below : ℕ) × (base ≡ below + plan.words w.function) × (frame ≡ w.frame + plan.frame w.function) × (w.frame ≤ plan.memory)
-    × (below + (plan.limit + 1 - (length ws + 1)) * plan.largest ≤ plan.private) × (w.back < 2 ^ 29) × (c.word base ≡ 4 * w.back) × AreIn (kept c below) (plan.home w.function) w.live w.env
-    × AreWaiting plan c below w.frame ws
+    × (below + (plan.limit + 1 - (length ws + 1)) * plan.largest ≤ plan.private) × (w.back < 2 ^ 29) × (address ≡ 4 * w.back) × AreIn (kept c below) (plan.home w.function) w.live w.env
+    × AreWaiting plan c (c.word below) below w.frame ws
 
 pub record Agrees (plan : Plan) (live : VariableSet) (m : Moment) (c : Contents) : Type 0 where
   pub base : ℕ
   pub variables : AreIn (held c base) (plan.home m.function) live m.env
   pub pointer : c.register 2 ≡ 4 * base
   pub frame : c.register 3 ≡ m.frame
-  pub depth : plan.by_a ≡ true → c.register 10 ≡ depth_of m
+  pub depth : plan.by_a ≡ true → c.register 10 ≡ counted_depth plan m.function (depth_of m)
   pub addresses : plan.by_a ≡ true → c.register 4 ≡ plan.memory - 16
   pub residents : AreResident plan c
-  pub waiting : AreWaiting plan c base m.frame m.waiting
+  pub waiting : AreWaiting plan c (return_address plan m.function c base) base m.frame m.waiting
   pub room : base + (plan.limit + 1 - depth_of m) * plan.largest ≤ plan.private
   pub within : IsWithin plan m
 

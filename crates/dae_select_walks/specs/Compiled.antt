@@ -83,10 +83,10 @@ pub record Lands (plan : Plan) (w : Waiting) (ws : List Waiting) (result : Optio
   pub pointer : contents.register 2 ≡ 4 * base
   pub begins : contents.register 3 ≡ frame
   pub low : frame ≤ plan.memory
-  pub depth : plan.by_a ≡ true → contents.register 10 ≡ length ws + 2
+  pub depth : plan.by_a ≡ true → contents.register 10 ≡ length ws + 1
   pub addresses : plan.by_a ≡ true → contents.register 4 ≡ plan.memory - 16
   pub residents : AreResident plan contents
-  pub waiting : AreWaiting plan contents base frame (w ∷ ws)
+  pub waiting : AreWaiting plan contents (4 * w.back) base frame (w ∷ ws)
   pub given : (x : ℕ) → result ≡ Some x → contents.register 6 ≡ x
 
 abbrev pub result_of : Option Operand → Env → Option ℕ

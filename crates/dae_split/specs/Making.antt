@@ -93,7 +93,7 @@ tells_in region code = false
 
 abbrev pub region_message : Bool → Action
 region_message true = Tell (Number 0)
-region_message false = Hear
+region_message false = Hear None
 
 abbrev pub branch_at : Bool → Bool → Decision → Branch
 branch_at true by_a d = branch_of by_a d

@@ -2,14 +2,14 @@
 
 ghost use Rattle.std.specs.Prelude.{◌≡◌, ℕ, OnOk};
 ghost use Rattle.dae_ir.specs.Classes.{classes_of};
-ghost use Rattle.dae_ir.specs.Streams.{Actions, mark, when, a_part, e_part, parts, message, gives_address, hears_check, e_last, a_group, e_group, group_of};
+ghost use Rattle.dae_ir.specs.Streams.{Actions, mark, when, a_part, e_part, parts, message, gives_address, hears_check, e_last, a_group, e_group, group_of, only_fails_by, part_fails_by, all_fail_by, only_failure, hears_group};
 ghost use Rattle.dae_ir.specs.declared.stream.Action.{Action};
 ghost use Rattle.dae_split.specs.Making.{is_a, Adds, message_at};
 
 use crate::classes::class;
 use crate::work::Task;
-use dae_base::{Items, Place, Side};
-use dae_ir::{Action, Class, Last, Mark, Operand, Part, Step};
+use dae_base::{Items, Place, Side, Width};
+use dae_ir::{Action, Check, Class, Failure, Last, Mark, Operand, Part, Step};
 use std::alloc::AllocError;
 
 /// Appends an action, where the flag says so.
@@ -138,6 +138,54 @@ fn first_check(group: &[Part]) -> Option<Place>
     None
 }
 
+fn only_fails_by(failure: Failure, check: Check) -> bool
+    ensures { result ≡ only_fails_by failure check }
+{
+    match failure {
+        Failure::OutOfBounds => match check {
+            Check::Place(width, _) => matches!(width, Width::B1),
+            Check::Zero(_) | Check::Room(_) | Check::Frame | Check::Abort => false,
+        },
+        Failure::OutOfRoom => match check {
+            Check::Room(_) | Check::Frame => true,
+            Check::Place(..) | Check::Zero(_) | Check::Abort => false,
+        },
+    }
+}
+
+fn part_fails_by(failure: Failure, part: Part) -> bool
+    ensures { result ≡ part_fails_by failure part }
+{
+    match part {
+        Part::Sets(..) | Part::Loads(..) => true,
+        Part::Tests(_, check) => only_fails_by(failure, check),
+    }
+}
+
+fn all_fail_by(failure: Failure, group: &[Part]) -> bool
+    ensures { result ≡ all_fail_by failure group.now }
+{
+    for part in group {
+        if !part_fails_by(failure, *part) {
+            return false;
+        }
+    }
+    true
+}
+
+/// How the checks of a group can fail, where that is in one way alone.
+fn only_failure(group: &[Part]) -> Option<Failure>
+    ensures { result ≡ only_failure group.now }
+{
+    if all_fail_by(Failure::OutOfBounds, group) {
+        Some(Failure::OutOfBounds)
+    } else if all_fail_by(Failure::OutOfRoom, group) {
+        Some(Failure::OutOfRoom)
+    } else {
+        None
+    }
+}
+
 fn put_message(
     steps: &mut Vec<Step>,
     number: u64,
@@ -150,6 +198,13 @@ fn put_message(
         Some(place) => put(steps, true, at(place, number), action),
         None => Ok(()),
     }
+}
+
+fn put_group_hear(steps: &mut Vec<Step>, number: u64, group: &[Part]) -> Result<(), AllocError>
+    ensures { OnOk result (Adds (hears_group number group.now) steps.old.items steps.new.items) }
+{
+    let action = Action::Hear(only_failure(group));
+    put_message(steps, number, action, group)
 }
 
 fn put_address(steps: &mut Vec<Step>, number: u64, last: Last) -> Result<(), AllocError>
@@ -172,7 +227,7 @@ fn put_hear(steps: &mut Vec<Step>, number: u64, last: Last) -> Result<(), AllocE
     ensures { OnOk result (Adds (hears_check number last) steps.old.items steps.new.items) }
 {
     match last {
-        Last::Decides(place, _) => put(steps, true, at(place, number), Action::Hear),
+        Last::Decides(place, _) => put(steps, true, at(place, number), Action::Hear(None)),
         Last::Nothing | Last::Stores(..) | Last::Prints(..) => Ok(()),
     }
 }
@@ -234,7 +289,7 @@ fn put_e_group(
         (Adds (e_group
         (classes_of tables.now function) number group.now last) steps.old.items steps.new.items) }
 {
-    put_message(steps, number, Action::Hear, group)?;
+    put_group_hear(steps, number, group)?;
     put_e_parts(steps, tables, function, number, group)?;
     put_e_last(steps, number, last)
 }

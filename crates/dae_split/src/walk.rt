@@ -39,7 +39,7 @@ fn region_message(side: Side) -> Action
 {
     match side {
         Side::A => Action::Tell(Operand::Number(0)),
-        Side::E => Action::Hear,
+        Side::E => Action::Hear(None),
     }
 }
 

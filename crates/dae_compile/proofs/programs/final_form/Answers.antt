@@ -1,7 +1,7 @@
 use Rattle.std.proofs.Common.{◌∙◌}
 use Rattle.dae_alias.specs.Forms.{KeepsForm}
 use Rattle.dae_compile.proofs.Fitting.{room_later}
-use Rattle.dae_compile.proofs.Passes.{IsBehind, final_later, passes_before, renamed_behind, up_to_commons}
+use Rattle.dae_compile.proofs.Passes.{IsBehind, final_later, passes_before, renamed_behind, up_to_checks, up_to_commons}
 use Rattle.dae_compile.proofs.Prepared.{all_reusable, functions_small, passes_prepared}
 use Rattle.dae_compile.proofs.programs.final_form.Goals as goal
 
@@ -15,17 +15,25 @@ pub without_known_checks-requires : goal.without_known_checks-requires
 without_known_checks-requires c =
     let common = c.in_ok-common.common in
     let made = c.in_ok-lowered.ensures in
-    let one = up_to_commons c.in_ok-lowered.lowered c.in_ok-renamed.renamed common common c.forms_are_renamed.ensures c.forms_are_commoned.ensures made.scoped c.in_ok-renamed.ensures c.in_ok-common.ensures in
+    let one = up_to_commons c.in_ok-lowered.lowered c.in_ok-renamed.renamed common common common c.forms_are_renamed.ensures c.forms_are_commoned.ensures made.scoped c.in_ok-renamed.ensures c.in_ok-common.ensures in
+    one.scoped
+
+pub with_sums_at_accesses-requires : goal.with_sums_at_accesses-requires
+with_sums_at_accesses-requires c =
+    let bare = c.in_ok-bare.bare in
+    let made = c.in_ok-lowered.ensures in
+    let one = up_to_checks c.in_ok-lowered.lowered c.in_ok-renamed.renamed c.in_ok-common.common bare bare c.forms_are_renamed.ensures c.forms_are_commoned.ensures c.checks_are_elided.ensures made.scoped
+    c.in_ok-renamed.ensures c.in_ok-common.ensures c.in_ok-bare.ensures in
     one.scoped
 
 pub reuse_loads-requires : goal.reuse_loads-requires
 reuse_loads-requires c =
     let lowered = c.in_ok-lowered.lowered in
-    let bare = c.in_ok-bare.bare in
+    let near = c.in_ok-near.near in
     let made = c.in_ok-lowered.ensures in
-    let prepared = passes_prepared lowered c.in_ok-renamed.renamed c.in_ok-common.common bare c.renaming_keeps_sizes.ensures c.commoning_keeps_counts.ensures c.elision_keeps_sizes.ensures
-    c.in_ok-renamed.ensures c.in_ok-common.ensures c.in_ok-bare.ensures in
-    all_reusable lowered.functions bare.functions prepared (c.requires.variables lowered made.lowered)
+    let prepared = passes_prepared lowered c.in_ok-renamed.renamed c.in_ok-common.common c.in_ok-bare.bare near c.renaming_keeps_sizes.ensures c.commoning_keeps_counts.ensures c.elision_keeps_sizes.ensures
+    c.in_ok-renamed.ensures c.in_ok-common.ensures c.in_ok-bare.ensures c.in_ok-near.ensures in
+    all_reusable lowered.functions near.functions prepared (c.requires.variables lowered made.lowered)
 
 pub returns-clause-made : goal.returns-clause-made
 returns-clause-made c =
@@ -33,19 +41,20 @@ returns-clause-made c =
     let named = c.in_ok-renamed.renamed in
     let common = c.in_ok-common.common in
     let bare = c.in_ok-bare.bare in
+    let near = c.in_ok-near.near in
     let ir = c.in_ok-ir.ir in
     let made = c.in_ok-lowered.ensures in
     let reused = c.in_ok-ir.ensures in
-    let before : IsBehind lowered bare = passes_before lowered named common bare c.forms_are_renamed.ensures c.forms_are_commoned.ensures c.checks_are_elided.ensures made.scoped
-    c.in_ok-renamed.ensures c.in_ok-common.ensures c.in_ok-bare.ensures in
-    let keeps : KeepsForm bare ir = c.forms_are_reused.ensures bare ir before.scoped reused in
-    let prepared = passes_prepared lowered named common bare c.renaming_keeps_sizes.ensures c.commoning_keeps_counts.ensures c.elision_keeps_sizes.ensures
-    c.in_ok-renamed.ensures c.in_ok-common.ensures c.in_ok-bare.ensures in
+    let before : IsBehind lowered near = passes_before lowered named common bare near c.forms_are_renamed.ensures c.forms_are_commoned.ensures c.checks_are_elided.ensures made.scoped
+    c.in_ok-renamed.ensures c.in_ok-common.ensures c.in_ok-bare.ensures c.in_ok-near.ensures in
+    let keeps : KeepsForm near ir = c.forms_are_reused.ensures near ir before.scoped reused in
+    let prepared = passes_prepared lowered named common bare near c.renaming_keeps_sizes.ensures c.commoning_keeps_counts.ensures c.elision_keeps_sizes.ensures
+    c.in_ok-renamed.ensures c.in_ok-common.ensures c.in_ok-bare.ensures c.in_ok-near.ensures in
     record {
       first = lowered;
       lowered = made.lowered;
-      later = final_later lowered bare ir before reused keeps;
-      small = functions_small c.reuse_stays_small.ensures lowered.functions bare.functions ir.functions prepared reused.functions;
+      later = final_later lowered near ir before reused keeps;
+      small = functions_small c.reuse_stays_small.ensures lowered.functions near.functions ir.functions prepared reused.functions;
       no_second = keeps.no_second;
       depth = reused.calls ∙ before.calls ∙ made.calls;
     }
@@ -54,32 +63,35 @@ pub returns-clause-scoped : goal.returns-clause-scoped
 returns-clause-scoped c =
     let lowered = c.in_ok-lowered.lowered in
     let bare = c.in_ok-bare.bare in
+    let near = c.in_ok-near.near in
     let ir = c.in_ok-ir.ir in
     let made = c.in_ok-lowered.ensures in
-    let before : IsBehind lowered bare = passes_before lowered c.in_ok-renamed.renamed c.in_ok-common.common bare c.forms_are_renamed.ensures c.forms_are_commoned.ensures c.checks_are_elided.ensures made.scoped
-    c.in_ok-renamed.ensures c.in_ok-common.ensures c.in_ok-bare.ensures in
-    let keeps : KeepsForm bare ir = c.forms_are_reused.ensures bare ir before.scoped c.in_ok-ir.ensures in
+    let before : IsBehind lowered near = passes_before lowered c.in_ok-renamed.renamed c.in_ok-common.common bare near c.forms_are_renamed.ensures c.forms_are_commoned.ensures c.checks_are_elided.ensures made.scoped
+    c.in_ok-renamed.ensures c.in_ok-common.ensures c.in_ok-bare.ensures c.in_ok-near.ensures in
+    let keeps : KeepsForm near ir = c.forms_are_reused.ensures near ir before.scoped c.in_ok-ir.ensures in
     keeps.scoped
 
 pub returns-clause-first : goal.returns-clause-first
 returns-clause-first c =
     let lowered = c.in_ok-lowered.lowered in
     let bare = c.in_ok-bare.bare in
+    let near = c.in_ok-near.near in
     let ir = c.in_ok-ir.ir in
     let made = c.in_ok-lowered.ensures in
-    let before : IsBehind lowered bare = passes_before lowered c.in_ok-renamed.renamed c.in_ok-common.common bare c.forms_are_renamed.ensures c.forms_are_commoned.ensures c.checks_are_elided.ensures made.scoped
-    c.in_ok-renamed.ensures c.in_ok-common.ensures c.in_ok-bare.ensures in
-    let keeps : KeepsForm bare ir = c.forms_are_reused.ensures bare ir before.scoped c.in_ok-ir.ensures in
+    let before : IsBehind lowered near = passes_before lowered c.in_ok-renamed.renamed c.in_ok-common.common bare near c.forms_are_renamed.ensures c.forms_are_commoned.ensures c.checks_are_elided.ensures made.scoped
+    c.in_ok-renamed.ensures c.in_ok-common.ensures c.in_ok-bare.ensures c.in_ok-near.ensures in
+    let keeps : KeepsForm near ir = c.forms_are_reused.ensures near ir before.scoped c.in_ok-ir.ensures in
     keeps.first (before.first made.first)
 
 pub returns-clause-room : goal.returns-clause-room
 returns-clause-room c =
     let lowered = c.in_ok-lowered.lowered in
     let bare = c.in_ok-bare.bare in
+    let near = c.in_ok-near.near in
     let ir = c.in_ok-ir.ir in
     let made = c.in_ok-lowered.ensures in
     let reused = c.in_ok-ir.ensures in
-    let before : IsBehind lowered bare = passes_before lowered c.in_ok-renamed.renamed c.in_ok-common.common bare c.forms_are_renamed.ensures c.forms_are_commoned.ensures c.checks_are_elided.ensures made.scoped
-    c.in_ok-renamed.ensures c.in_ok-common.ensures c.in_ok-bare.ensures in
-    let keeps : KeepsForm bare ir = c.forms_are_reused.ensures bare ir before.scoped reused in
-    room_later _ lowered ir (final_later lowered bare ir before reused keeps) made.room
+    let before : IsBehind lowered near = passes_before lowered c.in_ok-renamed.renamed c.in_ok-common.common bare near c.forms_are_renamed.ensures c.forms_are_commoned.ensures c.checks_are_elided.ensures made.scoped
+    c.in_ok-renamed.ensures c.in_ok-common.ensures c.in_ok-bare.ensures c.in_ok-near.ensures in
+    let keeps : KeepsForm near ir = c.forms_are_reused.ensures near ir before.scoped reused in
+    room_later _ lowered ir (final_later lowered near ir before reused keeps) made.room

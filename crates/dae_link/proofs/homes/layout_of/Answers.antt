@@ -31,6 +31,7 @@ returns-clause-layout c =
       registers = subst (λ (hs : List Home). AreFew 18 (function_lives parameters (actions_of c.args.function.now.body)) → (v : ℕ) → IsRegister (home_in hs v)) (sym c.from_vec.ensures)
           (subst (λ (b : List Step). AreFew 18 (function_lives parameters (actions_of b)) → (v : ℕ) → IsRegister (home_in homes v)) c.as_slice.ensures c.in_ok-homes.ensures.registers);
       frame = refl;
+      leaf = c.is_leaf_function.ensures;
       entry = refl;
     }
 

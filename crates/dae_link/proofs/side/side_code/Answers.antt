@@ -23,14 +23,14 @@ returns-then-len-clause-err c = λ same. (let t = c.if-len.true in let l = c.len
 pub returns-then-not-are_numberable-clause-err : goal.returns-then-not-are_numberable-clause-err
 returns-then-not-are_numberable-clause-err c = λ same. too_many_places c.args.stream.now (sym c.are_numberable.ensures ∙ c.if-not-are_numberable.true)
 
-pub unplaced_layouts-requires : goal.unplaced_layouts-requires
-unplaced_layouts-requires c = sym c.are_numberable.ensures ∙ c.if-not-are_numberable.false
+pub settled_layouts-requires-clause-numberable : goal.settled_layouts-requires-clause-numberable
+settled_layouts-requires-clause-numberable c = sym c.are_numberable.ensures ∙ c.if-not-are_numberable.false
 
 pub returns-clause-code : goal.returns-clause-code
 returns-clause-code c =
     let stream = c.args.stream.now in let all = c.in_ok-layouts.layouts in
     let words : c.from_vec.result ≡ map encoded (code_at stream all) = c.from_vec.ensures ∙ c.in_ok-encode_all.ensures.words ∙ ap (map encoded) (c.as_slice.ensures.value ∙ c.in_ok-code.ensures.code) in
-    subst (λ (ws : List ℕ). IsCodeOf stream ws all.private) (sym words) (code_made stream all c.in_ok-layouts.ensures.layouts c.in_ok-code.ensures.ends c.requires)
+    subst (λ (ws : List ℕ). IsCodeOf stream ws all.private) (sym words) (code_made stream all c.in_ok-layouts.ensures.layouts c.in_ok-code.ensures.ends c.requires c.in_ok-layouts.ensures.reached)
 
 pub returns-clause-few : goal.returns-clause-few
 returns-clause-few c =

@@ -1,15 +1,11 @@
-use Rattle.std.proofs.Common.{◌≡◌, ℕ, Bool, ◌+◌, ◌++◌, List, length, ap, sym, subst, ◌∙◌, append_assoc, length-append, arith}
+use Rattle.std.proofs.Common.{◌≡◌, ℕ, Bool, ◌+◌, ◌++◌, List, length, ap, sym, subst, ◌∙◌, length-append, arith}
 use Rattle.dae_encode.specs.declared.Inst.{Inst}
 use Rattle.dae_ir.specs.Classes.{VariableSet}
 use Rattle.dae_ir.specs.Streams.{actions_of}
-use Rattle.dae_ir.specs.declared.form.Operand.TheVariants.{Number}
-use Rattle.std.specs.Prelude.{Some}
-use Rattle.dae_select_walks.specs.declared.Home.{Home}
 use Rattle.dae_select_walks.specs.Live.{live, nowhere}
 use Rattle.dae_select_walks.specs.Facts.{unknown}
 use Rattle.dae_select_live.specs.Members.{member}
-use Rattle.dae_select_blocks.specs.Blocks.{leave_code}
-use Rattle.dae_select_blocks.specs.Code.{code_of, entry_code}
+use Rattle.dae_select_blocks.specs.Code.{entry_code}
 use Rattle.dae_select.specs.Grown.{Grown, from_front, StandWithin}
 use Rattle.dae_select.specs.declared.growing.PlacedWord.{PlacedWord}
 use Rattle.dae_select_walks.specs.declared.Standing.TheVariants.{Settled}
@@ -24,14 +20,11 @@ pub returns-clause-code : goal.returns-clause-code
 returns-clause-code c =
     let a = c.args in
     let P = plan_of a.layouts.now in let V = variables_of a.layouts.now in let f = a.function in
-    let last : (ℕ → Home) → List Inst = λ home. leave_code home (Some (Number 0)) in
     let entry : VariableSet → List Inst = λ l. entry_code P V f l in
     let first = c.in_ok-entry_code.ensures ∙ ap (λ (l : List Inst). l ++ entry (member c.in_ok-live.live)) c.new-code.ensures.items ∙ ap entry c.in_ok-live.ensures.live in
     let middle = c.as_slice.ensures.value ∙ c.into_vec.ensures ∙ ap (λ (g : Grown). g.code) c.in_ok-live.ensures.code
     ∙ ap (λ (b : Bool). (marked_code b P V f Settled unknown (actions_of a.body.now) nowhere 0 0).code) c.jumps_in.ensures ∙ same_code (is_short (actions_of a.body.now)) P V f Settled unknown (actions_of a.body.now) nowhere 0 0 in
-    c.in_ok-leave_code.ensures ∙ ap (λ (home : ℕ → Home). c.extend_from_slice.new.self.items ++ last home) c.homes-homes.ensures.homes
-    ∙ ap (λ (l : List Inst). l ++ last (P.home f)) (c.in_ok-extend_from_slice.ensures.items ∙ ap (λ (l : List Inst). l ++ c.as_slice.result.now) first ∙ ap (λ (l : List Inst). entry (live (actions_of a.body.now) nowhere) ++ l) middle)
-    ∙ append_assoc (entry (live (actions_of a.body.now) nowhere)) (code_of (is_short (actions_of a.body.now)) P V f Settled unknown (actions_of a.body.now) nowhere 0 0) (last (P.home f))
+    c.in_ok-extend_from_slice.ensures.items ∙ ap (λ (l : List Inst). l ++ c.as_slice.result.now) first ∙ ap (λ (l : List Inst). entry (live (actions_of a.body.now) nowhere) ++ l) middle
 
 pub returns-clause-entry : goal.returns-clause-entry
 returns-clause-entry c =
@@ -58,12 +51,11 @@ returns-clause-places c =
 pub returns-clause-within : goal.returns-clause-within
 returns-clause-within c =
     let body = c.body_code.new.code in
-    let words = c.entry_code.new.code.items in let longer = c.extend_from_slice.new.self.items in let all = c.leave_code.new.code.items in
+    let words = c.entry_code.new.code.items in let all = c.extend_from_slice.new.self.items in
     let end = c.len-entry.result + length body.code in
     let l = c.len-entry.ensures in
     let entry : c.len-entry.result ≡ length words = omega arith in
     let actions = ap length (c.as_slice.ensures.value ∙ c.into_vec.ensures) in
     let behind = ap length c.in_ok-extend_from_slice.ensures.items ∙ length-append words c.as_slice.result.now in
-    let last = ap length c.in_ok-leave_code.ensures ∙ length-append longer _ in
     subst (λ (ps : List PlacedWord). StandWithin (length all) ps) (sym c.in_ok-places.ensures)
-    (wider end (length all) (from_front end body.places) (omega (arith, entry, actions, behind, last)) (front_within end body.places))
+    (wider end (length all) (from_front end body.places) (omega (arith, entry, actions, behind)) (front_within end body.places))
