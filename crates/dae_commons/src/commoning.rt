@@ -10,6 +10,7 @@ use crate::copies::{
     propagate_test, propagate_value,
 };
 use crate::equations::{Equation, equations_in, meet, with_equation, without_variable};
+use crate::setting::known_in_loop;
 use dae_base::Items;
 use dae_ir::{Class, Item, Statement, Value};
 use std::alloc::{AllocError, Global};
@@ -196,12 +197,12 @@ fn common_statement(
             })
         }
         Statement::Loop(place, body, step) => {
-            let nothing = Items::new(alloc);
-            let first = common_list(alloc, row, nothing.as_slice(), body)?;
-            let second = common_list(alloc, row, nothing.as_slice(), step)?;
+            let inside = known_in_loop(alloc, equations, body, step)?;
+            let first = common_list(alloc, row, inside.as_slice(), body)?;
+            let second = common_list(alloc, row, inside.as_slice(), step)?;
             Ok(CommonedStatement {
                 statement: Statement::Loop(*place, first.statements, second.statements),
-                known: Some(nothing),
+                known: Some(inside),
             })
         }
     }

@@ -10,5 +10,6 @@ mod commoning;
 mod copies;
 mod equations;
 mod needs;
+mod setting;
 mod theorems;
 mod whole;
