@@ -63,8 +63,7 @@ common_statement-returns-in_ok-second-in-Loop t c =
     let p = c.in_ok-first-in-Loop.first in
     let q = c.in_ok-second-in-Loop.second in
     let r : List Equation = c.in_ok-inside-in-Loop.inside in
-    let is : r ≡ known_in_loop (equations_in old) (form_of w.body.items) (form_of w.step.items) =
-    in_loop _ (equations_in old) _ w.body.items _ w.step.items r c.in_ok-inside-in-Loop.ensures c.equations_in-equations.ensures c.deref-in-Loop.ensures.value c.deref-in-Loop-2.ensures.value in
+    let is : r ≡ known_in_loop (equations_in old) (form_of w.body.items) (form_of w.step.items) = in_loop _ (equations_in old) _ w.body.items _ w.step.items r c.in_ok-inside-in-Loop.ensures c.equations_in-equations.ensures c.deref-in-Loop.ensures.value c.deref-in-Loop-2.ensures.value in
     let first : IsCommonedList s w.body.items r p.statements.items p.known = listed s _ _ _ _ _ _ _ c.in_ok-first-in-Loop.ensures c.deref-in-Loop-3.ensures.value c.as_slice-in-Loop.ensures refl in
     let second : IsCommonedList s w.step.items r q.statements.items q.known = listed s _ _ _ _ _ _ _ c.in_ok-second-in-Loop.ensures c.deref-in-Loop-4.ensures.value c.as_slice-in-Loop-2.ensures refl in
     subst (λ (x : Statement). IsCommonedTo s x old (Some r) (statement.Loop w.place p.statements q.statements)) (sym w.is)
