@@ -10,17 +10,20 @@ ghost use Rattle.dae_compile.specs.Passes.{IsWithoutCommons};
 use dae_alias::{ReuseError, reuse};
 use dae_commons::eliminate_commons;
 use dae_elide::elide_checks;
+use dae_hoist::hoist_invariants;
 use dae_ir::Ir;
 use dae_slice::classes;
 use std::alloc::{AllocError, Global};
 
-/// The form without its common subexpressions, by its least classes. An error is want of memory.
+/// The form without its common subexpressions, by its least classes, where what doesn't change in loops is computed before them. An
+/// error is want of memory.
 pub fn without_commons(alloc: Global, ir: Ir) -> Result<Ir, AllocError>
     requires { IsScoped ir }
     ensures { IfOk result (IsWithoutCommons ir) }
 {
     let tables = classes(alloc, &ir)?;
-    let new = eliminate_commons(alloc, ir, tables.as_slice())?;
+    let form = hoist_invariants(alloc, ir, tables.as_slice())?;
+    let new = eliminate_commons(alloc, form.ir, form.tables.as_slice())?;
     Ok(new)
 }
 

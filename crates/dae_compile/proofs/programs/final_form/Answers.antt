@@ -15,7 +15,7 @@ pub without_known_checks-requires : goal.without_known_checks-requires
 without_known_checks-requires c =
     let common = c.in_ok-common.common in
     let made = c.in_ok-lowered.ensures in
-    let one = up_to_commons c.in_ok-lowered.lowered c.in_ok-renamed.renamed common common c.forms_are_renamed.ensures c.forms_are_commoned.ensures made.scoped c.in_ok-renamed.ensures c.in_ok-common.ensures in
+    let one = up_to_commons c.in_ok-lowered.lowered c.in_ok-renamed.renamed common common c.forms_are_renamed.ensures c.forms_are_hoisted.ensures c.forms_are_commoned.ensures made.scoped c.in_ok-renamed.ensures c.in_ok-common.ensures in
     one.scoped
 
 pub reuse_loads-requires : goal.reuse_loads-requires
@@ -23,7 +23,7 @@ reuse_loads-requires c =
     let lowered = c.in_ok-lowered.lowered in
     let bare = c.in_ok-bare.bare in
     let made = c.in_ok-lowered.ensures in
-    let prepared = passes_prepared lowered c.in_ok-renamed.renamed c.in_ok-common.common bare c.renaming_keeps_sizes.ensures c.commoning_keeps_counts.ensures c.elision_keeps_sizes.ensures
+    let prepared = passes_prepared lowered c.in_ok-renamed.renamed c.in_ok-common.common bare c.renaming_keeps_sizes.ensures c.hoisting_keeps_sizes.ensures c.commoning_keeps_counts.ensures c.elision_keeps_sizes.ensures
     c.in_ok-renamed.ensures c.in_ok-common.ensures c.in_ok-bare.ensures in
     all_reusable lowered.functions bare.functions prepared (c.requires.variables lowered made.lowered)
 
@@ -36,10 +36,10 @@ returns-clause-made c =
     let ir = c.in_ok-ir.ir in
     let made = c.in_ok-lowered.ensures in
     let reused = c.in_ok-ir.ensures in
-    let before : IsBehind lowered bare = passes_before lowered named common bare c.forms_are_renamed.ensures c.forms_are_commoned.ensures c.checks_are_elided.ensures made.scoped
+    let before : IsBehind lowered bare = passes_before lowered named common bare c.forms_are_renamed.ensures c.forms_are_hoisted.ensures c.forms_are_commoned.ensures c.checks_are_elided.ensures made.scoped
     c.in_ok-renamed.ensures c.in_ok-common.ensures c.in_ok-bare.ensures in
     let keeps : KeepsForm bare ir = c.forms_are_reused.ensures bare ir before.scoped reused in
-    let prepared = passes_prepared lowered named common bare c.renaming_keeps_sizes.ensures c.commoning_keeps_counts.ensures c.elision_keeps_sizes.ensures
+    let prepared = passes_prepared lowered named common bare c.renaming_keeps_sizes.ensures c.hoisting_keeps_sizes.ensures c.commoning_keeps_counts.ensures c.elision_keeps_sizes.ensures
     c.in_ok-renamed.ensures c.in_ok-common.ensures c.in_ok-bare.ensures in
     record {
       first = lowered;
@@ -56,7 +56,7 @@ returns-clause-scoped c =
     let bare = c.in_ok-bare.bare in
     let ir = c.in_ok-ir.ir in
     let made = c.in_ok-lowered.ensures in
-    let before : IsBehind lowered bare = passes_before lowered c.in_ok-renamed.renamed c.in_ok-common.common bare c.forms_are_renamed.ensures c.forms_are_commoned.ensures c.checks_are_elided.ensures made.scoped
+    let before : IsBehind lowered bare = passes_before lowered c.in_ok-renamed.renamed c.in_ok-common.common bare c.forms_are_renamed.ensures c.forms_are_hoisted.ensures c.forms_are_commoned.ensures c.checks_are_elided.ensures made.scoped
     c.in_ok-renamed.ensures c.in_ok-common.ensures c.in_ok-bare.ensures in
     let keeps : KeepsForm bare ir = c.forms_are_reused.ensures bare ir before.scoped c.in_ok-ir.ensures in
     keeps.scoped
@@ -67,7 +67,7 @@ returns-clause-first c =
     let bare = c.in_ok-bare.bare in
     let ir = c.in_ok-ir.ir in
     let made = c.in_ok-lowered.ensures in
-    let before : IsBehind lowered bare = passes_before lowered c.in_ok-renamed.renamed c.in_ok-common.common bare c.forms_are_renamed.ensures c.forms_are_commoned.ensures c.checks_are_elided.ensures made.scoped
+    let before : IsBehind lowered bare = passes_before lowered c.in_ok-renamed.renamed c.in_ok-common.common bare c.forms_are_renamed.ensures c.forms_are_hoisted.ensures c.forms_are_commoned.ensures c.checks_are_elided.ensures made.scoped
     c.in_ok-renamed.ensures c.in_ok-common.ensures c.in_ok-bare.ensures in
     let keeps : KeepsForm bare ir = c.forms_are_reused.ensures bare ir before.scoped c.in_ok-ir.ensures in
     keeps.first (before.first made.first)
@@ -79,7 +79,7 @@ returns-clause-room c =
     let ir = c.in_ok-ir.ir in
     let made = c.in_ok-lowered.ensures in
     let reused = c.in_ok-ir.ensures in
-    let before : IsBehind lowered bare = passes_before lowered c.in_ok-renamed.renamed c.in_ok-common.common bare c.forms_are_renamed.ensures c.forms_are_commoned.ensures c.checks_are_elided.ensures made.scoped
+    let before : IsBehind lowered bare = passes_before lowered c.in_ok-renamed.renamed c.in_ok-common.common bare c.forms_are_renamed.ensures c.forms_are_hoisted.ensures c.forms_are_commoned.ensures c.checks_are_elided.ensures made.scoped
     c.in_ok-renamed.ensures c.in_ok-common.ensures c.in_ok-bare.ensures in
     let keeps : KeepsForm bare ir = c.forms_are_reused.ensures bare ir before.scoped reused in
     room_later _ lowered ir (final_later lowered bare ir before reused keeps) made.room
