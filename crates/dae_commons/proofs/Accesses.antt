@@ -17,7 +17,7 @@ use Rattle.dae_ir.specs.declared.form.Check.TheVariants.{Place as Good, Zero, Ro
 use Rattle.dae_ir.specs.declared.form.Item.{Item}
 use Rattle.dae_ir.specs.declared.form.Item.TheVariants.{Assign, Load, Store, Print, Expect, Break, Continue, Call, Return, Halt}
 use Rattle.dae_commons.specs.declared.equations.Equation.{Equation}
-use Rattle.dae_commons.specs.Equations.{equations_in}
+use Rattle.dae_commons.specs.Equations.{equations_in, known_in_loop}
 use Rattle.dae_commons.specs.Copies.{are_alike, source_in, is_copy, copy_source, propagated_operand, propagated_operands, propagated_test, propagated_value, holds_already, held_value, is_operand, computed_once}
 use Rattle.dae_commons.specs.Sums.{is_itself, fits_offset, base_sum_or, as_sum_or, held_sum, computed_again, assigned_value}
 use Rattle.dae_commons.specs.Commoned.{commoned_item, known_behind_both, commoned_code, known_after}
@@ -122,4 +122,4 @@ module _ (c : Classes) where
     code_kept Done q h = tt
     code_kept (Do place item k) q h = (item_kept q item h.0, code_kept k (equations_in (known_after c q item)) h.1)
     code_kept (If place t x y k) q h = (tt, code_kept x q h.1, code_kept y q h.2, code_kept k (equations_in (known_behind_both c q x y)) h.3)
-    code_kept (Loop place x y k) q h = (code_kept x [] h.0, code_kept y [] h.1, code_kept k [] h.2)
+    code_kept (Loop place x y k) q h = (code_kept x (known_in_loop q x y) h.0, code_kept y (known_in_loop q x y) h.1, code_kept k (known_in_loop q x y) h.2)

@@ -1,5 +1,5 @@
 -- Code without its common subexpressions is as large as before.
-use Rattle.std.proofs.Common.{◌≡◌, ℕ, ◌+◌, List, [], refl, ap}
+use Rattle.std.proofs.Common.{◌≡◌, ℕ, ◌+◌, List, refl, ap}
 use Rattle.dae_ir.specs.Code.{Done, Do, If, Loop}
 use Rattle.dae_ir.specs.Form.{Form}
 use Rattle.dae_ir.specs.Classes.{Classes}
@@ -8,7 +8,7 @@ use Rattle.dae_ir.specs.declared.form.Item.{Item}
 use Rattle.dae_ir.specs.declared.form.Item.TheVariants.{Assign, Load, Store, Print, Expect, Break, Continue, Call, Return, Halt}
 use Rattle.dae_ir.specs.declared.form.Test.{Test}
 use Rattle.dae_commons.specs.declared.equations.Equation.{Equation}
-use Rattle.dae_commons.specs.Equations.{equations_in}
+use Rattle.dae_commons.specs.Equations.{equations_in, known_in_loop}
 use Rattle.dae_commons.specs.Commoned.{known_behind_both, commoned_code, known_after}
 use Rattle.dae_commons.specs.Laws.{CountsAlike, CountsTestsAlike, CommoningKeepsCounts}
 use Rattle.dae_commons.proofs.Truth.{same_length}
@@ -18,14 +18,14 @@ module _ (c : Classes) (f : Item → ℕ) (items : CountsAlike c f) where
   size_same Done q = refl
   size_same (Do place item k) q = rw (items q item, size_same k (equations_in (known_after c q item))) refl
   size_same (If place t x y k) q = rw (size_same x q, size_same y q, size_same k (equations_in (known_behind_both c q x y))) refl
-  size_same (Loop place x y k) q = rw (size_same x [], size_same y [], size_same k []) refl
+  size_same (Loop place x y k) q = rw (size_same x (known_in_loop q x y), size_same y (known_in_loop q x y), size_same k (known_in_loop q x y)) refl
 
   module _ (h : Test → ℕ) (tests : CountsTestsAlike c h) where
     pub tally_same : (code : Form) (q : List Equation) → tally f h (commoned_code c q code) ≡ tally f h code
     tally_same Done q = refl
     tally_same (Do place item k) q = rw (items q item, tally_same k (equations_in (known_after c q item))) refl
     tally_same (If place t x y k) q = rw (tests q t, tally_same x q, tally_same y q, tally_same k (equations_in (known_behind_both c q x y))) refl
-    tally_same (Loop place x y k) q = rw (tally_same x [], tally_same y [], tally_same k []) refl
+    tally_same (Loop place x y k) q = rw (tally_same x (known_in_loop q x y), tally_same y (known_in_loop q x y), tally_same k (known_in_loop q x y)) refl
 
 weight_same : (c : Classes) → CountsAlike c item_weight
 weight_same c q (Assign v x) = refl

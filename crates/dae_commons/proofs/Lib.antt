@@ -1,5 +1,6 @@
 pub mod Values
 pub mod Lists
+pub mod Sparing
 pub mod Truth
 pub mod Meaning
 pub mod Accesses

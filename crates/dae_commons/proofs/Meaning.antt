@@ -16,12 +16,13 @@ use Rattle.dae_ir.specs.declared.form.Item.{Item}
 use Rattle.dae_ir.specs.declared.form.Item.TheVariants.{Assign, Load, Store, Print, Expect, Break, Continue, Call, Return, Halt}
 use Rattle.dae_ir.proofs.Laws.{same_room}
 use Rattle.dae_commons.specs.declared.equations.Equation.{Equation}
-use Rattle.dae_commons.specs.Equations.{AreTrue, without_variable, with_equation, equations_in, met}
+use Rattle.dae_commons.specs.Equations.{AreTrue, without_variable, with_equation, equations_in, met, known_in_loop}
 use Rattle.dae_commons.specs.Copies.{propagated_operands, propagated_check, is_operand}
 use Rattle.dae_commons.specs.Sums.{is_itself, assigned_value}
 use Rattle.dae_commons.specs.Commoned.{commoned_item, known_behind, commoned_code, known_after}
 use Rattle.dae_commons.proofs.Lists.{first_all, second_all}
-use Rattle.dae_commons.proofs.Truth.{Solves, true_without, true_with, true_itself, value_same, holds_same, assigned_same, values_alike, same_length}
+use Rattle.dae_commons.proofs.Truth.{Solves, true_without, true_with, true_itself, value_same, holds_same, assigned_same, values_alike, same_length, true_spared}
+use Rattle.dae_commons.proofs.Sparing.{AreNone, SparesItem, Spares, loop_all, body_spared, step_spared}
 
 -- ---- what goes on alike is alike
 
@@ -65,33 +66,74 @@ then_same P (At Skips e w) g h p same = refl
 then_same P (At Returns e w) g h p same = refl
 then_same P (Over end w) g h p same = refl
 
-abbrev Same : Run Env → Run Env → Type 0
-Same g h = (e : Env) (w : World) → g e w ≡ h e w
+-- it holds wherever the result isn't the end
+abbrev StaysIn : Property → Result Env → Type 0
+StaysIn P (At Next e w) = P e w
+StaysIn P (At Leaves e w) = P e w
+StaysIn P (At Skips e w) = P e w
+StaysIn P (At Returns e w) = Unit {0}
+StaysIn P (Over end w) = Unit {0}
 
-any_then : (r : Result Env) (g h : Run Env) → Same g h → (r ▷ g) ≡ (r ▷ h)
-any_then (At Next e w) g h same = same e w
-any_then (At Leaves e w) g h same = refl
-any_then (At Skips e w) g h same = refl
-any_then (At Returns e w) g h same = refl
-any_then (Over end w) g h same = refl
+abbrev Stays : Property → Run Env → Type 0
+Stays P g = (e : Env) (w : World) → P e w → StaysIn P (g e w)
 
--- a loop's body or step
-turn_same : (r : Result Env) (g h : Run Env) → Same g h → (r ↻ g) ≡ (r ↻ h)
-turn_same (At Next e w) g h same = same e w
-turn_same (At Leaves e w) g h same = refl
-turn_same (At Skips e w) g h same = same e w
-turn_same (At Returns e w) g h same = refl
-turn_same (Over end w) g h same = refl
+stays_then : (P : Property) (r : Result Env) (g : Run Env) → StaysIn P r → Stays P g → StaysIn P (r ▷ g)
+stays_then P (At Next e w) g h stays = stays e w h
+stays_then P (At Leaves e w) g h stays = h
+stays_then P (At Skips e w) g h stays = h
+stays_then P (At Returns e w) g h stays = tt
+stays_then P (Over end w) g h stays = tt
 
-module _ (b s b' s' : Run Env) (bodies : Same b' b) (steps : Same s' s) where
-  mutual_step : (n : ℕ) → Same (turns b' s' n) (turns b s n) → (e : Env) (w : World) → (s' e w ↻ turns b' s' n) ≡ (s e w ↻ turns b s n)
-  mutual_step n rest e w = ap (λ (r : Result Env). r ↻ turns b' s' n) (steps e w) ∙ turn_same (s e w) (turns b' s' n) (turns b s n) rest
+stays_turn : (P : Property) (r : Result Env) (g : Run Env) → StaysIn P r → Stays P g → StaysIn P (r ↻ g)
+stays_turn P (At Next e w) g h stays = stays e w h
+stays_turn P (At Leaves e w) g h stays = h
+stays_turn P (At Skips e w) g h stays = stays e w h
+stays_turn P (At Returns e w) g h stays = tt
+stays_turn P (Over end w) g h stays = tt
 
-  turns_same : (n : ℕ) → Same (turns b' s' n) (turns b s n)
-  turns_same zero e w = refl
-  turns_same (suc n) e w =
-      ap (λ (r : Result Env). r ↻ (λ (e : Env) (w : World). s' e w ↻ turns b' s' n)) (bodies e (ticked w))
-      ∙ turn_same (b e (ticked w)) (λ (e : Env) (w : World). s' e w ↻ turns b' s' n) (λ (e : Env) (w : World). s e w ↻ turns b s n) (mutual_step n (turns_same n))
+stays_goes : (P : Property) (r : Result Env) → StaysIn P r → GoesTo P r
+stays_goes P (At Next e w) h = h
+stays_goes P (At Leaves e w) h = tt
+stays_goes P (At Skips e w) h = tt
+stays_goes P (At Returns e w) h = tt
+stays_goes P (Over end w) h = tt
+
+stays_if : (P : Property) (b : Bool) (r s : Result Env) → StaysIn P r → StaysIn P s → StaysIn P (if b then r else s)
+stays_if P true r s h k = h
+stays_if P false r s h k = k
+
+stays_within : (P : Property) (o : Option ℕ) (w : World) (r : Result Env) → StaysIn P r → StaysIn P (within o w r)
+stays_within P None w r h = h
+stays_within P (Some code) w r h = tt
+
+stays_checked : (P : Property) (o : Option ℕ) (e : Env) (w : World) → P e w → StaysIn P (checked o e w)
+stays_checked P None e w h = h
+stays_checked P (Some code) e w h = tt
+
+turn_from : (P : Property) (r : Result Env) (g h : Run Env) → StaysIn P r → SameFrom P g h → (r ↻ g) ≡ (r ↻ h)
+turn_from P (At Next e w) g h p same = same e w p
+turn_from P (At Leaves e w) g h p same = refl
+turn_from P (At Skips e w) g h p same = same e w p
+turn_from P (At Returns e w) g h p same = refl
+turn_from P (Over end w) g h p same = refl
+
+-- P doesn't rest on how many items were done
+module _ (P : Property) (ticks : (e : Env) (w : World) → P e w → P e (ticked w)) (b s : Run Env) (body : Stays P b) (step : Stays P s) where
+  stays_turns : (n : ℕ) → Stays P (turns b s n)
+  stays_turns zero e w h = tt
+  stays_turns (suc n) e w h =
+      stays_turn P (b e (ticked w)) (λ (e : Env) (w : World). s e w ↻ turns b s n) (body e (ticked w) (ticks e w h))
+      (λ e w h. stays_turn P (s e w) (turns b s n) (step e w h) (stays_turns n))
+
+  module _ (b' s' : Run Env) (bodies : SameFrom P b' b) (steps : SameFrom P s' s) where
+    step_same : (n : ℕ) → SameFrom P (turns b' s' n) (turns b s n) → (e : Env) (w : World) → P e w → (s' e w ↻ turns b' s' n) ≡ (s e w ↻ turns b s n)
+    step_same n more e w h = ap (λ (r : Result Env). r ↻ turns b' s' n) (steps e w h) ∙ turn_from P (s e w) (turns b' s' n) (turns b s n) (step e w h) more
+
+    turns_same : (n : ℕ) → SameFrom P (turns b' s' n) (turns b s n)
+    turns_same zero e w h = refl
+    turns_same (suc n) e w h =
+        ap (λ (r : Result Env). r ↻ (λ (e : Env) (w : World). s' e w ↻ turns b' s' n)) (bodies e (ticked w) (ticks e w h))
+        ∙ turn_from P (b e (ticked w)) (λ (e : Env) (w : World). s' e w ↻ turns b' s' n) (λ (e : Env) (w : World). s e w ↻ turns b s n) (body e (ticked w) (ticks e w h)) (step_same n (turns_same n))
 
 if_same : (b : Bool) (r s r' s' : Result Env) → r' ≡ r → s' ≡ s → (if b then r' else s') ≡ (if b then r else s)
 if_same true r s r' s' h k = h
@@ -197,6 +239,51 @@ module _ (p q : Program) (frames : (g : ℕ) → q.frame g ≡ p.frame g) (limit
   item_goes (Return x) k e w t = tt
   item_goes (Halt x) k e w t = tt
 
+  -- ---- what involves nothing that is set
+
+  none_true : (k : List Equation) → AreNone k → (frame : ℕ) (e : Env) → AreTrue k frame e
+  none_true [] h frame e = tt
+  none_true (d ∷ k) h frame e = absurd h.0
+
+  none_stays : (k : List Equation) → AreNone k → (r : Result Env) → StaysIn (Truth (Some k)) r
+  none_stays k h (At Next e w) = none_true k h w.frame e
+  none_stays k h (At Leaves e w) = none_true k h w.frame e
+  none_stays k h (At Skips e w) = none_true k h w.frame e
+  none_stays k h (At Returns e w) = tt
+  none_stays k h (Over end w) = tt
+
+  item_stays : (k : List Equation) (item : Item) → SparesItem k item → Stays (Truth (Some k)) (does p every calls item)
+  item_stays k (Assign v x) spared e w t = true_spared v (computed x w.frame e) e k w.frame spared t
+  item_stays k (Load v kind x) spared e w t =
+      stays_within (Truth (Some k)) (misplaced (width_of kind) (value x e) (length w.memory)) w (At Next (put true v (loaded kind (value x e) w.memory) e) (fetched true w))
+      (true_spared v (loaded kind (value x e) w.memory) e k w.frame spared t)
+  item_stays k (Store width x y) spared e w t =
+      stays_within (Truth (Some k)) (misplaced width (value x e) (length w.memory)) w (At Next e (with_stored width (value x e) (value y e) w)) t
+  item_stays k (Print spelling x) spared e w t = t
+  item_stays k (Expect check) spared e w t = stays_checked (Truth (Some k)) (fault p check w e) e (ticked w) t
+  item_stays k Break spared e w t = t
+  item_stays k Continue spared e w t = t
+  item_stays k (Call v g xs) spared e w t = none_stays k spared (does p every calls (Call v g xs) e w)
+  item_stays k (Return x) spared e w t = tt
+  item_stays k (Halt x) spared e w t = tt
+
+  code_stays : (k : List Equation) (code : Form) → Spares k code → Stays (Truth (Some k)) (runs_old code)
+  code_stays k Done spared e w t = t
+  code_stays k (Do place item rest) spared e w t =
+      stays_then (Truth (Some k)) (does p every calls item e w) (runs_old rest) (item_stays k item spared.0 e w t) (code_stays k rest spared.1)
+  code_stays k (If place x y z rest) spared e w t =
+      stays_then (Truth (Some k)) (if holds x e then runs_old y e (ticked w) else runs_old z e (ticked w)) (runs_old rest)
+      (stays_if (Truth (Some k)) (holds x e) (runs_old y e (ticked w)) (runs_old z e (ticked w)) (code_stays k y spared.0 e (ticked w) t) (code_stays k z spared.1 e (ticked w) t))
+      (code_stays k rest spared.2)
+  code_stays k (Loop place x y rest) spared e w t =
+      stays_then (Truth (Some k)) (turns (runs_old x) (runs_old y) bound e w) (runs_old rest)
+      (stays_turns (Truth (Some k)) (λ e w t. t) (runs_old x) (runs_old y) (code_stays k x spared.0) (code_stays k y spared.1) bound e w t) (code_stays k rest spared.2)
+
+  -- a loop's turns
+  loop_stays : (k : List Equation) (x y : Form) → Stays (Truth (Some (known_in_loop k x y))) (turns (runs_old x) (runs_old y) bound)
+  loop_stays k x y =
+      stays_turns (Truth (Some (known_in_loop k x y))) (λ e w t. t) (runs_old x) (runs_old y) (code_stays (known_in_loop k x y) x (body_spared k x y)) (code_stays (known_in_loop k x y) y (step_spared k x y)) bound
+
   -- and behind code
   code_goes : (code : Form) (k : Option (List Equation)) (e : Env) (w : World) → Truth k e w → GoesTo (Truth (known_behind c k code)) (runs_old code e w)
   code_goes Done k e w t = t
@@ -213,8 +300,10 @@ module _ (p q : Program) (frames : (g : ℕ) → q.frame g ≡ p.frame g) (limit
       (goes_more (Truth two) (Truth (met one two)) (runs_old z e (ticked w)) (λ e w t. met_second one two e w t) (code_goes z (Some q') e (ticked w) (true_in k e w t))))
       (λ e w t. code_goes rest (met one two) e w t)
   code_goes (Loop place x y rest) k e w t =
-      goes_then (Truth (Some [])) (Truth (known_behind c (Some []) rest)) (turns (runs_old x) (runs_old y) bound e w) (runs_old rest) (nothing_goes (turns (runs_old x) (runs_old y) bound e w))
-      (λ e w t. code_goes rest (Some []) e w tt)
+      let r = known_in_loop (equations_in k) x y in
+      goes_then (Truth (Some r)) (Truth (known_behind c (Some r) rest)) (turns (runs_old x) (runs_old y) bound e w) (runs_old rest)
+      (stays_goes (Truth (Some r)) (turns (runs_old x) (runs_old y) bound e w) (loop_stays (equations_in k) x y e w (loop_all (Solves w.frame e) (equations_in k) x y (true_in k e w t))))
+      (λ e w t. code_goes rest (Some r) e w t)
 
   code_same : (code : Form) (k : List Equation) (e : Env) (w : World) → AreTrue k w.frame e → runs_new (commoned_code c k code) e w ≡ runs_old code e w
   code_same Done k e w t = refl
@@ -236,9 +325,13 @@ module _ (p q : Program) (frames : (g : ℕ) → q.frame g ≡ p.frame g) (limit
       (goes_more (Truth two) (Truth (met one two)) (runs_old z e (ticked w)) (λ e w t. met_second one two e w t) (code_goes z (Some k) e (ticked w) t)))
       (λ e w t. code_same rest after e w (true_in (met one two) e w t))
   code_same (Loop place x y rest) k e w t =
-      ap (λ (r : Result Env). r ▷ runs_new (commoned_code c [] rest))
-      (turns_same (runs_old x) (runs_old y) (runs_new (commoned_code c [] x)) (runs_new (commoned_code c [] y)) (λ e w. code_same x [] e w tt) (λ e w. code_same y [] e w tt) bound e w)
-      ∙ any_then (turns (runs_old x) (runs_old y) bound e w) (runs_new (commoned_code c [] rest)) (runs_old rest) (λ e w. code_same rest [] e w tt)
+      let r = known_in_loop k x y in
+      let still = loop_all (Solves w.frame e) k x y t in
+      ap (λ (z : Result Env). z ▷ runs_new (commoned_code c r rest))
+      (turns_same (Truth (Some r)) (λ e w t. t) (runs_old x) (runs_old y) (code_stays r x (body_spared k x y)) (code_stays r y (step_spared k x y)) (runs_new (commoned_code c r x)) (runs_new (commoned_code c r y))
+      (λ e w t. code_same x r e w t) (λ e w t. code_same y r e w t) bound e w still)
+      ∙ then_same (Truth (Some r)) (turns (runs_old x) (runs_old y) bound e w) (runs_new (commoned_code c r rest)) (runs_old rest)
+      (stays_goes (Truth (Some r)) (turns (runs_old x) (runs_old y) bound e w) (loop_stays k x y e w still)) (λ e w t. code_same rest r e w t)
 
 -- ---- whole programs
 

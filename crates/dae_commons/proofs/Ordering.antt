@@ -17,12 +17,13 @@ use Rattle.dae_ir.specs.declared.form.Check.TheVariants.{Place as Good, Zero, Ro
 use Rattle.dae_ir.specs.declared.form.Item.{Item}
 use Rattle.dae_ir.specs.declared.form.Item.TheVariants.{Assign, Load, Store, Print, Expect, Break, Continue, Call, Return, Halt}
 use Rattle.dae_commons.specs.declared.equations.Equation.{Equation}
-use Rattle.dae_commons.specs.Equations.{equations_in, both_known, met, with_equation, without_variable}
+use Rattle.dae_commons.specs.Equations.{equations_in, both_known, met, with_equation, without_variable, known_in_loop}
 use Rattle.dae_commons.specs.Copies.{source_in, propagated_operand, propagated_operands, propagated_test, propagated_value, propagated_check, is_operand}
 use Rattle.dae_commons.specs.Sums.{is_itself, assigned_value}
 use Rattle.dae_commons.specs.Commoned.{commoned_item, known_behind, known_behind_both, commoned_code, known_after_set, known_after}
 use Rattle.dae_commons.proofs.Lists.{first_all, second_all, all_of_both}
 use Rattle.dae_commons.proofs.Names.{base_in, IsNamed, AreNamed, source_named, assigned_value_named, without_named, with_named, named_more}
+use Rattle.dae_commons.proofs.Sparing.{loop_all}
 
 abbrev IsSet : VariableSet → ℕ → Type 0
 IsSet d v = d v ≡ true
@@ -168,7 +169,7 @@ module _ (c : Classes) where
       ap (λ (e : VariableSet). assured form_flow (λ v. e v && assured form_flow d (commoned_code c q y) v) (commoned_code c (equations_in (known_behind_both c q x y)) k)) (assured_same x q d)
       ∙ ap (λ (e : VariableSet). assured form_flow (λ v. assured form_flow d x v && e v) (commoned_code c (equations_in (known_behind_both c q x y)) k)) (assured_same y q d)
       ∙ assured_same k (equations_in (known_behind_both c q x y)) (λ v. assured form_flow d x v && assured form_flow d y v)
-  assured_same (Loop place x y k) q d = assured_same k [] d
+  assured_same (Loop place x y k) q d = assured_same k (known_in_loop q x y) d
 
   code_set : (code : Form) (k : Option (List Equation)) (d : VariableSet) → AreSet d k → IsSetFirst form_flow d code → AreSet (assured form_flow d code) (known_behind c k code)
   code_set Done k d all h = all
@@ -178,7 +179,7 @@ module _ (c : Classes) where
       let q = equations_in k in
       code_set rest (known_behind_both c q x y) (λ v. assured form_flow d x v && assured form_flow d y v)
       (met_set (assured form_flow d x) (assured form_flow d y) (known_behind c (Some q) x) (known_behind c (Some q) y) (code_set x (Some q) d (set_in d k all) h.1) (code_set y (Some q) d (set_in d k all) h.2)) h.3
-  code_set (Loop place x y rest) k d all h = code_set rest (Some []) d tt h.2
+  code_set (Loop place x y rest) k d all h = code_set rest (Some (known_in_loop (equations_in k) x y)) d (loop_all (IsNamed (IsSet d)) (equations_in k) x y (set_in d k all)) h.2
 
   pub first_kept : (code : Form) (q : List Equation) (d : VariableSet) → AreNamed (IsSet d) q → IsSetFirst form_flow d code → IsSetFirst form_flow d (commoned_code c q code)
   first_kept Done q d all h = tt
@@ -197,4 +198,7 @@ module _ (c : Classes) where
             (subst (λ (e : VariableSet). IsSetFirst form_flow (λ v. assured form_flow d x v && e v) (commoned_code c (equations_in behind) k)) (sym (assured_same y q d))
             (first_kept k (equations_in behind) (λ v. assured form_flow d x v && assured form_flow d y v) (set_in (λ v. assured form_flow d x v && assured form_flow d y v) behind named) h.3)),
       )
-  first_kept (Loop place x y k) q d all h = (first_kept x [] d tt h.0, first_kept y [] d tt h.1, first_kept k [] d tt h.2)
+  first_kept (Loop place x y k) q d all h =
+      let r = known_in_loop q x y in
+      let still = loop_all (IsNamed (IsSet d)) q x y all in
+      (first_kept x r d still h.0, first_kept y r d still h.1, first_kept k r d still h.2)

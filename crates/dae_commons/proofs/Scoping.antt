@@ -18,12 +18,13 @@ use Rattle.dae_ir.specs.declared.form.Function.{Function}
 use Rattle.dae_ir.specs.declared.form.Item.{Item}
 use Rattle.dae_ir.specs.declared.form.Item.TheVariants.{Assign, Load, Store, Print, Expect, Break, Continue, Call, Return, Halt}
 use Rattle.dae_commons.specs.declared.equations.Equation.{Equation}
-use Rattle.dae_commons.specs.Equations.{equations_in, with_equation, without_variable}
+use Rattle.dae_commons.specs.Equations.{equations_in, with_equation, without_variable, known_in_loop}
 use Rattle.dae_commons.specs.Copies.{source_in, propagated_operand, propagated_operands, propagated_test, propagated_value, is_operand}
 use Rattle.dae_commons.specs.Sums.{is_itself, assigned_value}
 use Rattle.dae_commons.specs.Commoned.{commoned_item, known_behind, known_behind_both, commoned_code, known_after_set, known_after}
 use Rattle.dae_commons.proofs.Truth.{same_length}
-use Rattle.dae_commons.proofs.Names.{base_in, AreNamed, source_named, assigned_value_named, without_named, with_named, met_named}
+use Rattle.dae_commons.proofs.Names.{base_in, AreNamed, source_named, assigned_value_named, without_named, with_named, met_named, IsNamed}
+use Rattle.dae_commons.proofs.Sparing.{loop_all}
 
 below_word : (k : ℕ) → k < 2 ^ 11 → k < 2 ^ 32
 below_word k low = omega (arith, low)
@@ -117,7 +118,7 @@ module _ (fs gs : List Function) (as_many : length gs ≡ length fs) (takes : (g
   code_named (If place t x y rest) k all names =
       code_named rest (known_behind_both c (equations_in k) x y)
       (met_named IsBelow (known_behind c (Some (equations_in k)) x) (known_behind c (Some (equations_in k)) y) (code_named x (Some (equations_in k)) all names.1) (code_named y (Some (equations_in k)) all names.2)) names.3
-  code_named (Loop place x y rest) k all names = code_named rest (Some []) tt names.2
+  code_named (Loop place x y rest) k all names = code_named rest (Some (known_in_loop (equations_in k) x y)) (loop_all (IsNamed IsBelow) (equations_in k) x y all) names.2
 
   pub code_in : (code : Form) (q : List Equation) → Within q → Each (ItemIn fs n) (TestIn n) code → Each (ItemIn gs n) (TestIn n) (commoned_code c q code)
   code_in Done q all names = tt
@@ -132,7 +133,10 @@ module _ (fs gs : List Function) (as_many : length gs ≡ length fs) (takes : (g
     code_in k (equations_in (known_behind_both c q x y))
         (met_named IsBelow (known_behind c (Some q) x) (known_behind c (Some q) y) (code_named x (Some q) all names.1) (code_named y (Some q) all names.2)) names.3,
   )
-  code_in (Loop place x y k) q all names = (code_in x [] tt names.0, code_in y [] tt names.1, code_in k [] tt names.2)
+  code_in (Loop place x y k) q all names =
+      let r = known_in_loop q x y in
+      let still = loop_all (IsNamed IsBelow) q x y all in
+      (code_in x r still names.0, code_in y r still names.1, code_in k r still names.2)
 
 -- ---- where code goes stays
 
@@ -177,16 +181,16 @@ module _ (c : Classes) where
   stays_same Done inside q = refl
   stays_same (Do place item k) inside q = rw (jump_same q item, stays_same k inside (equations_in (known_after c q item))) refl
   stays_same (If place t x y k) inside q = rw (stays_same x inside q, stays_same y inside q, stays_same k inside (equations_in (known_behind_both c q x y))) refl
-  stays_same (Loop place x y k) inside q = rw (stays_same x true [], stays_same y true [], stays_same k inside []) refl
+  stays_same (Loop place x y k) inside q = rw (stays_same x true (known_in_loop q x y), stays_same y true (known_in_loop q x y), stays_same k inside (known_in_loop q x y)) refl
 
   pub closes_same : (code : Form) (q : List Equation) → closes (commoned_code c q code) ≡ closes code
   closes_same Done q = refl
   closes_same (Do place item k) q = rw (end_same q item, closes_same k (equations_in (known_after c q item))) refl
   closes_same (If place t x y k) q = closes_same k (equations_in (known_behind_both c q x y))
-  closes_same (Loop place x y k) q = closes_same k []
+  closes_same (Loop place x y k) q = closes_same k (known_in_loop q x y)
 
   pub never_same : (code : Form) (q : List Equation) → never_returns (commoned_code c q code) ≡ never_returns code
   never_same Done q = refl
   never_same (Do place item k) q = rw (return_same q item, never_same k (equations_in (known_after c q item))) refl
   never_same (If place t x y k) q = rw (never_same x q, never_same y q, never_same k (equations_in (known_behind_both c q x y))) refl
-  never_same (Loop place x y k) q = rw (never_same x [], never_same y [], never_same k []) refl
+  never_same (Loop place x y k) q = rw (never_same x (known_in_loop q x y), never_same y (known_in_loop q x y), never_same k (known_in_loop q x y)) refl

@@ -12,7 +12,7 @@ use Rattle.dae_ir.specs.declared.form.Statement.{Statement}
 use Rattle.dae_ir.specs.declared.form.Statement.TheVariants as statement
 use Rattle.dae_ir.proofs.Laws.{before_if, before_loop, rest, rest_one, rest_end, all_before, before_end, form_before}
 use Rattle.dae_commons.specs.declared.equations.Equation.{Equation}
-use Rattle.dae_commons.specs.Equations.{equations_in, met}
+use Rattle.dae_commons.specs.Equations.{equations_in, known_in_loop, met, without_item, without_set, IsWithoutStatement}
 use Rattle.dae_commons.specs.Copies.{propagated_test}
 use Rattle.dae_commons.specs.Commoned.{IsCommonedTo, IsCommonedList, commoned_item, known_behind, commoned_code, known_after}
 
@@ -39,16 +39,38 @@ module _ (c : Classes) (place : Place) (p q p' q' : Vec Statement Global) (old o
         ∙ sym (ap (λ (j : Option (List Equation)). known_behind c j k) behind ∙ rw (first.known, second.known) refl);
   }
 
-  pub loop_commoned : IsCommonedList c p.items [] p'.items one → IsCommonedList c q.items [] q'.items two → new ≡ Some []
+  pub loop_commoned : (r : List Equation) → r ≡ known_in_loop (equations_in old) (form_of p.items) (form_of q.items) → IsCommonedList c p.items r p'.items one → IsCommonedList c q.items r q'.items two → new ≡ Some r
       → IsCommonedTo c (statement.Loop place p q) old new (statement.Loop place p' q')
-  loop_commoned first second behind = record {
+  loop_commoned r is first second behind = record {
     code = λ k.
         ap (λ (code : Form). commoned_code c (equations_in old) code) (before_loop place p q k)
-        ∙ sym (before_loop place p' q' (commoned_code c (equations_in new) k) ∙ rw (first.code, second.code, behind) refl);
+        ∙ sym (before_loop place p' q' (commoned_code c (equations_in new) k) ∙ rw (first.code, second.code, behind, is) refl);
     known = λ k.
         ap (λ (code : Form). known_behind c old code) (before_loop place p q k)
-        ∙ ap (λ (j : Option (List Equation)). known_behind c j k) (sym behind);
+        ∙ sym (ap (λ (j : Option (List Equation)). known_behind c j k) behind ∙ ap (λ (z : List Equation). known_behind c (Some z) k) is);
   }
+
+-- ---- what a statement sets
+
+pub simple_without : (place : Place) (item : Item) (old new : List Equation) → new ≡ without_item old item → IsWithoutStatement (statement.Simple place item) old new
+simple_without place item old new is = record { known = λ k. ap (λ (z : List Equation). without_set z k) (sym is) }
+
+module _ (p q : Vec Statement Global) (old middle new : List Equation) (first : middle ≡ without_set old (form_of p.items)) (second : new ≡ without_set middle (form_of q.items)) where
+  both_without : new ≡ without_set (without_set old (form_of p.items)) (form_of q.items)
+  both_without = second ∙ ap (λ (z : List Equation). without_set z (form_of q.items)) first
+
+  pub if_without : (place : Place) (t : Test) → IsWithoutStatement (statement.If place t p q) old new
+  if_without place t = record { known = λ k. ap (λ (code : Form). without_set old code) (before_if place t p q k) ∙ ap (λ (z : List Equation). without_set z k) (sym both_without) }
+
+  pub loop_without : (place : Place) → IsWithoutStatement (statement.Loop place p q) old new
+  loop_without place = record { known = λ k. ap (λ (code : Form). without_set old code) (before_loop place p q k) ∙ ap (λ (z : List Equation). without_set z k) (sym both_without) }
+
+pub without_next : (ss : List Statement) (i : ℕ) (s : Statement) (old now new : List Equation) → i < length ss → s ≡ get_or ss i s → without_set now (form_of (drop i ss)) ≡ without_set old (form_of ss)
+    → IsWithoutStatement s now new → without_set new (form_of (drop (i + 1) ss)) ≡ without_set old (form_of ss)
+without_next ss i s old now new lt is so_far h = sym (h.known (rest (i + 1) ss)) ∙ ap (λ (code : Form). without_set now code) (sym (rest_one ss i s lt is)) ∙ so_far
+
+pub without_end : (ss : List Statement) (i : ℕ) (old now : List Equation) → length ss ≤ i → without_set now (form_of (drop i ss)) ≡ without_set old (form_of ss) → now ≡ without_set old (form_of ss)
+without_end ss i old now le so_far = sym (ap (λ (code : Form). without_set now code) (rest_end ss i le)) ∙ so_far
 
 -- ---- a list
 
@@ -88,3 +110,8 @@ commoned_end c ss i old now out le so_far =
 -- the same list from the same equations
 pub listed : (c : Classes) (ss ss' : List Statement) (q r q' : List Equation) (out : List Statement) (k : Option (List Equation)) → IsCommonedList c ss q out k → ss ≡ ss' → q ≡ r → r ≡ q' → IsCommonedList c ss' q' out k
 listed c ss ss' q r q' out k h e f g = subst (λ (xs : List Statement). IsCommonedList c xs q' out k) e (subst (λ (z : List Equation). IsCommonedList c ss z out k) (f ∙ g) h)
+
+pub in_loop : (q q' : List Equation) (xs xs' ys ys' : List Statement) (r : List Equation) → r ≡ known_in_loop q (form_of xs) (form_of ys) → q ≡ q' → xs ≡ xs' → ys ≡ ys' → r ≡ known_in_loop q' (form_of xs') (form_of ys')
+in_loop q q' xs xs' ys ys' r h e f g =
+    h ∙ ap (λ (z : List Equation). known_in_loop z (form_of xs) (form_of ys)) e ∙ ap (λ (zs : List Statement). known_in_loop q' (form_of zs) (form_of ys)) f
+    ∙ ap (λ (zs : List Statement). known_in_loop q' (form_of xs') (form_of zs)) g

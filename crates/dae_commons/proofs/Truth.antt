@@ -20,7 +20,8 @@ use Rattle.dae_commons.specs.Equations.{AreTrue, operand_involves, value_involve
 use Rattle.dae_commons.specs.Copies.{are_alike, source_in, is_copy, copy_source, propagated_operand, propagated_operands, propagated_test, propagated_value, holds_already, held_value, is_operand, computed_once}
 use Rattle.dae_commons.specs.Sums.{is_itself, fits_offset, base_sum_or, as_sum_or, held_sum, computed_again, assigned_value}
 use Rattle.dae_commons.proofs.Values.{values_same}
-use Rattle.dae_commons.proofs.Lists.{without_all, with_all}
+use Rattle.dae_commons.proofs.Lists.{without_all, with_all, all_of_both}
+use Rattle.dae_commons.proofs.Sparing.{SparesVariable}
 
 abbrev pub Solves : ℕ → Env → Equation → Type 0
 Solves frame env e = env e.variable ≡ computed e.value frame env
@@ -59,6 +60,9 @@ module _ (w y : ℕ) (env : Env) where
 
   pub true_without : (q : List Equation) (frame : ℕ) → AreTrue q frame env → AreTrue (without_variable w q) frame now
   true_without q frame t = without_all (Solves frame env) (Solves frame now) w (λ e h is. equation_other e frame h is) q t
+
+  pub true_spared : (q : List Equation) (frame : ℕ) → SparesVariable w q → AreTrue q frame env → AreTrue q frame now
+  true_spared q frame spared t = all_of_both (λ (e : Equation). involves w e ≡ false) (Solves frame env) (Solves frame now) (λ e h is. equation_other e frame h is) q spared t
 
 -- behind an assignment of x to v
 module _ (v : ℕ) (x : Value) (q : List Equation) (frame : ℕ) (env : Env) where

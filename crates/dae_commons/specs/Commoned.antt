@@ -1,6 +1,6 @@
 -- Code without its common subexpressions. What is known at the start of a list is known in both branches of an If, and what is known at
--- the ends of both behind it. In a loop, and behind it, nothing is known that was before. A variable that is set to itself is computed
--- again from the sum that it holds.
+-- the ends of both behind it. In a loop, and behind it, what was known before is known, if it doesn't involve what the loop sets. A
+-- variable that is set to itself is computed again from the sum that it holds.
 use Rattle.std.specs.Prelude.{◌≡◌, ℕ, if◌then◌else◌, List, [], Option, Some, None}
 use Rattle.dae_ir.specs.Code.{Done, Do, If, Loop}
 use Rattle.dae_ir.specs.Form.{Form, before, form_of}
@@ -10,7 +10,7 @@ use Rattle.dae_ir.specs.declared.form.Item.TheVariants.{Assign, Load, Store, Pri
 use Rattle.dae_ir.specs.declared.form.Statement.{Statement}
 use Rattle.dae_ir.specs.declared.form.Value.{Value}
 use Rattle.dae_commons.specs.declared.equations.Equation.{Equation}
-use Rattle.dae_commons.specs.Equations.{equations_in, met, with_equation, without_variable}
+use Rattle.dae_commons.specs.Equations.{equations_in, known_in_loop, met, with_equation, without_variable}
 use Rattle.dae_commons.specs.Copies.{propagated_operand, propagated_operands, propagated_test, propagated_check, is_operand}
 use Rattle.dae_commons.specs.Sums.{is_itself, assigned_value}
 
@@ -58,7 +58,8 @@ known_behind c k (Do place item rest) =
 known_behind c k (If place t x y rest) =
     known_behind c
     (met (known_behind c (Some (equations_in k)) x) (known_behind c (Some (equations_in k)) y)) rest
-known_behind c k (Loop place x y rest) = known_behind c (Some []) rest
+known_behind c k (Loop place x y rest) =
+    known_behind c (Some (known_in_loop (equations_in k) x y)) rest
 
 -- behind an If with these branches
 abbrev pub known_behind_both : Classes → List Equation → Form → Form → Option (List Equation)
@@ -73,7 +74,8 @@ commoned_code c q (If place t x y k) =
     If place (propagated_test c q t) (commoned_code c q x) (commoned_code c q y)
     (commoned_code c (equations_in (known_behind_both c q x y)) k)
 commoned_code c q (Loop place x y k) =
-    Loop place (commoned_code c [] x) (commoned_code c [] y) (commoned_code c [] k)
+    Loop place (commoned_code c (known_in_loop q x y) x) (commoned_code c (known_in_loop q x y) y)
+    (commoned_code c (known_in_loop q x y) k)
 
 -- a statement becomes s', where this is known before it, and this behind it
 pub record IsCommonedTo (c : Classes) (s : Statement) (old new : Option (List Equation))

@@ -3,12 +3,16 @@
 use Rattle.std.specs.Prelude.{◌≡◌, ℕ, Bool, false, ◌&&◌, ◌||◌, nat_eq, if◌then◌else◌, List, [], ◌∷◌, ◌++◌, take, Option, Some, None}
 use Rattle.std.specs.List.{AllByRecursion}
 use Rattle.dae_meaning.specs.Variables.{Env}
-use Rattle.dae_ir.specs.Form.{computed}
+use Rattle.dae_ir.specs.Code.{Done, Do, If, Loop}
+use Rattle.dae_ir.specs.Form.{Form, before, computed}
 use Rattle.dae_ir.specs.contracts.form.ValuePartialEq.TheImpl.{ghosts as of_values}
 use Rattle.dae_ir.specs.declared.form.Operand.{Operand}
 use Rattle.dae_ir.specs.declared.form.Operand.TheVariants.{Variable, Number}
 use Rattle.dae_ir.specs.declared.form.Value.{Value}
 use Rattle.dae_ir.specs.declared.form.Value.TheVariants.{Same, Extended, Binary, Holds, FrameAddress}
+use Rattle.dae_ir.specs.declared.form.Item.{Item}
+use Rattle.dae_ir.specs.declared.form.Item.TheVariants.{Assign, Load, Store, Print, Expect, Break, Continue, Call, Return, Halt}
+use Rattle.dae_ir.specs.declared.form.Statement.{Statement}
 use Rattle.dae_commons.specs.declared.equations.Equation.{Equation}
 
 -- with these variables, in a frame that begins there
@@ -72,3 +76,32 @@ abbrev pub met : Option (List Equation) → Option (List Equation) → Option (L
 met None k = k
 met (Some q) None = Some q
 met (Some q) (Some r) = Some (both_known q r)
+
+-- ---- through code that sets variables
+
+-- behind an item nothing is known that involves what it sets, and behind a call nothing, so that no value is kept over one for its sake
+abbrev pub without_item : List Equation → Item → List Equation
+without_item q (Assign v x) = without_variable v q
+without_item q (Load v kind x) = without_variable v q
+without_item q (Store width x y) = q
+without_item q (Print spelling x) = q
+without_item q (Expect check) = q
+without_item q Break = q
+without_item q Continue = q
+without_item q (Call v f xs) = []
+without_item q (Return x) = q
+without_item q (Halt x) = q
+
+abbrev pub without_set : List Equation → Form → List Equation
+without_set q Done = q
+without_set q (Do place item k) = without_set (without_item q item) k
+without_set q (If place t x y k) = without_set (without_set (without_set q x) y) k
+without_set q (Loop place x y k) = without_set (without_set (without_set q x) y) k
+
+-- what is known in a loop with this body and this step, and behind it
+abbrev pub known_in_loop : List Equation → Form → Form → List Equation
+known_in_loop q x y = without_set (without_set q x) y
+
+-- behind a statement
+pub record IsWithoutStatement (s : Statement) (old new : List Equation) : Type 0 where
+  pub known : (k : Form) → without_set old (before s k) ≡ without_set new k

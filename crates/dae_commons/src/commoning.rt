@@ -11,6 +11,7 @@ use crate::copies::{
 use crate::equations::{
     Equation, copy_equations, equations_in, meet, with_equation, without_variable,
 };
+use crate::setting::known_in_loop;
 use crate::sums::{assigned_value, is_itself};
 use dae_base::Items;
 use dae_ir::{Class, Item, Statement, Value};
@@ -200,12 +201,12 @@ fn common_statement(
             })
         }
         Statement::Loop(place, body, step) => {
-            let nothing = Items::new(alloc);
-            let first = common_list(alloc, row, nothing.as_slice(), body)?;
-            let second = common_list(alloc, row, nothing.as_slice(), step)?;
+            let inside = known_in_loop(alloc, equations, body, step)?;
+            let first = common_list(alloc, row, inside.as_slice(), body)?;
+            let second = common_list(alloc, row, inside.as_slice(), step)?;
             Ok(CommonedStatement {
                 statement: Statement::Loop(*place, first.statements, second.statements),
-                known: Some(nothing),
+                known: Some(inside),
             })
         }
     }

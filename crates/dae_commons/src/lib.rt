@@ -11,6 +11,7 @@ mod commoning;
 mod copies;
 mod equations;
 mod needs;
+mod setting;
 mod sums;
 mod theorems;
 mod whole;

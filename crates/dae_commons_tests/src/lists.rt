@@ -222,7 +222,7 @@ fn branches(rt: HostRuntime) -> Result<(), AllocError> {
     Ok(())
 }
 
-/// `b = 4 * a; for (;;) { c = 4 * a; *c = 7; a++; }`: a loop knows nothing that was before it.
+/// `b = 4 * a; for (;; a++) { c = 4 * a; *c = 7; }`, and the same where the loop advances `b` in place of `a`, or nothing.
 #[test]
 fn turns(rt: HostRuntime) -> Result<(), AllocError> {
     let alloc = rt.alloc();
@@ -236,5 +236,20 @@ fn turns(rt: HostRuntime) -> Result<(), AllocError> {
     ];
     let body = Vec::from_array(alloc, body)?;
     assert!(rt; becomes(alloc, body, ACCESS, &[1, 2, 1, 3, 1, 3, 1, 1])?);
+    let turn = Vec::from_array(alloc, [product(3), store(3)])?;
+    let step = Vec::from_array(alloc, [advance(2)])?;
+    let body = [
+        load(1),
+        product(2),
+        Statement::Loop(PLACE, turn, step),
+        halt(),
+    ];
+    let body = Vec::from_array(alloc, body)?;
+    assert!(rt; becomes(alloc, body, ACCESS, &[1, 2, 1, 3, 1, 3, 2, 2])?);
+    let turn = Vec::from_array(alloc, [product(3), store(3)])?;
+    let around = Statement::Loop(PLACE, turn, Vec::new(alloc));
+    let body = [load(1), product(2), around, product(4), store(4), halt()];
+    let body = Vec::from_array(alloc, body)?;
+    assert!(rt; becomes(alloc, body, ACCESS, &[1, 2, 1, 3, 2, 2, 4, 2, 2])?);
     Ok(())
 }

@@ -20,10 +20,11 @@ use Rattle.dae_alias.specs.Forms.{KeepsForm, IsReuseOf}
 use Rattle.dae_alias.specs.Laws.{Cheaper, SameResult}
 use Rattle.dae_alias.proofs.Slices.{bit_within, load_within, tally_within, test_within}
 use Rattle.dae_commons.specs.Forms.{rows_behind, AreCommonedFunctions, FormsAreCommoned, KeepsOutcomes}
+use Rattle.dae_hoist.specs.Forms.{further_rows, AreHoistedFunctions, IsHoistOf, KeepsWithRows, FormsAreHoisted}
 use Rattle.dae_elide.specs.Forms.{AreElidedFunctions, IsElisionOf, ChecksAreElided}
 use Rattle.dae_webs.specs.Forms.{AreRenamedFunctions, FormsAreRenamed, IsRenamingOf, HaveSameResult}
 use Rattle.dae_compile_promise.specs.Promises.{KeepsLowered, IsLaterForm}
-use Rattle.dae_compile.specs.Passes.{IsWithoutCommons}
+use Rattle.dae_compile.specs.Passes.{HasSumsAtAccesses, IsWithoutCommons}
 
 -- ---- ends
 
@@ -151,33 +152,47 @@ commoned_there tables (f ∷ fs) [] a k h at = absurd a
 commoned_there tables (f ∷ fs) (g ∷ gs) a zero h at = (g, refl)
 commoned_there tables (f ∷ fs) (g ∷ gs) a (suc k) h at = commoned_there (rows_behind tables) fs gs a.1 k h at
 
--- by the least classes, which are within all sets that keep what leads to addresses
-commoned_access : (tables : List (List Class)) (ir new : Ir) → AreClassesOf ir tables → KeepsOutcomes tables ir new → (of : ℕ → Classes) → AreAddressesClosed (program_of ir) (λ k. (of k).s) → HasNoMoreAccess ir new of
-commoned_access tables ir new least keeps of closed =
-    let c = least.closed in
-    record {
-      sets = classes_of tables;
-      closed = keeps.closed c.addresses;
-      most = λ k f g at at'. (let same = keeps.same k f g at at' in
-          let inside : IsWithin (classes_of tables k).s (of k).s = least.addresses (λ j. (of j).s) closed k in (
-            most_then _ _ _ (loads_fewer (classes_of tables k) (of k) inside (form_of f.body)) (at_most _ _ same.0),
-            most_then _ _ _ (conditions_fewer (classes_of tables k) (of k) inside (form_of f.body)) (at_most _ _ same.1),
-          ));
-    }
+hoisted_there : (tables rows : List (List Class)) (fs gs : List Function) → AreHoistedFunctions tables rows fs gs → (k : ℕ) (f : Function) → slice_get fs k ≡ Some f → (g : Function) × (slice_get gs k ≡ Some g)
+hoisted_there tables [] [] gs a k f at = absurd (let c : None ≡ Some f = at in cc)
+hoisted_there tables [] (f ∷ fs) gs a k h at = absurd a
+hoisted_there tables (row ∷ rows) [] gs a k f at = absurd (let c : None ≡ Some f = at in cc)
+hoisted_there tables (row ∷ rows) (f ∷ fs) [] a k h at = absurd a
+hoisted_there tables (row ∷ rows) (f ∷ fs) (g ∷ gs) a zero h at = (g, refl)
+hoisted_there tables (row ∷ rows) (f ∷ fs) (g ∷ gs) a (suc k) h at = hoisted_there (further_rows tables) rows fs gs a.1 k h at
 
-pub commoned_behind : FormsAreCommoned → (ir new : Ir) → IsScoped ir → IsWithoutCommons ir new → IsBehind ir new
-commoned_behind law ir new scoped is =
+-- by the least classes, which are within all sets that keep what leads to addresses
+module _ (tables rows : List (List Class)) (ir mid new : Ir) (least : AreClassesOf ir tables) (hoist : IsHoistOf tables rows ir mid) (one : KeepsWithRows tables rows ir mid) (other : KeepsOutcomes rows mid new) where
+  commoned_access : (of : ℕ → Classes) → AreAddressesClosed (program_of ir) (λ k. (of k).s) → HasNoMoreAccess ir new of
+  commoned_access of closed =
+      let c = least.closed in
+      record {
+        sets = classes_of rows;
+        closed = other.closed (one.closed c.addresses);
+        most = λ k f g at at'. (let h = hoisted_there tables rows ir.functions mid.functions hoist.functions k f at in
+            let first = one.same k f h.0 at h.1 in
+            let second = other.same k h.0 g h.1 at' in
+            let inside : IsWithin (classes_of tables k).s (of k).s = least.addresses (λ j. (of j).s) closed k in (
+              most_then _ _ _ (loads_fewer (classes_of tables k) (of k) inside (form_of f.body)) (at_most _ _ (second.0 ∙ first.0)),
+              most_then _ _ _ (conditions_fewer (classes_of tables k) (of k) inside (form_of f.body)) (at_most _ _ (second.1 ∙ first.1)),
+            ));
+      }
+
+pub commoned_behind : FormsAreHoisted → FormsAreCommoned → (ir new : Ir) → IsScoped ir → IsWithoutCommons ir new → IsBehind ir new
+commoned_behind hoisting law ir new scoped is =
+    let mid = is.hoisted in
+    let hoist = is.hoist in
     let made = is.commoning in
-    let keeps = law is.tables ir new made in
+    let one = hoisting is.tables is.rows ir mid scoped hoist in
+    let keeps = law is.rows mid new made in
     record {
-      memory = made.memory;
-      frames = made.frames;
-      calls = made.calls;
-      there = commoned_there is.tables ir.functions new.functions made.functions;
-      meaning = λ n words size. equally (outcome ir n words) (outcome new n words) (keeps.outcomes n words);
-      scoped = keeps.scoped scoped;
-      first = keeps.first;
-      access = commoned_access is.tables ir new is.least keeps;
+      memory = made.memory ∙ hoist.memory;
+      frames = made.frames ∙ hoist.frames;
+      calls = made.calls ∙ hoist.calls;
+      there = λ k f at. (let g = hoisted_there is.tables is.rows ir.functions mid.functions hoist.functions k f at in commoned_there is.rows mid.functions new.functions made.functions k g.0 g.1);
+      meaning = λ n words size. same_ends (outcome ir n words) (outcome mid n words) (outcome new n words) (one.meaning n words) (equally (outcome mid n words) (outcome new n words) (keeps.outcomes n words));
+      scoped = keeps.scoped one.scoped;
+      first = λ h. keeps.first (one.first h);
+      access = commoned_access is.tables is.rows ir mid new is.least hoist one keeps;
     }
 
 -- ---- without the checks that are known to pass
@@ -206,24 +221,55 @@ elided_behind law ir new scoped is =
       };
     }
 
+-- ---- with sums computed where accesses add them up
+
+summed_access : (tables : List (List Class)) (ir new : Ir) → AreClassesOf ir tables → KeepsOutcomes tables ir new → (of : ℕ → Classes) → AreAddressesClosed (program_of ir) (λ k. (of k).s) → HasNoMoreAccess ir new of
+summed_access tables ir new least keeps of closed =
+    let c = least.closed in
+    record {
+      sets = classes_of tables;
+      closed = keeps.closed c.addresses;
+      most = λ k f g at at'. (let same = keeps.same k f g at at' in
+          let inside : IsWithin (classes_of tables k).s (of k).s = least.addresses (λ j. (of j).s) closed k in (
+            most_then _ _ _ (loads_fewer (classes_of tables k) (of k) inside (form_of f.body)) (at_most _ _ same.0),
+            most_then _ _ _ (conditions_fewer (classes_of tables k) (of k) inside (form_of f.body)) (at_most _ _ same.1),
+          ));
+    }
+
+pub summed_behind : FormsAreCommoned → (ir new : Ir) → IsScoped ir → HasSumsAtAccesses ir new → IsBehind ir new
+summed_behind law ir new scoped is =
+    let made = is.commoning in
+    let keeps = law is.tables ir new made in
+    record {
+      memory = made.memory;
+      frames = made.frames;
+      calls = made.calls;
+      there = commoned_there is.tables ir.functions new.functions made.functions;
+      meaning = λ n words size. equally (outcome ir n words) (outcome new n words) (keeps.outcomes n words);
+      scoped = keeps.scoped scoped;
+      first = keeps.first;
+      access = summed_access is.tables ir new is.least keeps;
+    }
+
 -- ---- all passes
 
 -- before loads are reused
 module _ (lowered named common bare near : Ir) where
-  pub up_to_commons : FormsAreRenamed → FormsAreCommoned → IsScoped lowered → IsRenamingOf lowered named → IsWithoutCommons named common → IsBehind lowered common
-  up_to_commons webs commons scoped renamed without =
+  pub up_to_commons : FormsAreRenamed → FormsAreHoisted → FormsAreCommoned → IsScoped lowered → IsRenamingOf lowered named → IsWithoutCommons named common → IsBehind lowered common
+  up_to_commons webs hoisting commons scoped renamed without =
       let one = renamed_behind webs lowered named scoped renamed in
-      behind_both lowered named common one (commoned_behind commons named common one.scoped without)
+      behind_both lowered named common one (commoned_behind hoisting commons named common one.scoped without)
 
-  pub up_to_checks : FormsAreRenamed → FormsAreCommoned → ChecksAreElided → IsScoped lowered → IsRenamingOf lowered named → IsWithoutCommons named common → IsElisionOf common bare → IsBehind lowered bare
-  up_to_checks webs commons checks scoped renamed without elided =
-      let one = up_to_commons webs commons scoped renamed without in
+  pub up_to_checks : FormsAreRenamed → FormsAreHoisted → FormsAreCommoned → ChecksAreElided → IsScoped lowered → IsRenamingOf lowered named → IsWithoutCommons named common → IsElisionOf common bare → IsBehind lowered bare
+  up_to_checks webs hoisting commons checks scoped renamed without elided =
+      let one = up_to_commons webs hoisting commons scoped renamed without in
       behind_both lowered common bare one (elided_behind checks common bare one.scoped elided)
 
-  pub passes_before : FormsAreRenamed → FormsAreCommoned → ChecksAreElided → IsScoped lowered → IsRenamingOf lowered named → IsWithoutCommons named common → IsElisionOf common bare → IsWithoutCommons bare near → IsBehind lowered near
-  passes_before webs commons checks scoped renamed without elided again =
-      let one = up_to_checks webs commons checks scoped renamed without elided in
-      behind_both lowered bare near one (commoned_behind commons bare near one.scoped again)
+  pub passes_before : FormsAreRenamed → FormsAreHoisted → FormsAreCommoned → ChecksAreElided → IsScoped lowered
+      → IsRenamingOf lowered named → IsWithoutCommons named common → IsElisionOf common bare → HasSumsAtAccesses bare near → IsBehind lowered near
+  passes_before webs hoisting commons checks scoped renamed without elided summed =
+      let one = up_to_checks webs hoisting commons checks scoped renamed without elided in
+      behind_both lowered bare near one (summed_behind commons bare near one.scoped summed)
 
 -- and then they are
 module _ (lowered bare ir : Ir) (before : IsBehind lowered bare) (reused : IsReuseOf bare ir) (keeps : KeepsForm bare ir) where

@@ -4,7 +4,7 @@ use Rattle.std.proofs.Common.{◌≡◌, ℕ, ◌+◌, ◌-◌, ◌*◌, ◌^◌
 use Rattle.std.proofs.lemmas.Bool.{lt-ltb}
 use Rattle.std.specs.List.{AllByRecursion, list_all}
 use Rattle.dae_ir.specs.Code.{Done, Do, If, Loop}
-use Rattle.dae_ir.specs.Classes.{Classes, classes_of}
+use Rattle.dae_ir.specs.Classes.{VariableSet, Classes, classes_of}
 use Rattle.dae_ir.specs.Form.{Form, form_of}
 use Rattle.dae_ir.specs.Sizes.{bit, form_size, is_load_into, item_weight}
 use Rattle.dae_ir.specs.declared.form.Function.{Function}
@@ -20,6 +20,8 @@ use Rattle.dae_alias.specs.Stretches.{nothing}
 use Rattle.dae_commons.specs.Commoned.{commoned_code}
 use Rattle.dae_commons.specs.Forms.{rows_behind, AreCommonedFunctions, IsCommonedFunction}
 use Rattle.dae_commons.specs.Laws.{CommoningKeepsCounts, CountsAlike}
+use Rattle.dae_hoist.specs.Forms.{IsHoistedOrSame, further_rows, addresses_in, first_addresses, AreHoistedFunctions}
+use Rattle.dae_hoist.specs.Laws.{HoistingKeepsSizes}
 use Rattle.dae_elide.specs.Forms.{IsElidedFunction, AreElidedFunctions, IsElisionOf, ElisionKeepsSizes}
 use Rattle.dae_webs.specs.Current.{own_webs}
 use Rattle.dae_webs.specs.Renamed.{renamed_code}
@@ -28,7 +30,7 @@ use Rattle.dae_webs.specs.Laws.{IsBlind, RenamingKeepsSizes}
 use Rattle.dae_lower_formed.specs.Code.{loaded_burden, loads_in}
 use Rattle.dae_compile.specs.Generated.{calls_of_form, is_call}
 use Rattle.dae_compile.specs.Compiled.{LeavesNumbers}
-use Rattle.dae_compile.specs.Passes.{IsWithoutCommons}
+use Rattle.dae_compile.specs.Passes.{HasSumsAtAccesses, IsWithoutCommons}
 use Rattle.dae_compile.specs.Sizes.{AreSmallBy, IsSmallBy}
 
 -- ---- what code weighs
@@ -126,6 +128,30 @@ renamed_prepared sizes (f ∷ fs) (g ∷ gs) named =
     let weight = renamed_weighs sizes f g named.0 in
     (record { burden = weight.0; loads = weight.1; variables = renamed_variables f g named.0 }, renamed_prepared sizes fs gs named.1)
 
+-- ---- what doesn't change in loops before them
+
+hoisted_weighs : HoistingKeepsSizes → (c d : VariableSet) (f g : Function) → IsHoistedOrSame c d f g
+    → (loaded_burden (form_of g.body) ≡ loaded_burden (form_of f.body)) × (loads_in (form_of g.body) ≡ loads_in (form_of f.body))
+hoisted_weighs sizes c d f g is =
+    let s = sizes c d f g is in
+    let calls = s.tallies (λ item. bit (is_call item)) (λ t. 0) (λ v x y. refl) in
+    let loads = s.tallies (λ item. bit (is_load_into (λ v. true) item)) (λ t. 0) (λ v x y. refl) in
+    (same_weight (form_of g.body) (form_of f.body) s.size calls loads, loads)
+
+pub hoisted_prepared : HoistingKeepsSizes → (tables rows : List (List Class)) (fs gs hs : List Function) → ArePrepared fs gs → AreHoistedFunctions tables rows gs hs → ArePrepared fs hs
+hoisted_prepared sizes tables [] [] [] [] made is = tt
+hoisted_prepared sizes tables [] [] [] (h ∷ hs) made is = absurd is
+hoisted_prepared sizes tables [] [] (g ∷ gs) hs made is = absurd made
+hoisted_prepared sizes tables [] (f ∷ fs) [] hs made is = absurd made
+hoisted_prepared sizes tables [] (f ∷ fs) (g ∷ gs) hs made is = absurd is
+hoisted_prepared sizes tables (row ∷ rows) [] [] hs made is = absurd is
+hoisted_prepared sizes tables (row ∷ rows) [] (g ∷ gs) hs made is = absurd made
+hoisted_prepared sizes tables (row ∷ rows) (f ∷ fs) [] hs made is = absurd made
+hoisted_prepared sizes tables (row ∷ rows) (f ∷ fs) (g ∷ gs) [] made is = absurd is
+hoisted_prepared sizes tables (row ∷ rows) (f ∷ fs) (g ∷ gs) (h ∷ hs) made is =
+    let one = sizes (first_addresses tables) (addresses_in row) g h is.0 in
+    (prepared_on f g h made.0 (hoisted_weighs sizes (first_addresses tables) (addresses_in row) g h is.0) one.variables, hoisted_prepared sizes (further_rows tables) rows fs gs hs made.1 is.1)
+
 -- ---- without common subexpressions
 
 calls_alike : (c : Classes) → CountsAlike c (λ item. bit (is_call item))
@@ -193,15 +219,18 @@ elided_prepared sizes memory (f ∷ fs) (g ∷ gs) (h ∷ hs) made is =
 
 -- ---- all passes before loads are reused
 
-pub passes_prepared : (lowered named common bare near : Ir) → RenamingKeepsSizes → CommoningKeepsCounts → ElisionKeepsSizes
-    → IsRenamingOf lowered named → IsWithoutCommons named common → IsElisionOf common bare → IsWithoutCommons bare near → ArePrepared lowered.functions near.functions
-passes_prepared lowered named common bare near webs commons checks renamed without elided again =
+pub passes_prepared : (lowered named common bare near : Ir) → RenamingKeepsSizes → HoistingKeepsSizes → CommoningKeepsCounts → ElisionKeepsSizes
+    → IsRenamingOf lowered named → IsWithoutCommons named common → IsElisionOf common bare → HasSumsAtAccesses bare near → ArePrepared lowered.functions near.functions
+passes_prepared lowered named common bare near webs hoists commons checks renamed without elided summed =
+    let mid = without.hoisted in
+    let hoist = without.hoist in
     let made = without.commoning in
-    let last = again.commoning in
+    let last = summed.commoning in
     let one = renamed_prepared webs lowered.functions named.functions renamed.functions in
-    let two = commoned_prepared commons without.tables lowered.functions named.functions common.functions one made.functions in
-    let three = elided_prepared checks common.memory lowered.functions common.functions bare.functions two elided.functions in
-    commoned_prepared commons again.tables lowered.functions bare.functions near.functions three last.functions
+    let two = hoisted_prepared hoists without.tables without.rows lowered.functions named.functions mid.functions one hoist.functions in
+    let three = commoned_prepared commons without.rows lowered.functions mid.functions common.functions two made.functions in
+    let four = elided_prepared checks common.memory lowered.functions common.functions bare.functions three elided.functions in
+    commoned_prepared commons summed.tables lowered.functions bare.functions near.functions four last.functions
 
 -- ---- loads reused
 

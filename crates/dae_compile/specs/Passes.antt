@@ -1,12 +1,22 @@
--- A form that a pass makes by the least classes of the form before.
+-- Forms that passes make by the least classes of the form before.
 use Rattle.std.specs.Prelude.{List}
 use Rattle.dae_ir.specs.Programs.{AreClassesOf}
 use Rattle.dae_ir.specs.declared.form.Ir.{Ir}
 use Rattle.dae_ir.specs.declared.stream.Class.{Class}
 use Rattle.dae_commons.specs.Forms.{IsCommoningOf}
+use Rattle.dae_hoist.specs.Forms.{IsHoistOf}
 
--- new is the form without its common subexpressions
+-- New is the form without its common subexpressions, where what doesn't change in loops is computed before them.
 pub record IsWithoutCommons (ir new : Ir) : Type 0 where
+  pub tables : List (List Class)
+  pub least : AreClassesOf ir tables
+  pub rows : List (List Class)
+  pub hoisted : Ir
+  pub hoist : IsHoistOf tables rows ir hoisted
+  pub commoning : IsCommoningOf rows hoisted new
+
+-- New is the form with sums computed where accesses add them up, and without the common subexpressions that this makes.
+pub record HasSumsAtAccesses (ir new : Ir) : Type 0 where
   pub tables : List (List Class)
   pub least : AreClassesOf ir tables
   pub commoning : IsCommoningOf tables ir new

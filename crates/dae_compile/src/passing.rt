@@ -5,22 +5,25 @@ ghost use Rattle.std.specs.List.{list_all};
 ghost use Rattle.dae_alias.specs.Forms.{IsReuseOf, is_reusable};
 ghost use Rattle.dae_elide.specs.Forms.{IsElisionOf};
 ghost use Rattle.dae_ir.specs.Scope.{IsScoped};
-ghost use Rattle.dae_compile.specs.Passes.{IsWithoutCommons};
+ghost use Rattle.dae_compile.specs.Passes.{HasSumsAtAccesses, IsWithoutCommons};
 
 use dae_alias::{ReuseError, reuse};
 use dae_commons::eliminate_commons;
 use dae_elide::elide_checks;
+use dae_hoist::hoist_invariants;
 use dae_ir::Ir;
 use dae_slice::classes;
 use std::alloc::{AllocError, Global};
 
-/// The form without its common subexpressions, by its least classes. An error is want of memory.
+/// The form without its common subexpressions, by its least classes, where what doesn't change in loops is computed before them. An
+/// error is want of memory.
 pub fn without_commons(alloc: Global, ir: Ir) -> Result<Ir, AllocError>
     requires { IsScoped ir }
     ensures { IfOk result (IsWithoutCommons ir) }
 {
     let tables = classes(alloc, &ir)?;
-    let new = eliminate_commons(alloc, ir, tables.as_slice())?;
+    let form = hoist_invariants(alloc, ir, tables.as_slice())?;
+    let new = eliminate_commons(alloc, form.ir, form.tables.as_slice())?;
     Ok(new)
 }
 
@@ -38,9 +41,11 @@ pub fn without_known_checks(alloc: Global, ir: Ir) -> Result<Ir, AllocError>
 /// least classes. An error is want of memory.
 pub fn with_sums_at_accesses(alloc: Global, ir: Ir) -> Result<Ir, AllocError>
     requires { IsScoped ir }
-    ensures { IfOk result (IsWithoutCommons ir) }
+    ensures { IfOk result (HasSumsAtAccesses ir) }
 {
-    without_commons(alloc, ir)
+    let tables = classes(alloc, &ir)?;
+    let new = eliminate_commons(alloc, ir, tables.as_slice())?;
+    Ok(new)
 }
 
 /// The form with its loads reused, where words number its variables and one more for each load. An error is want of memory.

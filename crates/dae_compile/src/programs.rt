@@ -19,6 +19,7 @@ use dae_base::{Items, Text};
 use dae_commons::{commoning_keeps_counts, forms_are_commoned};
 use dae_compile_promise::image_keeps_meaning;
 use dae_elide::{checks_are_elided, elision_keeps_sizes};
+use dae_hoist::{forms_are_hoisted, hoisting_keeps_sizes};
 use dae_ir::Ir;
 use dae_link::CodeError;
 use dae_lower_programs::lower;
@@ -32,9 +33,9 @@ fn see_bytes(bytes: &[u8])
 {}
 
 /// A final form of a program, with at most so many calls inside one another: the lowered form with its variables renamed by webs,
-/// then without its common subexpressions, then without the checks that are known to pass, then with sums computed where they are
-/// accessed, and then with its loads reused. It is well made, sets each variable before it reads it, and has room in its memory. An
-/// error is want of memory.
+/// then with what doesn't change in loops before them and without its common subexpressions, then without the checks that are known to
+/// pass, then with sums computed where they are accessed, and then with its loads reused. It is well made, sets each variable before it
+/// reads it, and has room in its memory. An error is want of memory.
 fn final_form(alloc: Global, program: &Program, calls: u16) -> Result<Ir, AllocError>
     requires functions { length program.now.functions < 2 ^ 32 }
     requires numbers { HaveNumbers program.now program.now.functions }
@@ -46,6 +47,8 @@ fn final_form(alloc: Global, program: &Program, calls: u16) -> Result<Ir, AllocE
 {
     forms_are_renamed();
     renaming_keeps_sizes();
+    forms_are_hoisted();
+    hoisting_keeps_sizes();
     forms_are_commoned();
     commoning_keeps_counts();
     checks_are_elided();

@@ -1,6 +1,6 @@
 -- Laws for the crates above: of statements and steps that hold others, and of what forms do.
 pub use Rattle.dae_ir.proofs.Rows.{before_if, before_loop, each_before, onto_if, onto_loop}
-pub use Rattle.dae_ir.proofs.Walks.{rest, rest_one, rest_end, all_before, before_end, form_before, onto_push}
+pub use Rattle.dae_ir.proofs.Walks.{rest, rest_one, rest_end, all_before, before_end, form_before, onto_push, read_end, take_one}
 pub use Rattle.dae_ir.proofs.Replaced.{KeepsArguments, same_room}
 pub use Rattle.dae_ir.proofs.Along.{memory_kept}
 pub use Rattle.dae_ir.proofs.Turns.{more_turns}

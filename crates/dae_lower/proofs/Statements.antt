@@ -20,11 +20,11 @@ use Rattle.dae_program.specs.Statements.{loop as looped, test as tested, do_effe
 use Rattle.dae_program.specs.Switches.{leave_switch as left, first_arm, arm_with, count_arms, count_labels, with_work}
 use Rattle.dae_program.specs.Printing.{print_pieces as shown}
 use Rattle.dae_program.specs.Initialising.{set_items as settled, clear as cleared}
-use Rattle.dae_lower.specs.Lowering.{Made, emit, skip, one, ◌≫◌, nowhere, Links, ways, assigned, operands, leave_unless, leave_unless_some, effect_of_some, prints, zeros, settings, search, switch, statements, arms_from, arms_continue}
+use Rattle.dae_lower.specs.Lowering.{Made, emit, skip, one, ◌≫◌, nowhere, Links, ways, assigned, operands, leave_unless, leave_unless_some, effect_of_some, prints, zeros, settings, search, switch, statements, arms_from, arms_continue, loop, preheader, headed_loop}
 use Rattle.dae_lower.proofs.Relation.{at, Agree, Kept, Alike, Both, Stop, put_other}
 use Rattle.dae_lower.proofs.Chains.{run, Follows, paid, spared}
 use Rattle.dae_lower.proofs.Branches.{Always}
-use Rattle.dae_lower.proofs.Leaves.{agree_both}
+use Rattle.dae_lower.proofs.Leaves.{agree_both, agree_put}
 use Rattle.dae_lower.proofs.Valued.{Anything, Nothing}
 use Rattle.dae_lower.proofs.Arguments.{Called}
 use Rattle.dae_lower.proofs.Expressions.{faithful}
@@ -71,6 +71,38 @@ module _ (m n : ℕ) (s : Setup) (l : Links) (p : Program) (calls : Calls) (plac
   effect_some : (e : Option Expression) → IsSomeIn m e → (q : ℕ) → m ≤ q → DoesIt 0 0 q q (effect_of_some l e q) (evaluated s e)
   effect_some None h q j = skip_does m n p calls q q
   effect_some (Some e) h q j = cheaper_does m n p calls 0 2 q q 0 0 q _ (evaluated s (Some e)) (omega arith) (omega arith) (omega arith) (effect_does e h q j)
+
+  -- three variables from q on become 0, which nothing reads
+  abbrev unread_set : ℕ → Env → Env
+  unread_set q e = put true (q + 1 + 1) 0 (put true (q + 1) 0 (put true q 0 e))
+
+  kept_unread : (q : ℕ) (o : Env) → Kept m q everything o (unread_set q o)
+  kept_unread q o v z x =
+      put_other (q + 1 + 1) 0 v (put true (q + 1) 0 (put true q 0 o)) (λ e. omega (arith, e, z))
+      ∙ put_other (q + 1) 0 v (put true q 0 o) (λ e. omega (arith, e, z))
+      ∙ put_other q 0 v o (λ e. omega (arith, e, z))
+
+  agree_unread : (q : ℕ) (env other : Env) → m ≤ q → Agree m env other → Agree m env (unread_set q other)
+  agree_unread q env other mq g =
+      agree_put m n p calls nowhere (q + 1 + 1) 0 env (put true (q + 1) 0 (put true q 0 other)) (omega (arith, mq))
+      (agree_put m n p calls nowhere (q + 1) 0 env (put true q 0 other) (omega (arith, mq)) (agree_put m n p calls nowhere q 0 env other mq g))
+
+  preheader_does : (q : ℕ) (place : Place) → m ≤ q → DoesIt 7 4 q q (preheader place q) (At Next)
+  preheader_does q place mq = record {
+    grows = omega arith;
+    runs = λ env other w i t g o. Goes Next env (unread_set q other) w (i + 1 + 1 + 1) (agree_unread q env other mq g) (kept_unread q other) (omega (arith, o));
+  }
+
+  -- a loop behind its preheader, which the statement's own unit of work pays
+  headed_does : (q : ℕ) (place : Place) (body step : ℕ → Made (Unit {0})) (check inner after : Run Env) → m ≤ q
+      → ((o : ℕ) → q ≤ o → DoesIt 8 0 o o (body o) (λ env w. check env w ▷ inner))
+      → ((o v : ℕ) → q ≤ o → o ≤ v → DoesIt 0 0 v o (step v) after)
+      → DoesIt 7 0 q q (headed_loop place body step q) (looped false check inner after n)
+  headed_does q place body step check inner after mq turn behind =
+      then_does m n p calls 7 4 0 q q (preheader place q) (λ o. loop place (body o) step) (At Next) (looped false check inner after n) (omega arith)
+      (preheader_does q place mq)
+      (λ o r. cheaper_does m n p calls 0 0 o o 4 0 q _ (looped false check inner after n) (omega arith) (omega arith) r
+      (loop_does m n p calls o o place (body o) step check inner after (turn o r) (λ v u. behind o v r u)))
 
   abbrev Claim : Statements → Type 0
   Claim t = (q : ℕ) → m ≤ q → DoesIt 0 0 q q (statements l t q) (does s false n t)
@@ -190,16 +222,14 @@ module _ (m n : ℕ) (s : Setup) (l : Links) (p : Program) (calls : Calls) (plac
           (λ o r. rest 8 q o t r j (statements_do t h.1)) (λ o r. rest 8 q o u r j (statements_do u h.2))) (statements_do k h.3)
       statements_do (tree.Loop place test body step k) h q j =
           then_rest q _ (λ env w. looped false (tested s test) (does s false n body) (evaluated s step) n env w) k j
-          (cheaper_does m n p calls 0 0 q q 7 0 q _ (looped false (tested s test) (does s false n body) (evaluated s step) n) (omega arith) (omega arith) (omega arith)
-          (loop_does m n p calls q q place _ (effect_of_some l step) (tested s test) (does s false n body) (evaluated s step)
-          (then_does m n p calls 8 8 0 q q _ (statements l body) (tested s test) (does s false n body) (omega arith) (spared_does m n p calls 8 0 0 q q _ (tested s test) (leave_some place test h.0 q j)) (λ o r. rest 8 q o body r j (statements_do body h.1)))
-          (λ o r. cheaper_does m n p calls 0 0 o o 0 0 q _ (evaluated s step) (omega arith) (omega arith) r (effect_some step h.2 o (omega (arith, j, r)))))) (statements_do k h.3)
+          (headed_does q place (λ o. leave_unless_some l place test o ≫ λ x. statements l body) (effect_of_some l step) (tested s test) (does s false n body) (evaluated s step) j
+          (λ o r. then_does m n p calls 8 8 0 o o _ (statements l body) (tested s test) (does s false n body) (omega arith) (spared_does m n p calls 8 0 0 o o _ (tested s test) (leave_some place test h.0 o (omega (arith, j, r)))) (λ v u. rest 8 o v body u (omega (arith, j, r)) (statements_do body h.1)))
+          (λ o v r u. cheaper_does m n p calls 0 0 v v 0 0 o _ (evaluated s step) (omega arith) (omega arith) u (effect_some step h.2 v (omega (arith, j, r, u))))) (statements_do k h.3)
       statements_do (tree.Do place body test k) h q j =
           then_rest q _ (λ env w. looped false (At Next) (does s false n body) (tested s (Some test)) n env w) k j
-          (cheaper_does m n p calls 0 0 q q 7 0 q _ (looped false (At Next) (does s false n body) (tested s (Some test)) n) (omega arith) (omega arith) (omega arith)
-          (loop_does m n p calls q q place _ (leave_unless l place test) (At Next) (does s false n body) (tested s (Some test))
-          (rest 8 q q body (omega arith) j (statements_do body h.0))
-          (λ o r. cheaper_does m n p calls 0 0 o o 0 0 q _ (tested s (Some test)) (omega arith) (omega arith) r (leave_does place test h.1 o (omega (arith, j, r)))))) (statements_do k h.2)
+          (headed_does q place (statements l body) (leave_unless l place test) (At Next) (does s false n body) (tested s (Some test)) j
+          (λ o r. rest 8 o o body (omega arith) (omega (arith, j, r)) (statements_do body h.0))
+          (λ o v r u. cheaper_does m n p calls 0 0 v v 0 0 o _ (tested s (Some test)) (omega arith) (omega arith) u (leave_does place test h.1 v (omega (arith, j, r, u))))) (statements_do k h.2)
       statements_do (tree.Switch place e arms k) h q j =
           then_does m n p calls 0 0 0 q q _ (statements l k) (λ env w. left (value s e env (with_work (suc (count_labels arms)) w) ⊳ λ x. does_from s false n (first_arm x arms) arms)) (does s false n k) (omega arith)
           (switches_do place e arms h.0 (arms_do arms h.2) q j) (λ o r. rest 0 q o k r j (statements_do k h.3))

@@ -321,6 +321,19 @@ effect_of_some l (Some e) n = (ways l e).effect nowhere n
 abbrev pub loop : Place → Made (Unit {0}) → (ℕ → Made (Unit {0})) → Made (Unit {0})
 loop p body step = let s = step body.next in emit (Loop p body.code s.code Done) s.next
 
+-- a variable that nothing reads
+abbrev pub unread : Place → ℕ → Made (Unit {0})
+unread p n = emit (one p (Assign n (Same (Number 0)))) (n + 1)
+
+-- Before a loop: three variables that nothing reads, so that as much as doesn't change in the loop may be computed there later, with
+-- no more items and no more variables.
+abbrev pub preheader : Place → ℕ → Made (Unit {0})
+preheader p n = unread p n ≫ λ x n. unread p n ≫ λ x. unread p
+
+-- a loop behind its preheader, of a body and a step
+abbrev pub headed_loop : Place → (body step : ℕ → Made (Unit {0})) → ℕ → Made (Unit {0})
+headed_loop p body step n = preheader p n ≫ λ x n. loop p (body n) step
+
 -- a branch with nothing in it and a break
 abbrev pub leaves_if_not : Place → Test → Form → Form
 leaves_if_not p test k = If p test Done (one p Break) k
@@ -427,9 +440,9 @@ abbrev mutual
   statements l (tree.If p e t u k) n =
       branches p ((ways l e).condition nowhere n) (statements l t) (statements l u) ≫ λ x. statements l k
   statements l (tree.Loop p test body step k) n =
-      loop p (leave_unless_some l p test n ≫ λ x. statements l body) (effect_of_some l step) ≫ λ x. statements l k
+      headed_loop p (λ n. leave_unless_some l p test n ≫ λ x. statements l body) (effect_of_some l step) n ≫ λ x. statements l k
   statements l (tree.Do p body test k) n =
-      loop p (statements l body n) (leave_unless l p test) ≫ λ x. statements l k
+      headed_loop p (statements l body) (leave_unless l p test) n ≫ λ x. statements l k
   statements l (tree.Switch p e arms k) n =
       ((ways l e).value nowhere n ≫ λ x n.
       switch p x n (arm_with None 0 arms (count_arms arms)) (search p x n 0 arms) (arms_continue arms) (arms_from l p n 0 arms (n + 2)))

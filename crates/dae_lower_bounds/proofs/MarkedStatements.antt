@@ -24,7 +24,7 @@ use Rattle.dae_program.specs.Trees.{Expression, Expressions, Setting, Statements
 use Rattle.dae_program.specs.declared.program.Slot.{Slot}
 use Rattle.dae_program.specs.declared.statements.Piece.{Piece}
 use Rattle.dae_program.specs.declared.statements.Piece.TheVariants as piece
-use Rattle.dae_lower.specs.Lowering.{Made, ◌≫◌, nothing, emit, one, nowhere, or, assigned_all, test_of, Links, ways, operands, leave_unless, leave_unless_some, effect_of_some, loop, text_loop, prints, turn_bytes, zeros_at, zeros, settings, arms_continue, search_labels, search, switch, statements, arms_from, parameters_stored}
+use Rattle.dae_lower.specs.Lowering.{Made, ◌≫◌, nothing, emit, one, nowhere, or, assigned_all, test_of, Links, ways, operands, leave_unless, leave_unless_some, effect_of_some, loop, unread, preheader, headed_loop, text_loop, prints, turn_bytes, zeros_at, zeros, settings, arms_continue, search_labels, search, switch, statements, arms_from, parameters_stored}
 use Rattle.dae_lower_bounds.specs.Constants.{IsConstant, AreConstant, InitialisesConstants, ArmsInitialiseConstants}
 use Rattle.dae_lower_bounds.specs.Voids.{is_void_test, void_in_all, void_in_some, void_test, void_some, count_labels, void_statements, void_arms}
 use Rattle.dae_lower_bounds.proofs.Marked.{AnyTest, loads_into, loads_then, tests_within, tests_then, bit_grows, each_then, joined, agrees_first, agrees_second, Leads, Any, OwnFits, Marked, chain, more, plain_code, one_new, nothing_marked, branches_marked}
@@ -168,6 +168,24 @@ module _ (wants : Wants) (own : ℕ → ℕ) (f : ℕ) (b : Bounds) (some : 0 < 
     second : Does G Any body.next j u (step body.next)
     second = next body.next h.grows
 
+  unread_does : {G : VariableSet → Type 0} {n : ℕ} (p : Place) → Does G Any n 0 0 (unread p n)
+  unread_does p = record {
+    grows = omega arith;
+    marks = λ v. false;
+    holds = λ all fits s w g agree. (((λ t. refl), tt), omega arith, omega arith, tt);
+  }
+
+  preheader_does : {G : VariableSet → Type 0} {n : ℕ} (p : Place) → Does G Any n 0 0 (preheader p n)
+  preheader_does p =
+      more wants own f b.variables (omega arith) (omega arith) (chain wants own f b.variables (λ x n. unread p n ≫ λ x. unread p) (unread_does p)
+      (λ q y o. chain wants own f b.variables (λ x. unread p) (unread_does p) (λ q y o. unread_does p)))
+
+  -- a loop behind its preheader
+  headed_does : {G : VariableSet → Type 0} {n k j t u : ℕ} (p : Place) (body step : ℕ → Made (Unit {0})) → ((H : VariableSet → Type 0) (q : ℕ) → Does H Any q k t (body q)) → ((H : VariableSet → Type 0) (q : ℕ) → Does H Any q j u (step q)) →
+      Does G Any n (k + j) (t + u) (headed_loop p body step n)
+  headed_does p body step turn behind =
+      more wants own f b.variables (omega arith) (omega arith) (chain wants own f b.variables (λ x n. loop p (body n) step) (preheader_does p) (λ q y o. loop_does p step (turn _ q) (λ v r. behind _ v)))
+
   break_does : {G : VariableSet → Type 0} {n : ℕ} (p : Place) → Does G Any n 0 0 (emit (one p Break) n)
   break_does p = plain_code wants own f b.variables (one p Break) tt (λ all fits s w g. ((tt, tt), omega arith, omega arith, tt))
 
@@ -302,10 +320,10 @@ module _ (wants : Wants) (own : ℕ → ℕ) (f : ℕ) (b : Bounds) (some : 0 < 
     statements_do (tree.Loop p test body step k) h w c G n =
         let rest = and_second (is_sound_some b test) (are_sound_statements b body && (is_sound_some b step && are_sound_statements b k)) h in
         let last = and_second (are_sound_statements b body) (is_sound_some b step && are_sound_statements b k) rest in
-        more wants own f b.variables (omega arith) (omega arith) (chain wants own f b.variables (λ x. statements l k) (loop_does p (effect_of_some l step) (chain wants own f b.variables (λ x. statements l body) (leave_some_does p test (and_first _ _ h) w.0 G n) (λ q y o. statements_do body (and_first _ _ rest) w.1 c.0 _ q)) (λ q o. effect_some_does step (and_first _ _ last) w.2 G q))
+        more wants own f b.variables (omega arith) (omega arith) (chain wants own f b.variables (λ x. statements l k) (headed_does p (λ o. leave_unless_some l p test o ≫ λ x. statements l body) (effect_of_some l step) (λ H o. chain wants own f b.variables (λ x. statements l body) (leave_some_does p test (and_first _ _ h) w.0 H o) (λ q y r. statements_do body (and_first _ _ rest) w.1 c.0 _ q)) (λ H o. effect_some_does step (and_first _ _ last) w.2 H o))
         (λ q y o. statements_do k (and_second _ _ last) w.3 c.1 _ q))
     statements_do (tree.Do p body test k) h w c G n =
-        more wants own f b.variables (omega arith) (omega arith) (chain wants own f b.variables (λ x. statements l k) (loop_does p (leave_unless l p test) (statements_do body (and_first _ _ h) w.0 c.0 G n) (λ q o. leave_does p test (expression_does wants own f b l enough false test (and_first _ _ (and_second _ _ h)) w.1) G q))
+        more wants own f b.variables (omega arith) (omega arith) (chain wants own f b.variables (λ x. statements l k) (headed_does p (statements l body) (leave_unless l p test) (λ H o. statements_do body (and_first _ _ h) w.0 c.0 H o) (λ H o. leave_does p test (expression_does wants own f b l enough false test (and_first _ _ (and_second _ _ h)) w.1) H o))
         (λ q y o. statements_do k (and_second _ _ (and_second _ _ h)) w.2 c.1 _ q))
     statements_do (tree.Switch p e arms k) h w c G n =
         let few = arms_tests (wants f) (is_open (wants f) e) (is_void_test e) arms in

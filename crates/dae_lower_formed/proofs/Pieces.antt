@@ -13,7 +13,7 @@ use Rattle.dae_meaning.specs.declared.Spelling.TheVariants.{Byte}
 use Rattle.dae_program.specs.Printing.{argument}
 use Rattle.dae_program.specs.declared.statements.Piece.{Piece}
 use Rattle.dae_program.specs.declared.statements.Piece.TheVariants as piece
-use Rattle.dae_lower.specs.Lowering.{Made, emit, loop, text_loop, prints, turn_bytes, zeros_at, zeros}
+use Rattle.dae_lower.specs.Lowering.{Made, ◌≫◌, emit, loop, unread, preheader, headed_loop, text_loop, prints, turn_bytes, zeros_at, zeros}
 use Rattle.dae_lower_formed.specs.Bytes.{IsByte}
 use Rattle.dae_program.specs.SetFirst.{both}
 use Rattle.dae_lower_formed.proofs.Good.{IsGood, set_here, set_on, good_wider, operand_wider}
@@ -42,6 +42,29 @@ module _ (functions : List Function) {i r : Bool} where
   } where
     second : Makes functions true r Anything body.next d e (step body.next)
     second = next body.next (omega (arith, j, h.grows))
+
+  -- what stands before a loop
+  unread_makes : {n m : ℕ} {d c : VariableSet} (p : Place) → 0 < m → m ≤ n → IsWithin c d → Makes functions i r Anything n d c (unread p n)
+  unread_makes {n} {m} {d} {c} p some j w = record {
+    grows = omega arith;
+    good = ((refl, ((omega (arith, some, j), omega arith), omega arith), refl), tt);
+    sets = λ v z. set_on n d v (w v z);
+    given = tt;
+  }
+
+  preheader_makes : {n m : ℕ} {d c : VariableSet} (p : Place) → 0 < m → m ≤ n → IsWithin c d → Makes functions i r Anything n d c (preheader p n)
+  preheader_makes {n} {m} {d} {c} p some j w =
+      chain functions (λ x n. unread p n ≫ λ x. unread p) j (unread_makes p some j w)
+      (λ q e x k o t u y. chain functions (λ x. unread p) k (unread_makes p some k u) (λ v f x l z s h y. unread_makes p some l h))
+
+  -- a loop behind its preheader
+  pub headed_makes : {n m : ℕ} {d b c e : VariableSet} (p : Place) (body step : ℕ → Made (Unit {0})) → 0 < m → m ≤ n → IsWithin c d →
+      ((q : ℕ) (f : VariableSet) → m ≤ q → IsWithin d f → Makes functions true r Anything q f b (body q)) →
+      ((q : ℕ) (f : VariableSet) → m ≤ q → IsWithin d f → Makes functions true r Anything q f e (step q)) →
+      Makes functions i r Anything n d c (headed_loop p body step n)
+  headed_makes p body step some j w turn behind =
+      chain functions (λ x n. loop p (body n) step) j (preheader_makes p some j w)
+      (λ q f x k o t u y. loop_makes p step k u (turn q f k t) (λ v l. behind v f l t))
 
   -- ---- printing
 

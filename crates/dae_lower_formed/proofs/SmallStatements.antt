@@ -18,7 +18,7 @@ use Rattle.dae_program.specs.Trees.{Expression, Setting, Statements, Arms}
 use Rattle.dae_program.specs.declared.statements.Piece.{Piece}
 use Rattle.dae_program.specs.declared.statements.Piece.TheVariants as piece
 use Rattle.dae_program.specs.declared.program.Slot.{Slot}
-use Rattle.dae_lower.specs.Lowering.{Made, function_code, ◌⨾◌, ◌≫◌, emit, one, checks, nowhere, test_of, Links, leave_unless, leave_unless_some, effect_of_some, loop, text_loop, prints, turn_bytes, zeros_at, zeros, settings, arms_continue, search_labels, search, switch, statements, arms_from, parameters_stored, is_closed, closed}
+use Rattle.dae_lower.specs.Lowering.{Made, function_code, ◌⨾◌, ◌≫◌, emit, one, checks, nowhere, test_of, Links, leave_unless, leave_unless_some, effect_of_some, loop, preheader, headed_loop, text_loop, prints, turn_bytes, zeros_at, zeros, settings, arms_continue, search_labels, search, switch, statements, arms_from, parameters_stored, is_closed, closed}
 use Rattle.dae_lower.proofs.Laws.{turn_is_short}
 use Rattle.dae_lower_formed.specs.Formed.{form_variables}
 use Rattle.dae_lower_formed.specs.Sizes.{most_made, most_made_of_some, most_made_of_items, most_made_of_pieces, most_made_in, most_made_in_arms, most_made_of_slots, most_made_in_function, VariablesWithin}
@@ -36,6 +36,13 @@ loop_small : {body : Made (Unit {0})} {n w c v d : ℕ} (p : Place) (step : ℕ 
 loop_small {body} {n} {w} {c} {v} {d} p step h next = record { few = omega (arith, h.few, second.few); own = omega (arith, h.own, second.own); small = omega (arith, h.small, second.small); given = tt } where
   second : Small Any body.next v d (step body.next)
   second = next body.next
+
+preheader_small : (p : Place) (n : ℕ) → Small Any n 3 6 (preheader p n)
+preheader_small p n = record { few = omega arith; own = omega arith; small = omega arith; given = tt }
+
+-- a loop behind its preheader
+headed_small : {n w c v d : ℕ} (p : Place) (body step : ℕ → Made (Unit {0})) → ((q : ℕ) → Small Any q w c (body q)) → ((q : ℕ) → Small Any q v d (step q)) → Small Any n (3 + (w + v)) (6 + (2 + (c + d))) (headed_loop p body step n)
+headed_small {n} p body step turn behind = chain (λ x n. loop p (body n) step) (preheader_small p n) (λ q y t. loop_small p step (turn q) behind)
 
 text_small : (n : ℕ) (p : Place) (x : Operand) → Small Any n 2 17 (text_loop p x n)
 text_small n p x = record { few = omega arith; own = omega arith; small = omega arith; given = tt }
@@ -150,9 +157,9 @@ module _ (l : Links) where
     statements_small (tree.If p e t u k) n =
         weaker (omega arith) (omega arith) (chain (λ x. statements l k) (branches_small p _ _ ((expression_small l e).condition nowhere n) (λ q. statements_small t q) (λ q. statements_small u q)) (λ q y t. statements_small k q))
     statements_small (tree.Loop p test body step k) n =
-        weaker (omega arith) (omega arith) (chain (λ x. statements l k) (loop_small p (effect_of_some l step) (chain (λ x. statements l body) (leave_some_small p test n) (λ q y t. statements_small body q)) (λ q. effect_some_small step q)) (λ q y t. statements_small k q))
+        weaker (omega arith) (omega arith) (chain (λ x. statements l k) (headed_small p (λ o. leave_unless_some l p test o ≫ λ x. statements l body) (effect_of_some l step) (λ o. chain (λ x. statements l body) (leave_some_small p test o) (λ q y t. statements_small body q)) (λ q. effect_some_small step q)) (λ q y t. statements_small k q))
     statements_small (tree.Do p body test k) n =
-        weaker (omega arith) (omega arith) (chain (λ x. statements l k) (loop_small p (leave_unless l p test) (statements_small body n) (λ q. leave_small p test q)) (λ q y t. statements_small k q))
+        weaker (omega arith) (omega arith) (chain (λ x. statements l k) (headed_small p (statements l body) (leave_unless l p test) (λ q. statements_small body q) (λ q. leave_small p test q)) (λ q y t. statements_small k q))
     statements_small (tree.Switch p e arms k) n =
         weaker (omega arith) (let h = labels_and_inner arms in omega (arith, h)) (chain (λ x. statements l k)
         (chain (λ x n. switch p x n (arm_with None 0 arms (count_arms arms)) (search p x n 0 arms) (arms_continue arms) (arms_from l p n 0 arms (n + 2))) ((expression_small l e).value nowhere n)

@@ -22,7 +22,7 @@ use Rattle.dae_program.specs.SetFirst.{both, set_behind, set_behind_all, set_beh
 use Rattle.dae_lower_formed.proofs.Good.{set_here, set_on, assured_grows}
 use Rattle.dae_lower_formed.proofs.Makes.{OperandFits, Anything, operand_still, Makes, chain, weaker, sooner, nothing_makes, item_makes, branches_make}
 use Rattle.dae_lower_formed.proofs.Expressions.{FindsFunctions, expression_makes, operands_make}
-use Rattle.dae_lower_formed.proofs.Pieces.{loop_makes, prints_make, zeros_make}
+use Rattle.dae_lower_formed.proofs.Pieces.{headed_makes, prints_make, zeros_make}
 use Rattle.dae_lower_formed.proofs.Switching.{AreLabelWords, switch_makes}
 
 -- counted from 0
@@ -127,16 +127,16 @@ module _ (functions : List Function) (b : Bounds) (some : 0 < b.variables) (l : 
         let more = and_second (is_sound_some b test) (are_sound_statements b body && (is_sound_some b step && are_sound_statements b k)) h in
         let last = and_second (are_sound_statements b body) (is_sound_some b step && are_sound_statements b k) more in
         chain functions (λ x. statements l k) j
-        (loop_makes functions p (effect_of_some l step) j w
-        (chain functions (λ x. statements l body) j (leave_some_makes r d p test (and_first _ _ h) (and_first _ _ (and_first _ _ g)) n s j w)
+        (headed_makes functions p (λ o. leave_unless_some l p test o ≫ λ x. statements l body) (effect_of_some l step) some j w
+        (λ o u a t. chain functions (λ x. statements l body) a (leave_some_makes r d p test (and_first _ _ h) (and_first _ _ (and_first _ _ g)) o u a (λ v z. t v (w v z)))
         (λ q v x o a z m e. statements_make (set_behind_some d test) body true true true r (λ x. refl) (λ x. refl) (and_first _ _ more) (and_first _ _ f) y.0 (and_first _ _ (and_second _ _ (and_first _ _ g))) q v o m))
-        (λ q o. effect_some_makes r d step (and_first _ _ last) (and_second _ _ (and_second _ _ (and_first _ _ g))) q s o w))
+        (λ o u a t. effect_some_makes r d step (and_first _ _ last) (and_second _ _ (and_second _ _ (and_first _ _ g))) o u a (λ v z. t v (w v z))))
         (λ q v x o a z m e. statements_make d k i breaks may r hb hm (and_second _ _ last) (and_second _ _ f) y.1 (and_second _ _ g) q v o m)
     statements_make d (tree.Do p body test k) i breaks may r hb hm h f y g n s j w =
         chain functions (λ x. statements l k) j
-        (loop_makes functions p (leave_unless l p test) j w
-        (statements_make d body true true true r (λ x. refl) (λ x. refl) (and_first _ _ h) (and_first _ _ f) y.0 (and_first _ _ (and_first _ _ g)) n s j w)
-        (λ q o. leave_makes r d p test (and_first _ _ (and_second _ _ h)) (and_second _ _ (and_first _ _ g)) q s o w))
+        (headed_makes functions p (statements l body) (leave_unless l p test) some j w
+        (λ o u a t. statements_make d body true true true r (λ x. refl) (λ x. refl) (and_first _ _ h) (and_first _ _ f) y.0 (and_first _ _ (and_first _ _ g)) o u a (λ v z. t v (w v z)))
+        (λ o u a t. leave_makes r d p test (and_first _ _ (and_second _ _ h)) (and_second _ _ (and_first _ _ g)) o u a (λ v z. t v (w v z))))
         (λ q v x o a z m e. statements_make d k i breaks may r hb hm (and_second _ _ (and_second _ _ h)) (and_second _ _ f) y.1 (and_second _ _ g) q v o m)
     statements_make d (tree.Switch p e arms k) i breaks may r hb hm h f y g n s j w =
         let c = set_behind d e in

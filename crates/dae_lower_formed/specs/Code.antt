@@ -79,8 +79,8 @@ abbrev mutual
   most_code_in (Print p xs pieces k) = most_code_of_all xs + (most_code_of_pieces pieces + most_code_in k)
   most_code_in (If p e t u k) = 2 + (most_code e + (most_code_in t + (most_code_in u + most_code_in k)))
   most_code_in (Loop p test body step k) =
-      6 + (most_code_of_some test + (most_code_in body + (most_code_of_some step + most_code_in k)))
-  most_code_in (Do p body test k) = 6 + (most_code_in body + (most_code test + most_code_in k))
+      12 + (most_code_of_some test + (most_code_in body + (most_code_of_some step + most_code_in k)))
+  most_code_in (Do p body test k) = 12 + (most_code_in body + (most_code test + most_code_in k))
   most_code_in (Switch p e arms k) = 20 + (most_code e + (most_code_in_arms arms + most_code_in k))
   most_code_in (Break p k) = 2 + most_code_in k
   most_code_in (Continue p k) = 2 + most_code_in k

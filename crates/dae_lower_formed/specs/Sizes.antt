@@ -137,8 +137,8 @@ abbrev mutual
   most_made_in (Print p xs pieces k) = most_made_of_all xs + (most_made_of_pieces pieces + most_made_in k)
   most_made_in (If p e t u k) = most_made e + (most_made_in t + (most_made_in u + most_made_in k))
   most_made_in (Loop p test body step k) =
-      most_made_of_some test + (most_made_in body + (most_made_of_some step + most_made_in k))
-  most_made_in (Do p body test k) = most_made_in body + (most_made test + most_made_in k)
+      3 + (most_made_of_some test + (most_made_in body + (most_made_of_some step + most_made_in k)))
+  most_made_in (Do p body test k) = 3 + (most_made_in body + (most_made test + most_made_in k))
   most_made_in (Switch p e arms k) = 2 + (most_made e + (most_made_in_arms arms + most_made_in k))
   most_made_in (Break p k) = most_made_in k
   most_made_in (Continue p k) = most_made_in k

@@ -8,7 +8,7 @@ use Rattle.dae_ir.specs.declared.form.Item.TheVariants.{Assign, Break, Continue,
 use Rattle.dae_ir.specs.declared.form.Operand.{Operand}
 use Rattle.dae_ir.specs.declared.form.Operand.TheVariants.{Variable, Number}
 use Rattle.dae_ir.specs.declared.form.Value.TheVariants.{FrameAddress}
-use Rattle.dae_lower.specs.Lowering.{Links, effect_of_some, emit, leave_unless, leave_unless_some, loop, one, prints, settings, skip, statements, text_loop, ways, nowhere, zeros, ◌≫◌}
+use Rattle.dae_lower.specs.Lowering.{Links, effect_of_some, emit, headed_loop, leave_unless, leave_unless_some, one, prints, settings, skip, statements, text_loop, ways, nowhere, zeros, ◌≫◌}
 use Rattle.dae_lower_programs.proofs.Rows.{seam_one, seam_two}
 use Rattle.dae_program.proofs.LawsOfTrees.{statements_at, statements_end}
 use Rattle.dae_meaning.specs.declared.Spelling.TheVariants.{Byte}
@@ -46,8 +46,8 @@ statement_first l (statement.Evaluate p e) k n = seam_one _ (statements l k)
 statement_first l (statement.Initialise p offset size items) k n = seam_one (emit (zeros p offset size n) (n + 2) ≫ λ x. settings l p n (view_settings items.items)) (statements l k)
 statement_first l (statement.Print p xs pieces) k n = seam_one _ (statements l k)
 statement_first l (statement.If' p e b s c t) k n = seam_one _ (statements l k)
-statement_first l (statement.Loop' p test b body step) k n = seam_one (loop p (leave_unless_some l p (view_some test) n ≫ λ x. statements l (row_then body tree.Done)) (effect_of_some l (view_some step))) (statements l k)
-statement_first l (statement.Do' p b body test) k n = seam_one (loop p (statements l (row_then body tree.Done) n) (leave_unless l p (view test.value))) (statements l k)
+statement_first l (statement.Loop' p test b body step) k n = seam_one (headed_loop p (λ o. leave_unless_some l p (view_some test) o ≫ λ x. statements l (row_then body tree.Done)) (effect_of_some l (view_some step)) n) (statements l k)
+statement_first l (statement.Do' p b body test) k n = seam_one (headed_loop p (statements l (row_then body tree.Done)) (leave_unless l p (view test.value)) n) (statements l k)
 statement_first l (statement.Switch' p e b arms) k n = seam_one _ (statements l k)
 statement_first l (statement.Break p) k n = seam_one (emit (one p Break) n) (statements l k)
 statement_first l (statement.Continue p) k n = seam_one (emit (one p Continue) n) (statements l k)

@@ -10,7 +10,7 @@ use Rattle.dae_ir.specs.declared.form.Operand.{Operand}
 use Rattle.dae_ir.specs.declared.form.Operand.TheVariants.{Variable, Number}
 use Rattle.dae_ir.specs.declared.form.Statement.{Statement, Simple}
 use Rattle.dae_ir.specs.declared.form.Value.TheVariants.{Binary, FrameAddress, Same}
-use Rattle.dae_lower.specs.Lowering.{emit, leaves_if_not, one, only, test_of, text_loop, turn_bytes, zeros, zeros_at, ◌⨾◌}
+use Rattle.dae_lower.specs.Lowering.{emit, leaves_if_not, one, only, set, test_of, text_loop, turn_bytes, unread, zeros, zeros_at, ◌⨾◌}
 use Rattle.dae_lower_programs.proofs.Reserving.{two_reserved}
 use Rattle.dae_lower_programs.proofs.Rows.{two_codes, two_items}
 use Rattle.dae_lower_programs.specs.Parts.{text_turn, zero_then, zero_turn}
@@ -19,6 +19,14 @@ use Rattle.dae_lower_maker.specs.Making.{Written, Writes}
 use Rattle.dae_lower_maker.specs.Numbers.{late, late_in, number_after}
 use Rattle.dae_meaning.specs.declared.Comparison.TheVariants.{NotEqual}
 use Rattle.dae_meaning.specs.declared.Operator.TheVariants.{Add, Subtract}
+
+-- a variable that nothing reads, whatever was given for it
+pub unread_written : (place : Place) (a b : Written) (y : Operand) → Writes (set place (Same (Number 0)) a.next) a b y → Writes (unread place a.next) a b tt
+unread_written place a b y h = record {
+  grows = h.grows;
+  fits = λ lt. (let w = h.fits lt in record { code = w.code; given = refl; next = w.next });
+  full = h.full;
+}
 
 abbrev text_code : Place → Operand → ℕ → ℕ → Form
 text_code p x n m = Do p (Assign n (Same x)) (Loop p (text_turn p n m) (one p (Assign n (Binary Add (Variable n) (Number 1)))) Done)

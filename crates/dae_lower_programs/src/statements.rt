@@ -2,7 +2,7 @@
 
 ghost use Rattle.std.specs.Prelude.{IfOk};
 ghost use Rattle.dae_lower.specs.Lowering.{arms_from, effect_of_some, leave_unless};
-ghost use Rattle.dae_lower.specs.Lowering.{leave_unless_some, statements};
+ghost use Rattle.dae_lower.specs.Lowering.{leave_unless_some, preheader, statements, unread};
 ghost use Rattle.dae_lower_expressions.specs.Lowered.{MakesWhole, links_in};
 ghost use Rattle.dae_lower_programs.specs.Made.{MakesBlock};
 ghost use Rattle.dae_lower_programs.specs.Sound.{AreArmsSound, AreSound};
@@ -15,7 +15,7 @@ use crate::initialising::{Aggregate, put_all, zero};
 use crate::printing::print;
 use crate::switching::{begin_switch, do_arm, end_switch};
 use dae_base::Place;
-use dae_ir::{Item, Operand, Statement as FormStatement};
+use dae_ir::{Item, Operand, Statement as FormStatement, Value};
 use dae_lower_expressions::Lowerer;
 use dae_program::{Arm, Expression, Links, Setting, Statement};
 use std::alloc::AllocError;
@@ -163,6 +163,24 @@ fn give_back(
     }
 }
 
+/// A variable that nothing reads.
+fn reserve_unread(lowerer: &mut Lowerer, place: Place) -> Result<(), AllocError>
+    ensures { IfOk result (MakesWhole (unread place) lowerer.old lowerer.new) }
+{
+    lowerer.maker.set(place, Value::Same(Operand::Number(0)))?;
+    Ok(())
+}
+
+/// What stands before a loop: variables that nothing reads, so that what doesn't change in the loop may be computed there later.
+fn preheader(lowerer: &mut Lowerer, place: Place) -> Result<(), AllocError>
+    ensures { IfOk result (MakesWhole (preheader place) lowerer.old lowerer.new) }
+{
+    reserve_unread(lowerer, place)?;
+    reserve_unread(lowerer, place)?;
+    reserve_unread(lowerer, place)?;
+    Ok(())
+}
+
 /// Statements in order, whose arms words number. `none` is the number of no function.
 #[cycle(statements)]
 pub fn make_statements(
@@ -222,6 +240,7 @@ fn make_statement(
             Ok(())
         }
         Statement::Loop(place, test, body, step) => {
+            preheader(lowerer, *place)?;
             let outer = lowerer.maker.begin_block(lowerer.alloc);
             leave_unless_some(lowerer, links, none, *place, test)?;
             make_statements(lowerer, links, none, body)?;
@@ -231,6 +250,7 @@ fn make_statement(
             Ok(())
         }
         Statement::Do(place, body, test) => {
+            preheader(lowerer, *place)?;
             let turn = block(lowerer, links, none, body)?;
             let after = test_block(lowerer, links, none, *place, test)?;
             lowerer.maker.repeat(*place, turn, after)?;

@@ -64,8 +64,8 @@ abbrev mutual
   weight_in c (Print p xs pieces k) = 1 + (weight_of_all c xs + (weight_of_pieces c pieces + weight_in c k))
   weight_in c (If p e t u k) = 1 + (weight c e + (weight_in c t + (weight_in c u + weight_in c k)))
   weight_in c (Loop p test body step k) =
-      2 + (weight_of_some c test + (weight_in c body + (weight_of_some c step + weight_in c k)))
-  weight_in c (Do p body test k) = 2 + (weight_in c body + (weight c test + weight_in c k))
+      3 + (weight_of_some c test + (weight_in c body + (weight_of_some c step + weight_in c k)))
+  weight_in c (Do p body test k) = 3 + (weight_in c body + (weight c test + weight_in c k))
   weight_in c (Switch p e arms k) = 5 + (weight c e + (weight_in_arms c arms + weight_in c k))
   weight_in c (Break p k) = 1 + weight_in c k
   weight_in c (Continue p k) = 1 + weight_in c k

@@ -1,22 +1,15 @@
 -- Arguments are renamed one after the other.
-use Rattle.std.proofs.Common.{◌≡◌, ℕ, suc, ◌+◌, ◌<◌, true, List, [], ◌∷◌, ◌++◌, length, take, get_or, refl, ap, sym, ◌∙◌, subst, arith}
-use Rattle.std.proofs.Math.Seq.{take-suc}
-use Rattle.dae_ir.specs.Classes.{VariableSet, has}
+use Rattle.std.proofs.Common.{◌≡◌, ℕ, ◌+◌, ◌<◌, true, List, [], ◌∷◌, ◌++◌, length, take, get_or, refl, ap, sym, ◌∙◌, subst}
+use Rattle.dae_ir.specs.Classes.{has}
 use Rattle.dae_ir.specs.SetFirst.{AllRead}
 use Rattle.dae_ir.specs.declared.form.Operand.{Operand}
+use Rattle.dae_ir.proofs.Laws.{read_end, take_one}
 use Rattle.dae_webs.specs.Current.{Current, has_web}
 use Rattle.dae_webs.specs.Renamed.{renamed_operand, renamed_operands}
 
 renamed_end : (m : Current) (xs : List Operand) (x : Operand) → renamed_operands m (xs ++ x ∷ []) ≡ renamed_operands m xs ++ renamed_operand m x ∷ []
 renamed_end m [] x = refl
 renamed_end m (y ∷ xs) x = ap (λ (l : List Operand). renamed_operand m y ∷ l) (renamed_end m xs x)
-
-read_end : (d : VariableSet) (xs : List Operand) (x : Operand) → AllRead d xs → has d x ≡ true → AllRead d (xs ++ x ∷ [])
-read_end d [] x all h = (h, tt)
-read_end d (y ∷ xs) x all h = (all.0, read_end d xs x all.1 h)
-
-take_one : (xs : List Operand) (i : ℕ) (d : Operand) → i < length xs → take (i + 1) xs ≡ take i xs ++ get_or xs i d ∷ []
-take_one xs i d lt = let one : suc i ≡ i + 1 = omega arith in subst (λ (k : ℕ). take k xs ≡ take i xs ++ get_or xs i d ∷ []) one (take-suc xs i d lt)
 
 -- the first i arguments are renamed
 pub record OperandsTo (m : Current) (xs : List Operand) (i : ℕ) (ys : List Operand) : Type 0 where

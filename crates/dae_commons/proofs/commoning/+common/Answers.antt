@@ -1,12 +1,13 @@
-use Rattle.std.proofs.Common.{◌≡◌, List, [], Some, ap, sym, ◌∙◌, subst}
+use Rattle.std.proofs.Common.{◌≡◌, List, Some, refl, ap, sym, ◌∙◌, subst}
 use Rattle.dae_ir.specs.Classes.{Classes, classes_in}
+use Rattle.dae_ir.specs.Form.{form_of}
 use Rattle.dae_ir.specs.declared.form.Statement.{Statement}
 use Rattle.dae_ir.specs.declared.form.Statement.TheVariants as statement
 use Rattle.dae_commons.specs.declared.equations.Equation.{Equation}
-use Rattle.dae_commons.specs.Equations.{equations_in}
+use Rattle.dae_commons.specs.Equations.{equations_in, known_in_loop}
 use Rattle.dae_commons.specs.Copies.{propagated_test}
 use Rattle.dae_commons.specs.Commoned.{IsCommonedList, IsCommonedTo, commoned_item, known_after}
-use Rattle.dae_commons.proofs.Steps.{simple_commoned, if_commoned, loop_commoned, commoned_start, commoned_next, commoned_end, listed}
+use Rattle.dae_commons.proofs.Steps.{simple_commoned, if_commoned, loop_commoned, commoned_start, commoned_next, commoned_end, listed, in_loop}
 use Rattle.dae_commons.proofs.commoning.+common.Goals as goal
 
 pub common_list-loop-statement-init : goal.common_list-loop-statement-init
@@ -61,8 +62,9 @@ common_statement-returns-in_ok-second-in-Loop t c =
     let old = c.args.known in
     let p = c.in_ok-first-in-Loop.first in
     let q = c.in_ok-second-in-Loop.second in
-    let none = c.new-nothing.ensures in
-    let first : IsCommonedList s w.body.items [] p.statements.items p.known = listed s _ _ _ _ _ _ _ c.in_ok-first-in-Loop.ensures c.deref-in-Loop.ensures.value c.as_slice-in-Loop.ensures none in
-    let second : IsCommonedList s w.step.items [] q.statements.items q.known = listed s _ _ _ _ _ _ _ c.in_ok-second-in-Loop.ensures c.deref-in-Loop-2.ensures.value c.as_slice-in-Loop-2.ensures none in
-    subst (λ (x : Statement). IsCommonedTo s x old (Some c.new-nothing.result) (statement.Loop w.place p.statements q.statements)) (sym w.is)
-    (loop_commoned s w.place w.body w.step p.statements q.statements old p.known q.known (Some c.new-nothing.result) first second (ap (λ (z : List Equation). Some z) none))
+    let r : List Equation = c.in_ok-inside-in-Loop.inside in
+    let is : r ≡ known_in_loop (equations_in old) (form_of w.body.items) (form_of w.step.items) = in_loop _ (equations_in old) _ w.body.items _ w.step.items r c.in_ok-inside-in-Loop.ensures c.equations_in-equations.ensures c.deref-in-Loop.ensures.value c.deref-in-Loop-2.ensures.value in
+    let first : IsCommonedList s w.body.items r p.statements.items p.known = listed s _ _ _ _ _ _ _ c.in_ok-first-in-Loop.ensures c.deref-in-Loop-3.ensures.value c.as_slice-in-Loop.ensures refl in
+    let second : IsCommonedList s w.step.items r q.statements.items q.known = listed s _ _ _ _ _ _ _ c.in_ok-second-in-Loop.ensures c.deref-in-Loop-4.ensures.value c.as_slice-in-Loop-2.ensures refl in
+    subst (λ (x : Statement). IsCommonedTo s x old (Some r) (statement.Loop w.place p.statements q.statements)) (sym w.is)
+    (loop_commoned s w.place w.body w.step p.statements q.statements old p.known q.known (Some r) r is first second refl)

@@ -15,14 +15,14 @@ pub without_known_checks-requires : goal.without_known_checks-requires
 without_known_checks-requires c =
     let common = c.in_ok-common.common in
     let made = c.in_ok-lowered.ensures in
-    let one = up_to_commons c.in_ok-lowered.lowered c.in_ok-renamed.renamed common common common c.forms_are_renamed.ensures c.forms_are_commoned.ensures made.scoped c.in_ok-renamed.ensures c.in_ok-common.ensures in
+    let one = up_to_commons c.in_ok-lowered.lowered c.in_ok-renamed.renamed common common common c.forms_are_renamed.ensures c.forms_are_hoisted.ensures c.forms_are_commoned.ensures made.scoped c.in_ok-renamed.ensures c.in_ok-common.ensures in
     one.scoped
 
 pub with_sums_at_accesses-requires : goal.with_sums_at_accesses-requires
 with_sums_at_accesses-requires c =
     let bare = c.in_ok-bare.bare in
     let made = c.in_ok-lowered.ensures in
-    let one = up_to_checks c.in_ok-lowered.lowered c.in_ok-renamed.renamed c.in_ok-common.common bare bare c.forms_are_renamed.ensures c.forms_are_commoned.ensures c.checks_are_elided.ensures made.scoped
+    let one = up_to_checks c.in_ok-lowered.lowered c.in_ok-renamed.renamed c.in_ok-common.common bare bare c.forms_are_renamed.ensures c.forms_are_hoisted.ensures c.forms_are_commoned.ensures c.checks_are_elided.ensures made.scoped
     c.in_ok-renamed.ensures c.in_ok-common.ensures c.in_ok-bare.ensures in
     one.scoped
 
@@ -31,7 +31,7 @@ reuse_loads-requires c =
     let lowered = c.in_ok-lowered.lowered in
     let near = c.in_ok-near.near in
     let made = c.in_ok-lowered.ensures in
-    let prepared = passes_prepared lowered c.in_ok-renamed.renamed c.in_ok-common.common c.in_ok-bare.bare near c.renaming_keeps_sizes.ensures c.commoning_keeps_counts.ensures c.elision_keeps_sizes.ensures
+    let prepared = passes_prepared lowered c.in_ok-renamed.renamed c.in_ok-common.common c.in_ok-bare.bare near c.renaming_keeps_sizes.ensures c.hoisting_keeps_sizes.ensures c.commoning_keeps_counts.ensures c.elision_keeps_sizes.ensures
     c.in_ok-renamed.ensures c.in_ok-common.ensures c.in_ok-bare.ensures c.in_ok-near.ensures in
     all_reusable lowered.functions near.functions prepared (c.requires.variables lowered made.lowered)
 
@@ -45,10 +45,10 @@ returns-clause-made c =
     let ir = c.in_ok-ir.ir in
     let made = c.in_ok-lowered.ensures in
     let reused = c.in_ok-ir.ensures in
-    let before : IsBehind lowered near = passes_before lowered named common bare near c.forms_are_renamed.ensures c.forms_are_commoned.ensures c.checks_are_elided.ensures made.scoped
+    let before : IsBehind lowered near = passes_before lowered named common bare near c.forms_are_renamed.ensures c.forms_are_hoisted.ensures c.forms_are_commoned.ensures c.checks_are_elided.ensures made.scoped
     c.in_ok-renamed.ensures c.in_ok-common.ensures c.in_ok-bare.ensures c.in_ok-near.ensures in
     let keeps : KeepsForm near ir = c.forms_are_reused.ensures near ir before.scoped reused in
-    let prepared = passes_prepared lowered named common bare near c.renaming_keeps_sizes.ensures c.commoning_keeps_counts.ensures c.elision_keeps_sizes.ensures
+    let prepared = passes_prepared lowered named common bare near c.renaming_keeps_sizes.ensures c.hoisting_keeps_sizes.ensures c.commoning_keeps_counts.ensures c.elision_keeps_sizes.ensures
     c.in_ok-renamed.ensures c.in_ok-common.ensures c.in_ok-bare.ensures c.in_ok-near.ensures in
     record {
       first = lowered;
@@ -66,7 +66,7 @@ returns-clause-scoped c =
     let near = c.in_ok-near.near in
     let ir = c.in_ok-ir.ir in
     let made = c.in_ok-lowered.ensures in
-    let before : IsBehind lowered near = passes_before lowered c.in_ok-renamed.renamed c.in_ok-common.common bare near c.forms_are_renamed.ensures c.forms_are_commoned.ensures c.checks_are_elided.ensures made.scoped
+    let before : IsBehind lowered near = passes_before lowered c.in_ok-renamed.renamed c.in_ok-common.common bare near c.forms_are_renamed.ensures c.forms_are_hoisted.ensures c.forms_are_commoned.ensures c.checks_are_elided.ensures made.scoped
     c.in_ok-renamed.ensures c.in_ok-common.ensures c.in_ok-bare.ensures c.in_ok-near.ensures in
     let keeps : KeepsForm near ir = c.forms_are_reused.ensures near ir before.scoped c.in_ok-ir.ensures in
     keeps.scoped
@@ -78,7 +78,7 @@ returns-clause-first c =
     let near = c.in_ok-near.near in
     let ir = c.in_ok-ir.ir in
     let made = c.in_ok-lowered.ensures in
-    let before : IsBehind lowered near = passes_before lowered c.in_ok-renamed.renamed c.in_ok-common.common bare near c.forms_are_renamed.ensures c.forms_are_commoned.ensures c.checks_are_elided.ensures made.scoped
+    let before : IsBehind lowered near = passes_before lowered c.in_ok-renamed.renamed c.in_ok-common.common bare near c.forms_are_renamed.ensures c.forms_are_hoisted.ensures c.forms_are_commoned.ensures c.checks_are_elided.ensures made.scoped
     c.in_ok-renamed.ensures c.in_ok-common.ensures c.in_ok-bare.ensures c.in_ok-near.ensures in
     let keeps : KeepsForm near ir = c.forms_are_reused.ensures near ir before.scoped c.in_ok-ir.ensures in
     keeps.first (before.first made.first)
@@ -91,7 +91,7 @@ returns-clause-room c =
     let ir = c.in_ok-ir.ir in
     let made = c.in_ok-lowered.ensures in
     let reused = c.in_ok-ir.ensures in
-    let before : IsBehind lowered near = passes_before lowered c.in_ok-renamed.renamed c.in_ok-common.common bare near c.forms_are_renamed.ensures c.forms_are_commoned.ensures c.checks_are_elided.ensures made.scoped
+    let before : IsBehind lowered near = passes_before lowered c.in_ok-renamed.renamed c.in_ok-common.common bare near c.forms_are_renamed.ensures c.forms_are_hoisted.ensures c.forms_are_commoned.ensures c.checks_are_elided.ensures made.scoped
     c.in_ok-renamed.ensures c.in_ok-common.ensures c.in_ok-bare.ensures c.in_ok-near.ensures in
     let keeps : KeepsForm near ir = c.forms_are_reused.ensures near ir before.scoped reused in
     room_later _ lowered ir (final_later lowered near ir before reused keeps) made.room

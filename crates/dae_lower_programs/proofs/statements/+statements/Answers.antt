@@ -1,7 +1,7 @@
 use Rattle.std.proofs.Common.{refl, drop, ◌+◌, ap, sym, subst, ◌∙◌, arith, rules, List}
 use Rattle.std.specs.Prelude.{None}
 use Rattle.dae_ir.specs.declared.form.Item.TheVariants.{Break, Continue}
-use Rattle.dae_lower.specs.Lowering.{arms_continue, arms_from, branches, effect_of_some, emit, leave_unless, leave_unless_some, loop, nowhere, one, operands, prints, statements, ways, ◌≫◌}
+use Rattle.dae_lower.specs.Lowering.{arms_continue, arms_from, branches, effect_of_some, emit, headed_loop, leave_unless, leave_unless_some, loop, nowhere, one, operands, preheader, prints, statements, ways, ◌≫◌}
 use Rattle.dae_lower_expressions.specs.Lowered.{Whole, links_in, state_of}
 use Rattle.dae_lower_programs.proofs.Firsts.{made_at, made_end}
 use Rattle.dae_lower_programs.proofs.Rows.{block_whole, branches_whole, first_leads, last_leads, last_whole, leaf_whole, loop_whole, next_leads, then_whole}
@@ -144,8 +144,9 @@ make_statement-returns-in_ok-branch-in-If t c =
 pub make_statement-returns-in_ok-repeat-in-Loop : goal.make_statement-returns-in_ok-repeat-in-Loop
 make_statement-returns-in_ok-repeat-in-Loop t c =
     let l = links_in c.args.none c.args.links.now in
-    let old = c.args.lowerer.now in
-    let a = state_of old in
+    let old = c.preheader.new.lowerer in
+    let a = state_of c.args.lowerer.now in
+    let h = state_of old in
     let inner = c.make_statements.new.lowerer in
     let begun = state_of (record { alloc = old.alloc; maker = c.begin_block-outer.new.self; later = old.later }) in
     let b = state_of (record { alloc = inner.alloc; maker = c.end_block-turn.new.self; later = inner.later }) in
@@ -156,26 +157,29 @@ make_statement-returns-in_ok-repeat-in-Loop t c =
     let body = statements l (view_statements c.in-Loop.body.items) in
     let step = effect_of_some l (view_some c.in-Loop.step) in
     subst (λ (ss : tree.Statements). Whole (statements l ss) a z tt) (sym (ap (λ (s : Statement). statement_then s Done) c.in-Loop.is ∙ view_loop p c.in-Loop.test c.in-Loop.body c.in-Loop.step Done))
-    (last_whole (λ n. loop p (test n ≫ λ u. body) step) a z tt
-    (loop_whole p (λ n. test n ≫ λ u. body) step a b (state_of e) z c.end_block-turn.result.items c.in_ok-after-in-Loop.after.items
-    (block_whole (λ n. test n ≫ λ u. body) a begun (state_of inner) b c.begin_block-outer.result.items c.end_block-turn.result.items c.begin_block-outer.ensures.after refl c.begin_block-outer.ensures.outer
+    (last_whole (headed_loop p (λ n. test n ≫ λ u. body) step) a z tt
+    (then_whole (preheader p) (λ x n. loop p (test n ≫ λ u. body) step) a h z tt tt c.in_ok-preheader-in-Loop.ensures
+    (loop_whole p (λ n. test n ≫ λ u. body) step h b (state_of e) z c.end_block-turn.result.items c.in_ok-after-in-Loop.after.items
+    (block_whole (λ n. test n ≫ λ u. body) h begun (state_of inner) b c.begin_block-outer.result.items c.end_block-turn.result.items c.begin_block-outer.ensures.after refl c.begin_block-outer.ensures.outer
     (then_whole test (λ u. body) begun (state_of c.leave_unless_some.new.lowerer) (state_of inner) tt tt c.in_ok-leave_unless_some-in-Loop.ensures (rw (c.deref-in-Loop.ensures.value) at (c.in_ok-make_statements-in-Loop.ensures)))
     c.end_block-turn.ensures.block c.end_block-turn.ensures.after refl)
-    c.in_ok-after-in-Loop.ensures refl c.in_ok-repeat-in-Loop.ensures))
+    c.in_ok-after-in-Loop.ensures refl c.in_ok-repeat-in-Loop.ensures)))
 
 pub make_statement-returns-in_ok-repeat-in-Do : goal.make_statement-returns-in_ok-repeat-in-Do
 make_statement-returns-in_ok-repeat-in-Do t c =
     let l = links_in c.args.none c.args.links.now in
     let a = state_of c.args.lowerer.now in
+    let h = state_of c.preheader-in-Do.new.lowerer in
     let e = c.test_block.new.lowerer in
     let z = state_of (record { alloc = e.alloc; maker = c.repeat-in-Do.new.self; later = e.later }) in
     let p = c.in-Do.place in
     let body = statements l (view_statements c.in-Do.body.items) in
     let step = leave_unless l p (view c.in-Do.test.value) in
     subst (λ (ss : tree.Statements). Whole (statements l ss) a z tt) (sym (ap (λ (s : Statement). statement_then s Done) c.in-Do.is ∙ view_do p c.in-Do.body c.in-Do.test Done))
-    (last_whole (λ n. loop p (body n) step) a z tt
-    (loop_whole p body step a (state_of c.block-in-Do.new.lowerer) (state_of e) z c.in_ok-turn-in-Do.turn.items c.in_ok-after-in-Do.after.items
-    (rw (c.deref-in-Do.ensures.value) at (c.in_ok-turn-in-Do.ensures)) (rw (c.deref-in-Do-2.ensures) at (c.in_ok-after-in-Do.ensures)) refl c.in_ok-repeat-in-Do.ensures))
+    (last_whole (headed_loop p body step) a z tt
+    (then_whole (preheader p) (λ x n. loop p (body n) step) a h z tt tt c.in_ok-preheader-in-Do.ensures
+    (loop_whole p body step h (state_of c.block-in-Do.new.lowerer) (state_of e) z c.in_ok-turn-in-Do.turn.items c.in_ok-after-in-Do.after.items
+    (rw (c.deref-in-Do.ensures.value) at (c.in_ok-turn-in-Do.ensures)) (rw (c.deref-in-Do-2.ensures) at (c.in_ok-after-in-Do.ensures)) refl c.in_ok-repeat-in-Do.ensures)))
 
 pub make_statement-returns-in_ok-make_switch-in-Switch : goal.make_statement-returns-in_ok-make_switch-in-Switch
 make_statement-returns-in_ok-make_switch-in-Switch t c =

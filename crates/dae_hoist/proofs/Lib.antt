@@ -1,0 +1,11 @@
+pub mod Passing
+pub mod Steps
+pub mod Reading
+pub mod Meaning
+pub mod Scoping
+pub mod Ordering
+pub mod Accesses
+pub mod Counts
+pub mod Staying
+pub mod Programs
+pub mod Wholes
