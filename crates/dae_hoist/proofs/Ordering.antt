@@ -68,14 +68,15 @@ eq_sym v u h = eq-eqb u v (sym (eqb-true v u h))
 -- one more at the end
 listed_more : (us : List ℕ) (v u : ℕ) → is_listed (us ++ v ∷ []) u ≡ true → (nat_eq v u ≡ true) ⊎ (is_listed us u ≡ true)
 listed_more [] v u h = or_cases (nat_eq v u) false h
-listed_more (w ∷ us) v u h = by (or_cases (nat_eq w u) (is_listed (us ++ v ∷ []) u) h) where
+listed_more (w ∷ us) v u h = by (listed_more us v u) (or_cases (nat_eq w u) (is_listed (us ++ v ∷ []) u) h) where
   later : (nat_eq v u ≡ true) ⊎ (is_listed us u ≡ true) → (nat_eq v u ≡ true) ⊎ ((nat_eq w u || is_listed us u) ≡ true)
   later (inl k) = inl k
   later (inr k) = inr (or_right (nat_eq w u) (is_listed us u) k)
 
-  by : (nat_eq w u ≡ true) ⊎ (is_listed (us ++ v ∷ []) u ≡ true) → (nat_eq v u ≡ true) ⊎ ((nat_eq w u || is_listed us u) ≡ true)
-  by (inl k) = inr (or_left (nat_eq w u) (is_listed us u) k)
-  by (inr k) = later (listed_more us v u k)
+  by : (is_listed (us ++ v ∷ []) u ≡ true → (nat_eq v u ≡ true) ⊎ (is_listed us u ≡ true)) → (nat_eq w u ≡ true) ⊎ (is_listed (us ++ v ∷ []) u ≡ true)
+      → (nat_eq v u ≡ true) ⊎ ((nat_eq w u || is_listed us u) ≡ true)
+  by rest (inl k) = inr (or_left (nat_eq w u) (is_listed us u) k)
+  by rest (inr k) = later (rest k)
 
 module _ (t : Hoisting) where
   target_set : (us : List ℕ) (d : VariableSet) (v : ℕ) → IsWithin (is_set t us) d → IsWithin (is_set t (us ++ v ∷ [])) (with_set v d)

@@ -318,7 +318,8 @@ fn return_code(code: &mut Vec<Inst>, making: &Making) -> Result<(), AllocError>
         ((plan_by making.now).leaf making.now.function) ++ Jalr 0 1 (pos 0) ∷ [])) }
 {
     epilogue_code(code, making)?;
-    code.push(Inst::Jalr(0, 1, 0))
+    code.push(Inst::Jalr(0, 1, 0))?;
+    Ok(())
 }
 
 /// The block of a return.
