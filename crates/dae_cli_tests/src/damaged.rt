@@ -1,9 +1,11 @@
 //! Images and traces of which an end is cut off or a byte is changed.
 
-use crate::answers::{answer_over, bytes_of, empty_shelf};
+use crate::calls::{bytes_of, check_answer, shelf_of};
 use crate::changed::CHANGED;
-use crate::images::TRACE;
-use crate::runs::{PRINTS, STORES_BESIDE, STORES_THERE};
+use crate::held::image_named;
+use crate::others::TRACE;
+use crate::parts::{number_in, part, status_in, told};
+use crate::runs::STORES_BESIDE;
 use dae_io::MemShelf;
 use std::alloc::{AllocError, Global};
 use std::process::Abort;
@@ -13,24 +15,9 @@ const JOBS: &str = "exec p;trace p;time p;dis p;check p t;debug p t;guard p t";
 
 /// A shelf with an image and a text under the names `p` and `t`.
 fn shelf_with(alloc: Global, image: &[u8], text: &[u8]) -> Result<Box<MemShelf>, AllocError> {
-    let mut shelf = empty_shelf(alloc, 0)?;
-    shelf.hold(alloc, "p", image)?;
+    let mut shelf = shelf_of(alloc, "p", image)?;
     shelf.hold(alloc, "t", text)?;
     Ok(shelf)
-}
-
-/// The words are answered over the shelf with this status, output and note.
-fn check_shelf(
-    rt: &impl Abort,
-    alloc: Global,
-    line: &str,
-    shelf: &mut MemShelf,
-    due: (u8, &[u8], &[u8]),
-) -> Result<(), AllocError> {
-    let answer = answer_over(alloc, line, shelf, (0, 0))?;
-    let is_due = (answer.status, answer.put(), answer.noted()) == due;
-    assert!(rt; is_due, "{line}");
-    Ok(())
 }
 
 /// The words are answered with this status, output and note where `p` and `t` hold these texts.
@@ -42,7 +29,7 @@ fn check_files(
     due: (u8, &[u8], &[u8]),
 ) -> Result<(), AllocError> {
     let mut shelf = shelf_with(alloc, image, text)?;
-    check_shelf(rt, alloc, line, &mut shelf, due)
+    check_answer(rt, alloc, line, &mut shelf, due)
 }
 
 /// The first bytes of an image, so many, are refused by the job.
@@ -94,30 +81,6 @@ fn with_bit_turned(alloc: Global, text: &[u8], place: usize) -> Result<Vec<u8>, 
     Ok(other)
 }
 
-/// The bytes of a line, with line feeds for its slashes.
-fn with_line_feeds(alloc: Global, text: &str) -> Result<Vec<u8>, AllocError> {
-    let mut lines = Vec::new(alloc);
-    add_with_line_feeds(&mut lines, text)?;
-    Ok(lines)
-}
-
-fn add_with_line_feeds(lines: &mut Vec<u8>, text: &str) -> Result<(), AllocError> {
-    for byte in text.as_bytes() {
-        lines.push(if *byte == b'/' { b'\n' } else { *byte })?;
-    }
-    Ok(())
-}
-
-/// The image of a name in the table.
-fn image_of(alloc: Global, name: &str) -> Result<Vec<u8>, AllocError> {
-    let hexadecimal = match name {
-        "b" => STORES_BESIDE,
-        "t" => STORES_THERE,
-        _ => PRINTS,
-    };
-    bytes_of(alloc, hexadecimal)
-}
-
 /// The image with the lowest bit of the byte at a place turned is answered so.
 fn check_change(
     rt: &impl Abort,
@@ -145,26 +108,11 @@ fn check_places(
     Ok(())
 }
 
-/// The part of a line at this place, or nothing.
-fn part(line: &str, at: usize) -> &str {
-    line.split(';').nth(at).unwrap_or("")
-}
-
-/// The number that a part spells.
-fn number_in(line: &str, at: usize) -> usize {
-    part(line, at).parse::<usize>().unwrap_or(0)
-}
-
-/// The status that a part spells.
-fn status_in(line: &str, at: usize) -> u8 {
-    part(line, at).parse::<u8>().unwrap_or(255)
-}
-
 /// The answers of a line of the table.
 fn check_changes(rt: &impl Abort, alloc: Global, line: &str) -> Result<(), AllocError> {
-    let image = image_of(alloc, part(line, 0))?;
-    let out = with_line_feeds(alloc, part(line, 4))?;
-    let note = with_line_feeds(alloc, part(line, 5))?;
+    let image = bytes_of(alloc, image_named(part(line, 0)))?;
+    let out = told(alloc, part(line, 4))?;
+    let note = told(alloc, part(line, 5))?;
     let places = (number_in(line, 1), number_in(line, 2));
     let due = (status_in(line, 3), out.as_slice(), note.as_slice());
     check_places(rt, alloc, image.as_slice(), places, due)
@@ -256,18 +204,17 @@ fn each_byte_of_a_trace_counts(rt: HostRuntime) -> Result<(), AllocError> {
     check_bytes_of_trace(&rt, rt.alloc(), image.as_slice())
 }
 
-/// Lines with `;` between: words, how many bytes `x` are under the name `t`, the status, and what is put out and noted with `/` for
-/// each line feed.
+/// The words, how many bytes `x` are under the name `t`, the status, and what is put out and noted.
 const LENGTHS: &str = "\
-    debug p t;1048576;3;bad command/;budget ld 1 al 0 sa 1 sd 1 ab 0 eb 0 cq 0/running/steps 0/\n\
-    debug p t;1048577;2;;refused script-too-long/\n\
-    guard p t;1048576;2;;refused guard-line 1/\n\
-    guard p t;1048577;2;;refused certificate-too-long/";
+    debug p t|1048576|3|bad command`|budget ld 1 al 0 sa 1 sd 1 ab 0 eb 0 cq 0`running`steps 0`\n\
+    debug p t|1048577|2||refused script-too-long`\n\
+    guard p t|1048576|2||refused guard-line 1`\n\
+    guard p t|1048577|2||refused certificate-too-long`";
 
 /// The answer of a line on lengths.
 fn check_length(rt: &impl Abort, alloc: Global, line: &str) -> Result<(), AllocError> {
-    let out = with_line_feeds(alloc, part(line, 3))?;
-    let note = with_line_feeds(alloc, part(line, 4))?;
+    let out = told(alloc, part(line, 3))?;
+    let note = told(alloc, part(line, 4))?;
     let long = vec![in alloc; b'x'; number_in(line, 1)]?;
     let image = bytes_of(alloc, STORES_BESIDE)?;
     let due = (status_in(line, 2), out.as_slice(), note.as_slice());

@@ -15,7 +15,7 @@ pub const LISTING: &str =
     ".budget 1 0 1 1 0 0 0\n.memory 64\n.calls 1\n.private 0 0\n.entry 0 0\n.a\nsw x30,16(x0)\nlw x30,20(x0)\necall\n.e\naddi x10,x30,0\naddi x30,x10,1\necall\n.data\n.byte 0 0 0 0 7 0 0 0\n";
 
 /// Calls of the other jobs over images.
-pub const IMAGES: &str =
+pub const OTHERS: &str =
     r#"check p t|beside|0|2|||budget ld 1 al 0 sa 1 sd 1 ab 0 eb 0 cq 0`^ended 7`|t|@trace
 check p t|beside|10|2|||budget ld 1 al 0 sa 1 sd 1 ab 0 eb 0 cq 0`^not-a-run 8`|t|A 00000000`A 00000004`F E 0 00000007`A 00000008`E 00000000`E 00000004`D 00000010 4 00000008`E 00000008
 check p t|beside|3|2|||budget ld 1 al 0 sa 1 sd 1 ab 0 eb 0 cq 0`^running`|t|

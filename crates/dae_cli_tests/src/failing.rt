@@ -1,9 +1,10 @@
 //! Each call of the tables, where nothing fails, and where each put, each fetch and the keep fails in turn: it ends there.
 
-use crate::answers::answer_over;
-use crate::calls::{add, add_pieces, number_in, part, pieces_in, shelf_of, status_in, told};
+use crate::calls::answer_over;
 use crate::compilations::COMPILATIONS;
-use crate::images::IMAGES;
+use crate::held::{add_pieces, held_by, pieces_in};
+use crate::others::OTHERS;
+use crate::parts::{add, number_in, part, status_in, told};
 use crate::programs::PROGRAMS;
 use crate::runs::RUNS;
 use crate::traces::TRACES;
@@ -84,7 +85,7 @@ fn check_answer(
     due: (u8, &[u8], &[u8]),
     kept: Option<&[u8]>,
 ) -> Result<(), AllocError> {
-    let mut shelf = shelf_of(alloc, row, failing.0)?;
+    let mut shelf = held_by(alloc, row, failing.0)?;
     check_puts(rt, alloc, row, &mut shelf, (failing.1, failing.2), due)?;
     check_shelf(rt, alloc, &shelf, row, kept)
 }
@@ -124,7 +125,7 @@ fn kept_by(row: &str) -> Option<&'static [u8]> {
 fn answer_whole(rt: &impl Abort, alloc: Global, row: &str) -> Result<(), AllocError> {
     let out = first_of(alloc, part(row, 5), pieces_in(row, 5))?;
     let note = first_of(alloc, part(row, 6), pieces_in(row, 6))?;
-    let due = (status_in(row), out.as_slice(), note.as_slice());
+    let due = (status_in(row, 2), out.as_slice(), note.as_slice());
     check_answer(rt, alloc, row, (0, 0, 0), due, kept_by(row))
 }
 
@@ -233,26 +234,10 @@ fn fail_each(rt: &impl Abort, alloc: Global, rows: &str) -> Result<(), AllocErro
 }
 
 #[test]
-fn programs_end_where_a_call_fails(rt: HostRuntime) -> Result<(), AllocError> {
-    fail_each(&rt, rt.alloc(), PROGRAMS)
-}
-
-#[test]
-fn compilations_end_where_a_call_fails(rt: HostRuntime) -> Result<(), AllocError> {
-    fail_each(&rt, rt.alloc(), COMPILATIONS)
-}
-
-#[test]
-fn runs_end_where_a_call_fails(rt: HostRuntime) -> Result<(), AllocError> {
-    fail_each(&rt, rt.alloc(), RUNS)
-}
-
-#[test]
-fn traces_and_sessions_end_where_a_call_fails(rt: HostRuntime) -> Result<(), AllocError> {
-    fail_each(&rt, rt.alloc(), TRACES)
-}
-
-#[test]
-fn other_jobs_over_images_end_where_a_call_fails(rt: HostRuntime) -> Result<(), AllocError> {
-    fail_each(&rt, rt.alloc(), IMAGES)
+fn each_call_ends_where_one_fails(rt: HostRuntime) -> Result<(), AllocError> {
+    fail_each(&rt, rt.alloc(), PROGRAMS)?;
+    fail_each(&rt, rt.alloc(), COMPILATIONS)?;
+    fail_each(&rt, rt.alloc(), RUNS)?;
+    fail_each(&rt, rt.alloc(), TRACES)?;
+    fail_each(&rt, rt.alloc(), OTHERS)
 }
