@@ -52,3 +52,8 @@ pub fn bytes_of(alloc: Global, hexadecimal: &str) -> Result<Vec<u8>, AllocError>
         Err(_) => Ok(Vec::new(alloc)),
     }
 }
+
+/// Bytes as a text, or a question mark where they aren't.
+pub fn text_of(alloc: Global, bytes: &[u8]) -> Result<String, AllocError> {
+    String::from_str(alloc, std::str::from_utf8(bytes).unwrap_or("?"))
+}
