@@ -1,14 +1,16 @@
 //! The rows of the tables, each with its answer.
 
+use crate::images::{going_told, marks_told, registers_told, runs_told};
 use crate::passes::{
     commons_told, hoist_told, line_told, lowering_told, relation_told, report_told, reuse_told,
     store_told, webs_told,
 };
-use crate::rows::{PASSES, REPORTS, SPLITS};
+use crate::rows::{IMAGES, PASSES, REPORTS, SPLITS};
 use crate::splits::{budget_told, classes_told, scope_told, single_steps_told, steps_told};
 use dae_rows::{part, told};
 use std::alloc::{AllocError, Global};
 use std::process::Abort;
+use std::test::Fail;
 
 /// The answer to a row, by its kind.
 fn answer_to(alloc: Global, row: &str) -> Result<String, AllocError> {
@@ -31,15 +33,26 @@ fn answer_to(alloc: Global, row: &str) -> Result<String, AllocError> {
     }
 }
 
+/// The answer to a row of an image, by its kind.
+fn image_answer_to(alloc: Global, row: &str) -> Result<String, Fail> {
+    match part(row, 0) {
+        "image" => runs_told(alloc, row),
+        "goes on" => going_told(alloc, row),
+        "registers" => Ok(registers_told(alloc, row)?),
+        "marks" => marks_told(alloc, row),
+        _ => Ok(answer_to(alloc, row)?),
+    }
+}
+
 /// The answer to a row is the one that is due.
-fn check_row(rt: &impl Abort, alloc: Global, row: &str) -> Result<(), AllocError> {
-    let text = answer_to(alloc, row)?;
+fn check_row(rt: &impl Abort, alloc: Global, row: &str) -> Result<(), Fail> {
+    let text = image_answer_to(alloc, row)?;
     let due = told(alloc, part(row, 1))?;
     assert_eq!(rt; text.as_bytes(), due.as_slice(), "{row}");
     Ok(())
 }
 
-fn check_rows(rt: &impl Abort, alloc: Global, rows: &str) -> Result<(), AllocError> {
+fn check_rows(rt: &impl Abort, alloc: Global, rows: &str) -> Result<(), Fail> {
     for row in rows.lines() {
         check_row(rt, alloc, row)?;
     }
@@ -47,8 +60,9 @@ fn check_rows(rt: &impl Abort, alloc: Global, rows: &str) -> Result<(), AllocErr
 }
 
 #[test]
-fn each_row_is_answered(rt: HostRuntime) -> Result<(), AllocError> {
+fn each_row_is_answered(rt: HostRuntime) -> Result<(), Fail> {
     check_rows(&rt, rt.alloc(), PASSES)?;
     check_rows(&rt, rt.alloc(), REPORTS)?;
-    check_rows(&rt, rt.alloc(), SPLITS)
+    check_rows(&rt, rt.alloc(), SPLITS)?;
+    check_rows(&rt, rt.alloc(), IMAGES)
 }

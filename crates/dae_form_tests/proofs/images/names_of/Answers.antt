@@ -5,7 +5,7 @@ use Rattle.std.specs.Str.{is_utf8, IsAscii}
 use Rattle.std.proofs.lemmas.Bool.{and_from}
 use Rattle.std.proofs.lemmas.Str.{IsUtf8-from_ascii, is_utf8-from_IsUtf8}
 use Rattle.dae_image.specs.Contents.{is_name}
-use Rattle.dae_compile_tests.proofs.generate.names_of.Goals as goal
+use Rattle.dae_form_tests.proofs.images.names_of.Goals as goal
 
 pub returns-clause-named : goal.returns-clause-named
 returns-clause-named c =
