@@ -134,7 +134,7 @@ fn base_in(text: &str) -> Base {
     match word_in(text, 0) {
         "number" => Base::Number,
         "frame" => Base::Frame,
-        _ => Base::Variable(number(word_in(text, 1)), number(word_in(text, 2))),
+        _ => Base::Variable(number(word_in(text, 1)), number(word_in(text, 2)) as usize),
     }
 }
 
