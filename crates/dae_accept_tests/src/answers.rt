@@ -3,31 +3,9 @@
 use crate::joining::joining_told;
 use crate::rows::{BROKEN, PAIRS, UNBROKEN};
 use crate::types::{layout_told, rule_told};
-use dae_rows::part;
+use dae_rows::{behind, part};
 use std::alloc::{AllocError, Global};
 use std::process::Abort;
-
-fn add_source(text: &mut Vec<u8>, part: &str) -> Result<(), AllocError> {
-    for byte in part.as_bytes() {
-        text.push(if *byte == b'`' { b'\n' } else { *byte })?;
-    }
-    Ok(())
-}
-
-/// The text of a part.
-pub fn source_of(alloc: Global, part: &str) -> Result<Vec<u8>, AllocError> {
-    let mut text = Vec::new(alloc);
-    add_source(&mut text, part)?;
-    Ok(text)
-}
-
-/// What stands behind the first bar.
-fn behind(row: &str) -> &str {
-    match row.split_once('|') {
-        Some((_, rest)) => rest,
-        None => "",
-    }
-}
 
 /// The answer to a row, by its kind. A row's one text may have bars.
 fn answer_to(alloc: Global, row: &str) -> Result<String, AllocError> {

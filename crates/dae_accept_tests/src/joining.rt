@@ -1,9 +1,8 @@
 //! Files that join, with the data that they join to, and files that don't, with the cause and its places.
 
-use crate::answers::source_of;
 use dae_accept::{CompileError, accept};
 use dae_program::Program;
-use dae_rows::part;
+use dae_rows::{part, source_of};
 use std::alloc::{AllocError, Global};
 
 /// The longest text.

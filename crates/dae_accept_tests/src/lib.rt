@@ -1,5 +1,5 @@
-// Tests of dae_types and dae_accept: texts that break a rule of types and texts beside them, and files that join or don't. Each row of the
-// tables is answered by a text.
+// Tests of dae_types_sound, dae_types and dae_accept: a sound file and near misses, texts that break a rule of types and texts beside them,
+// and files that join or don't. Each row of the tables is answered by a text.
 #![tactic(auto)]
 
 #[cfg(test)]
@@ -8,5 +8,7 @@ mod answers;
 mod joining;
 #[cfg(test)]
 mod rows;
+#[cfg(test)]
+mod sound;
 #[cfg(test)]
 mod types;

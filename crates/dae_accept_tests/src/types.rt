@@ -1,9 +1,8 @@
 //! The rules of types: which one a text breaks, and how a structure is laid out.
 
-use crate::answers::source_of;
 use dae_lex::tokens;
 use dae_parse::parse;
-use dae_rows::word_in;
+use dae_rows::{source_of, word_in};
 use dae_tree::{File, Room};
 use dae_types::{align_of, check, member, size_of};
 use dae_types_kinds::{Breach, CheckError};

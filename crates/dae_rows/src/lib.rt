@@ -9,6 +9,14 @@ pub fn part(row: &str, at: usize) -> &str {
     row.split('|').nth(at).unwrap_or("")
 }
 
+/// What stands behind a row's first bar.
+pub fn behind(row: &str) -> &str {
+    match row.split_once('|') {
+        Some((_, rest)) => rest,
+        None => "",
+    }
+}
+
 /// The word of a text at this place, or nothing.
 pub fn word_in(text: &str, at: usize) -> &str {
     text.split(' ').nth(at).unwrap_or("")
@@ -42,6 +50,20 @@ pub fn add(text: &mut Vec<u8>, part: &str) -> Result<(), AllocError> {
 pub fn told(alloc: Global, part: &str) -> Result<Vec<u8>, AllocError> {
     let mut text = Vec::new(alloc);
     add(&mut text, part)?;
+    Ok(text)
+}
+
+fn add_source(text: &mut Vec<u8>, part: &str) -> Result<(), AllocError> {
+    for byte in part.as_bytes() {
+        text.push(if *byte == b'`' { b'\n' } else { *byte })?;
+    }
+    Ok(())
+}
+
+/// A source text, in which ` alone stands for another byte, a line feed.
+pub fn source_of(alloc: Global, part: &str) -> Result<Vec<u8>, AllocError> {
+    let mut text = Vec::new(alloc);
+    add_source(&mut text, part)?;
     Ok(text)
 }
 
