@@ -2,6 +2,7 @@
 
 ghost use Rattle.std.specs.Prelude.{◌≡◌, IfOk};
 
+use crate::extents::{Extent, Extents, note_statement, over_both};
 use crate::forgetting::variable_set;
 use crate::liveness::{
     LiveBehind, TwoLists, bit_of, bits_in_test, empty_lists, item_transfer, list_transfer,
@@ -20,6 +21,15 @@ struct Finding {
     met: usize,
     starts: Vec<bool>,
     number: usize,
+}
+
+/// Of a function: the variable of each definition, how many definitions there are up to the end of each statement of its own list,
+/// and where its variables occur in that list.
+#[derive(Drop)]
+struct Survey {
+    definitions: Vec<u32>,
+    ends: Vec<usize>,
+    extents: Vec<Option<Extent>>,
 }
 
 /// Variables from a number on: at most 64 have bits, and the next ones are those from `rest` on.
@@ -52,6 +62,34 @@ fn add_definitions_in(out: &mut Vec<u32>, statement: &Statement) -> Result<(), A
             add_definitions(out, second)
         }
     }
+}
+
+fn no_extents(alloc: Global, variables: u32) -> Result<Vec<Option<Extent>>, AllocError> {
+    let mut extents = Vec::new(alloc);
+    for _ in 0..variables {
+        extents.push(None)?;
+    }
+    Ok(extents)
+}
+
+fn survey_function(alloc: Global, function: &Function) -> Result<Survey, AllocError> {
+    let mut definitions = Vec::new(alloc);
+    let mut ends = Vec::new(alloc);
+    let mut extents = Extents {
+        extents: no_extents(alloc, function.variables)?,
+        place: 0,
+    };
+    for statement in function.body.as_slice() {
+        add_definitions_in(&mut definitions, statement)?;
+        ends.push(definitions.len())?;
+        note_statement(&mut extents, statement);
+        extents.place = extents.place.wrapping_add(1);
+    }
+    Ok(Survey {
+        definitions,
+        ends,
+        extents: extents.extents,
+    })
 }
 
 // A flag for each variable: parameters are set.
@@ -201,16 +239,82 @@ fn find_in_statement(
     }
 }
 
-// Which definitions start a web. The function is gone through once for each 64 variables that are set again, from its end: first for
-// what goes backward through the lists in it, and then for the definitions.
+fn extent_at(extents: &[Option<Extent>], number: usize) -> Option<Extent> {
+    match extents.get(number) {
+        Some(extent) => *extent,
+        None => None,
+    }
+}
+
+// Where variables with bits occur.
+fn extent_of(bits: &[u64], extents: &[Option<Extent>]) -> Option<Extent> {
+    let mut all = None;
+    for number in 0..bits.len() {
+        if bits[number] != 0 {
+            if let Some(extent) = extent_at(extents, number) {
+                all = Some(over_both(all, extent));
+            }
+        }
+    }
+    all
+}
+
+fn part_of(statements: &[Statement], extent: Extent) -> &[Statement] {
+    if extent.first <= extent.end && extent.end <= statements.len() {
+        &statements[extent.first..extent.end]
+    } else {
+        statements
+    }
+}
+
+// How many definitions there are up to the end of a part.
+fn count_up_to(ends: &[usize], extent: Extent) -> usize {
+    match ends.get(extent.end.wrapping_sub(1)) {
+        Some(count) => *count,
+        None => 0,
+    }
+}
+
+// Which definitions of the variables with bits start a web. The part of the function where they occur is gone through from its end:
+// first for what goes backward through the lists in it, and then for the definitions.
+fn mark_in_part(
+    alloc: Global,
+    bits: Vec<u64>,
+    starts: Vec<bool>,
+    survey: &Survey,
+    statements: &[Statement],
+) -> Result<Vec<bool>, AllocError> {
+    let Some(extent) = extent_of(&bits, &survey.extents) else {
+        return Ok(starts);
+    };
+    let part = part_of(statements, extent);
+    let mut lists = Vec::new(alloc);
+    list_transfer(&bits, &mut lists, part)?;
+    let mut finding = Finding {
+        bits,
+        lists,
+        met: 0,
+        starts,
+        number: count_up_to(&survey.ends, extent),
+    };
+    let nowhere = LiveBehind {
+        next: 0,
+        leaves: 0,
+        skips: 0,
+    };
+    find_in_list(&mut finding, part, nowhere, 0);
+    Ok(finding.starts)
+}
+
+// Which definitions start a web. They are sought for 64 variables at once that are set again.
 fn mark_starts(
     alloc: Global,
     again: &[bool],
-    definitions: usize,
+    survey: &Survey,
     statements: &[Statement],
 ) -> Result<Vec<bool>, AllocError> {
     let mut starts = Vec::new(alloc);
-    for _ in 0..definitions {
+    for _ in 0..survey.definitions.len() {
         starts.push(false)?;
     }
     let mut first = next_flag(again, 0);
@@ -220,22 +324,7 @@ fn mark_starts(
         }
         let batch = next_batch(alloc, again, first)?;
         first = next_flag(again, batch.rest);
-        let mut lists = Vec::new(alloc);
-        list_transfer(&batch.bits, &mut lists, statements)?;
-        let mut finding = Finding {
-            bits: batch.bits,
-            lists,
-            met: 0,
-            starts,
-            number: definitions,
-        };
-        let nowhere = LiveBehind {
-            next: 0,
-            leaves: 0,
-            skips: 0,
-        };
-        find_in_list(&mut finding, statements, nowhere, 0);
-        starts = finding.starts;
+        starts = mark_in_part(alloc, batch.bits, starts, survey, statements)?;
     }
     Ok(starts)
 }
@@ -247,17 +336,16 @@ pub fn find_webs(alloc: Global, function: &Function) -> Result<WebPlan, AllocErr
 {
     let variables = function.variables;
     let statements = function.body.as_slice();
-    let mut definitions = Vec::new(alloc);
-    add_definitions(&mut definitions, statements)?;
-    let again = set_again(alloc, function, &definitions)?;
-    let marks = mark_starts(alloc, &again, definitions.len(), statements)?;
+    let survey = survey_function(alloc, function)?;
+    let again = set_again(alloc, function, &survey.definitions)?;
+    let marks = mark_starts(alloc, &again, &survey, statements)?;
     let mut met = parameters_set(alloc, function.parameters, variables)?;
     let limit = variables.saturating_add(variables.saturating_sub(9) / 2);
     let mut next = variables;
     let mut starts = Vec::new(alloc);
     let mut owners = Vec::new(alloc);
-    for number in 0..definitions.len() {
-        let variable = definitions[number];
+    for number in 0..survey.definitions.len() {
+        let variable = survey.definitions[number];
         if !has_flag(&marks, number) {
             starts.push(None)?;
         } else if has_flag(&met, variable as usize) && next < limit {
