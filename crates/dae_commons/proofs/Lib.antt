@@ -10,4 +10,5 @@ pub mod Ordering
 pub mod Counts
 pub mod Programs
 pub mod Steps
+mod Nothing
 pub mod Wholes

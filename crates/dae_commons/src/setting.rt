@@ -58,7 +58,7 @@ fn without_statement(
     }
 }
 
-/// What is known in a loop, and behind it, of what was known before.
+/// What is known in a loop, and behind it, of what was known before. Where that was nothing, the loop isn't gone through.
 pub fn known_in_loop(
     alloc: Global,
     known: Items<Equation>,
@@ -68,6 +68,9 @@ pub fn known_in_loop(
     ensures { IfOk result (λ new.
         new ≡ known_in_loop known (form_of body.now) (form_of step.now)) }
 {
+    if known.is_empty() {
+        return Ok(known);
+    }
     let middle = without_list(alloc, known, body)?;
     without_list(alloc, middle, step)
 }

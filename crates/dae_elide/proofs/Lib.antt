@@ -3,3 +3,4 @@ mod Elides
 mod Lasting
 mod Programs
 mod Walked
+mod Unchecked

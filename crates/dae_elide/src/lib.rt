@@ -6,6 +6,7 @@
 pub use theorems::{checks_are_elided, elision_keeps_sizes};
 pub use whole::elide_checks;
 
+mod checking;
 mod eliding;
 mod likes;
 mod theorems;

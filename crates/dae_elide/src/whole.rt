@@ -3,6 +3,7 @@
 ghost use Rattle.std.specs.Prelude.{◌≡◌, IfOk};
 ghost use Rattle.dae_elide.specs.Forms.{AreElidedFunctions, IsElidedFunction, IsElisionOf};
 
+use crate::checking::checks_no_place;
 use crate::eliding::elide_list;
 use dae_base::Items;
 use dae_ir::{Class, Function, Ir};
@@ -28,6 +29,21 @@ fn elide_function(
     })
 }
 
+/// The function without its known checks. One that checks no place stays as it is, and isn't walked through any further.
+fn elide_where_checked(
+    alloc: Global,
+    memory: u32,
+    classes: &[Class],
+    function: Function,
+) -> Result<Function, AllocError>
+    ensures { IfOk result (IsElidedFunction memory function) }
+{
+    if checks_no_place(function.body.as_slice()) {
+        return Ok(function);
+    }
+    elide_function(alloc, memory, classes, function)
+}
+
 fn row(tables: &[Items<Class>], function: usize) -> &[Class] {
     match tables.get(function) {
         Some(row) => row.as_slice(),
@@ -44,7 +60,7 @@ pub fn elide_checks(alloc: Global, ir: Ir, tables: &[Items<Class>]) -> Result<Ir
     let mut functions = Vec::new(alloc);
     for function in ir.functions.into_vec() {
         let classes = row(tables, functions.len());
-        functions.push(elide_function(alloc, ir.memory, classes, function)?)?;
+        functions.push(elide_where_checked(alloc, ir.memory, classes, function)?)?;
     }
     Ok(Ir {
         memory: ir.memory,

@@ -27,9 +27,9 @@ use dae_encode::Inst;
 use dae_ir::{Action, Argument, Branch, Operand, Step};
 use dae_select_calls::{Callee, Making, call_code, check_code, leave_code, placed_code};
 use dae_select_facts::{
-    Known, all_before, facts_at_turn, facts_behind_turn, facts_in_list, facts_past_if, only_leaves,
+    Known, all_before, facts_at_turn, facts_behind_turn, facts_in_list, facts_past_if,
 };
-use dae_select_live::{LiveSet, live_at_turn, live_before_action, live_with_branch};
+use dae_select_live::{LiveSet, live_at_turn, live_before_action, live_with_branch, only_leaves};
 use dae_select_values::{
     HomeTable, address_code, back_branch, branch_code, call_number, hear_code, home_of, issue_code,
     jump_back, jump_over, jump_words, move_code, set_code, stop_code, system_code, take_code,

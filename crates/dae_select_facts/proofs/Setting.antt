@@ -1,23 +1,21 @@
 -- Which variables steps and lists set.
 use Rattle.std.proofs.Common.{◌≡◌, ℕ, ◌+◌, ◌<◌, ◌≤◌, Bool, true, false, ◌||◌, List, [], ◌∷◌, ◌++◌, length, drop, get_or, refl, ap, sym, ◌∙◌, arith}
-use Rattle.std.specs.Prelude.{Vec, nat_eq, if◌then◌else◌}
+use Rattle.std.specs.Prelude.{Vec, if◌then◌else◌}
 use Rattle.std.specs.declared.alloc.Global.{Global}
 use Rattle.std.proofs.lemmas.List.{drop_all, append-nil}
 use Rattle.dae_base.proofs.Laws.{drop_at, or_nothing, or_along}
 use Rattle.dae_ir.specs.Classes.{VariableSet}
-use Rattle.dae_ir.specs.Code.{Do, If, Loop}
 use Rattle.dae_ir.specs.Streams.{Actions, actions_of, step_onto}
 use Rattle.dae_ir.specs.declared.stream.Mark.{Mark}
 use Rattle.dae_ir.specs.declared.stream.Action.{Action}
-use Rattle.dae_ir.specs.declared.stream.Action.TheVariants.{Break}
 use Rattle.dae_ir.specs.declared.stream.Branch.{Branch}
-use Rattle.dae_ir.specs.declared.stream.Step.{Step, Act, If', Loop'}
+use Rattle.dae_ir.specs.declared.stream.Step.{Step}
 use Rattle.dae_ir.specs.declared.stream.Step.TheVariants as step
 use Rattle.dae_select_live.proofs.Laws.{onto_if, onto_loop}
 use Rattle.dae_select_walks.specs.Live.{sets, none}
 use Rattle.dae_select_walks.specs.declared.Fact.{Fact}
 use Rattle.dae_select_walks.specs.declared.Fact.TheVariants.{Within, Equals}
-use Rattle.dae_select_walks.specs.Facts.{is_set, in_either, is_about, less, only_leaves}
+use Rattle.dae_select_walks.specs.Facts.{is_set, in_either, is_about, less}
 
 pub sets_if : (s : Step) (m : Mark) (b : Branch) (p q : Vec Step Global) (k : Actions) (v : ℕ) → s ≡ step.If m b p q
     → is_set (step_onto s k) v ≡ ((is_set (actions_of p.items) v || is_set (actions_of q.items) v) || is_set k v)
@@ -106,32 +104,6 @@ pub less_by_two : (one other : List Step) (facts : List Fact) (begin mid end : V
 less_by_two one other facts begin mid end e h g =
     let P : VariableSet = is_set (actions_of one) in let Q : VariableSet = is_set (actions_of other) in
     less_same end (in_either P Q) facts (λ v. g v ∙ ap (λ (b : Bool). Q v || b) (h v) ∙ ap (λ (s : VariableSet). Q v || (P v || s v)) e ∙ other_first (P v) (Q v))
-
--- ---- a list that only leaves
-
-alone : (m : Mark) (a : Action) (m' : Mark) (b : Action) (k : Actions) → only_leaves (Do m a (Do m' b k)) ≡ false
-alone m Break m' b k = refl
-alone m a m' b k = refl
-
-alone_if : (m : Mark) (a : Action) (m' : Mark) (b : Branch) (p q k : Actions) → only_leaves (Do m a (If m' b p q k)) ≡ false
-alone_if m Break m' b p q k = refl
-alone_if m a m' b p q k = refl
-
-alone_loop : (m : Mark) (a : Action) (m' : Mark) (p q k : Actions) → only_leaves (Do m a (Loop m' p q k)) ≡ false
-alone_loop m Break m' p q k = refl
-alone_loop m a m' p q k = refl
-
-two_steps : (s t : Step) (k : Actions) → only_leaves (step_onto s (step_onto t k)) ≡ false
-two_steps (Act m a) (Act m' b) k = alone m a m' b k
-two_steps (Act m a) (If' m' b i p j q) k = alone_if m a m' b _ _ k
-two_steps (Act m a) (Loop' m' i p j q) k = alone_loop m a m' _ _ k
-two_steps (If' m b i p j q) t k = refl
-two_steps (Loop' m i p j q) t k = refl
-
-pub leaves_alone : (steps : List Step) → (nat_eq (length steps) 1 ≡ false) → only_leaves (actions_of steps) ≡ false
-leaves_alone [] e = refl
-leaves_alone (s ∷ []) e = absurd cc
-leaves_alone (s ∷ t ∷ steps) e = two_steps s t (actions_of steps)
 
 -- ---- one of two lists sets it, or what comes behind
 

@@ -2,7 +2,7 @@
 
 ghost use Rattle.std.specs.Prelude.{◌≡◌, ℕ, ◌||◌, ◌++◌, IfOk, OnOk};
 ghost use Rattle.dae_ir.specs.Streams.{Actions, actions_of, step_onto};
-ghost use Rattle.dae_select_walks.specs.Facts.{is_set, in_either, is_about, less, only_leaves};
+ghost use Rattle.dae_select_walks.specs.Facts.{is_set, in_either, is_about, less};
 ghost use Rattle.dae_select_walks.specs.Live.{sets};
 ghost use Rattle.dae_select_live.specs.Members.{member};
 
@@ -139,11 +139,4 @@ pub fn push_unset_by_both(
     add_sets(&mut set, one)?;
     add_sets(&mut set, other)?;
     push_others(kept, facts, &set)
-}
-
-/// Whether a list only leaves the loop.
-pub fn only_leaves(steps: &[Step]) -> bool
-    ensures { result ≡ only_leaves (actions_of steps.now) }
-{
-    steps.len() == 1 && matches!(&steps[0], Step::Act(_, Action::Break))
 }

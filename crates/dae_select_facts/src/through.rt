@@ -14,10 +14,11 @@ ghost use Rattle.dae_select_facts.specs.Turns.{facts_if, straight_on, IsCounterI
 
 use crate::bounds::is_inside;
 use crate::known::{Known, bounds_in, facts_behind};
-use crate::sets::{list_sets, only_leaves, push_unset, push_unset_by_both};
+use crate::sets::{list_sets, push_unset, push_unset_by_both};
 use crate::tested::{HALF, branch_fact};
 use dae_base::Width;
 use dae_ir::{Action, Branch, Operand, Step, Test};
+use dae_select_live::only_leaves;
 use dae_select_walks::{Bounds, Edge, Fact};
 use std::alloc::{AllocError, Global};
 

@@ -2,3 +2,4 @@ mod Rising
 pub mod Laws
 mod Several
 mod Anew
+mod Breaks

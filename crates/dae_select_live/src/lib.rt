@@ -3,10 +3,12 @@
 // memory.
 #![tactic(auto)]
 
+pub use leaving::only_leaves;
 pub use live::{live_at_turn, live_before, live_before_action, live_with_branch};
 pub use reads::set_by;
 pub use set::LiveSet;
 
+mod leaving;
 mod live;
 mod reads;
 mod set;

@@ -1,14 +1,14 @@
 -- What is live grows with what is live behind, and each variable by itself. So round a loop one pass finds all.
-use Rattle.std.proofs.Common.{◌≡◌, ℕ, Bool, true, false, not, ◌&&◌, ◌||◌, refl}
+use Rattle.std.proofs.Common.{◌≡◌, ℕ, Bool, true, false, not, ◌&&◌, ◌||◌, refl, inl, inr}
 use Rattle.std.proofs.Math.Path.{fun_ext}
-use Rattle.std.proofs.lemmas.Bool.{or_left, or_right}
+use Rattle.std.proofs.lemmas.Bool.{or_left, or_right, or_cases}
 use Rattle.dae_base.proofs.Laws.{same_tests}
 use Rattle.dae_ir.specs.Code.{Done, Do, If, Loop}
 use Rattle.dae_ir.specs.Classes.{VariableSet}
 use Rattle.dae_ir.specs.Streams.{Actions}
 use Rattle.dae_ir.specs.declared.stream.Action.{Action}
 use Rattle.dae_ir.specs.declared.stream.Action.TheVariants.{Stop, Break, Continue, Return}
-use Rattle.dae_select_walks.specs.Live.{none, reads, sets, decided, Ways, ways, behind, after, live, turn, step_ways, body_ways}
+use Rattle.dae_select_walks.specs.Live.{none, reads, sets, decided, Ways, ways, behind, after, live, turn, step_ways, body_ways, with_all}
 
 or_map : (a b c d : Bool) → (a ≡ true → c ≡ true) → (b ≡ true → d ≡ true) → (a || b) ≡ true → (c || d) ≡ true
 or_map true b c d f g h = or_left c d (f refl)
@@ -62,3 +62,25 @@ turn_again body step k = fun_ext (λ u. same_tests (live body (body_ways body st
 
     more : (u : ℕ) → turn body step k u ≡ true → live body (body_ways body step k) u ≡ true
     more u h = live_grows body u (ways (live step (ways none k none)) k (live step (ways none k none))) (body_ways body step k) (record { next = gain u; leaves = (λ h. h); skips = gain u }) h
+
+-- what is live behind a loop comes in where a turn begins, if it is live there at all: besides it what is so with nothing behind
+pub turn_adds : (body step : Actions) → ((n : VariableSet) (u : ℕ) → n u ≡ true → turn body step n u ≡ true) → (n : VariableSet) → turn body step n ≡ with_all (turn body step none) n
+turn_adds body step stays n = fun_ext (λ u. same_tests (turn body step n u) (turn body step none u || n u) (apart u (n u) refl) (joined u))
+  where
+    lost : (u : ℕ) → n u ≡ false → live step (ways none n none) u ≡ true → live step (ways none none none) u ≡ true
+    lost u e = live_grows step u (ways none n none) (ways none none none) (record { next = (λ h. h); leaves = (λ h. absurd cc); skips = (λ h. h) })
+
+    apart : (u : ℕ) (b : Bool) → n u ≡ b → turn body step n u ≡ true → (turn body step none u || n u) ≡ true
+    apart u true e h = or_right (turn body step none u) (n u) e
+    apart u false e h =
+        or_left (turn body step none u) (n u)
+        (live_grows body u (ways (live step (ways none n none)) n (live step (ways none n none))) (ways (live step (ways none none none)) none (live step (ways none none none))) (record { next = lost u e; leaves = (λ h. absurd cc); skips = lost u e }) h)
+
+    gained : (u : ℕ) → live step (ways none none none) u ≡ true → live step (ways none n none) u ≡ true
+    gained u = live_grows step u (ways none none none) (ways none n none) (record { next = (λ h. h); leaves = (λ h. absurd cc); skips = (λ h. h) })
+
+    joined : (u : ℕ) → (turn body step none u || n u) ≡ true → turn body step n u ≡ true
+    joined u h = elim (or_cases (turn body step none u) (n u) h) [
+      | inl e ↦ live_grows body u (ways (live step (ways none none none)) none (live step (ways none none none))) (ways (live step (ways none n none)) n (live step (ways none n none))) (record { next = gained u; leaves = (λ h. absurd cc); skips = gained u }) e
+      | inr e ↦ stays n u e
+    ]

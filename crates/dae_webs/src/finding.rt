@@ -2,20 +2,34 @@
 
 ghost use Rattle.std.specs.Prelude.{◌≡◌, IfOk};
 
+use crate::extents::{Extent, Extents, note_statement, over_both};
 use crate::forgetting::variable_set;
 use crate::liveness::{
-    LiveBehind, bit_of, list_transfer, live_at_start, live_at_step, statement_transfer,
+    LiveBehind, TwoLists, bit_of, bits_in_test, empty_lists, item_transfer, list_transfer,
+    live_at_start, live_at_step, looped,
 };
 use crate::plan::WebPlan;
 use dae_ir::{Function, Item, Statement};
 use std::alloc::{AllocError, Global};
 
-/// The variables in question, by their bits, and which definitions start a web, by their numbers up to now.
+/// The variables in question, by their bits; what goes backward through the lists of Ifs and Loops, and how many of these the walk
+/// from the end has met; which definitions start a web, by their numbers, and how many stand before the place in question.
 #[derive(Drop)]
 struct Finding {
     bits: Vec<u64>,
+    lists: Vec<TwoLists>,
+    met: usize,
     starts: Vec<bool>,
     number: usize,
+}
+
+/// Of a function: the variable of each definition, how many definitions there are up to the end of each statement of its own list,
+/// and where its variables occur in that list.
+#[derive(Drop)]
+struct Survey {
+    definitions: Vec<u32>,
+    ends: Vec<usize>,
+    extents: Vec<Option<Extent>>,
 }
 
 /// Variables from a number on: at most 64 have bits, and the next ones are those from `rest` on.
@@ -48,6 +62,34 @@ fn add_definitions_in(out: &mut Vec<u32>, statement: &Statement) -> Result<(), A
             add_definitions(out, second)
         }
     }
+}
+
+fn no_extents(alloc: Global, variables: u32) -> Result<Vec<Option<Extent>>, AllocError> {
+    let mut extents = Vec::new(alloc);
+    for _ in 0..variables {
+        extents.push(None)?;
+    }
+    Ok(extents)
+}
+
+fn survey_function(alloc: Global, function: &Function) -> Result<Survey, AllocError> {
+    let mut definitions = Vec::new(alloc);
+    let mut ends = Vec::new(alloc);
+    let mut extents = Extents {
+        extents: no_extents(alloc, function.variables)?,
+        place: 0,
+    };
+    for statement in function.body.as_slice() {
+        add_definitions_in(&mut definitions, statement)?;
+        ends.push(definitions.len())?;
+        note_statement(&mut extents, statement);
+        extents.place = extents.place.wrapping_add(1);
+    }
+    Ok(Survey {
+        definitions,
+        ends,
+        extents: extents.extents,
+    })
 }
 
 // A flag for each variable: parameters are set.
@@ -108,128 +150,181 @@ fn next_batch(alloc: Global, again: &[bool], first: usize) -> Result<Batch, Allo
     Ok(Batch { bits, rest })
 }
 
-// What is live behind each statement of a list, the last one first.
-fn live_along(
-    alloc: Global,
-    bits: &[u64],
-    statements: &[Statement],
-    behind: LiveBehind,
-) -> Result<Vec<u64>, AllocError> {
-    let mut along = Vec::new(alloc);
-    let mut live = behind.next;
-    for index in (0..statements.len()).rev() {
-        along.push(live)?;
-        let behind = LiveBehind {
-            next: live,
-            leaves: behind.leaves,
-            skips: behind.skips,
-        };
-        live = live_at_start(statement_transfer(bits, &statements[index]), behind);
+// The next variable with a flag, from a number on, or how many there are.
+fn next_flag(flags: &[bool], first: usize) -> usize {
+    for number in first..flags.len() {
+        if flags[number] {
+            return number;
+        }
     }
-    Ok(along)
+    flags.len()
+}
+
+// What goes backward through the lists of the If or Loop that is met next.
+fn next_lists(finding: &mut Finding) -> TwoLists {
+    let met = finding.met;
+    finding.met = met.wrapping_add(1);
+    match finding.lists.get(met) {
+        Some(both) => *both,
+        None => empty_lists(),
+    }
 }
 
 // A definition starts a web where its variable isn't live at the beginnings of the lists that it stands in, nor behind them.
 fn find_in_item(finding: &mut Finding, item: &Item, outside: u64) {
     if let Some(variable) = variable_set(item) {
+        finding.number = finding.number.wrapping_sub(1);
         let bit = bit_of(&finding.bits, variable);
         if bit != 0 && bit & outside == 0 {
             set_flag(&mut finding.starts, finding.number);
         }
-        finding.number = finding.number.wrapping_add(1);
     }
 }
 
+// The last statement of a list comes first.
 #[cycle(find)]
-fn find_in_list(
-    alloc: Global,
-    finding: &mut Finding,
-    statements: &[Statement],
-    behind: LiveBehind,
-    outside: u64,
-) -> Result<(), AllocError> {
-    let mut along = live_along(alloc, &finding.bits, statements, behind)?;
-    for statement in statements {
-        let behind = LiveBehind {
-            next: along.pop().unwrap_or(0),
+fn find_in_list(finding: &mut Finding, statements: &[Statement], behind: LiveBehind, outside: u64) {
+    let mut live = behind.next;
+    for index in (0..statements.len()).rev() {
+        let here = LiveBehind {
+            next: live,
             leaves: behind.leaves,
             skips: behind.skips,
         };
-        find_in_statement(alloc, finding, statement, behind, outside)?;
+        live = find_in_statement(finding, &statements[index], here, outside);
     }
-    Ok(())
 }
 
+// The answer is what is live before the statement.
 #[cycle(find)]
 fn find_in_statement(
-    alloc: Global,
     finding: &mut Finding,
     statement: &Statement,
     behind: LiveBehind,
     outside: u64,
-) -> Result<(), AllocError> {
+) -> u64 {
     match statement {
         Statement::Simple(_, item) => {
             find_in_item(finding, item, outside);
-            Ok(())
+            live_at_start(item_transfer(&finding.bits, item), behind)
         }
-        Statement::If(_, _, yes, no) => {
-            let first = live_at_start(list_transfer(&finding.bits, yes), behind);
-            let second = live_at_start(list_transfer(&finding.bits, no), behind);
+        Statement::If(_, test, yes, no) => {
+            let both = next_lists(finding);
+            let first = live_at_start(both.first, behind);
+            let second = live_at_start(both.second, behind);
             let inside = outside | behind.next | first | second;
-            find_in_list(alloc, finding, yes, behind, inside)?;
-            find_in_list(alloc, finding, no, behind, inside)
+            find_in_list(finding, no, behind, inside);
+            find_in_list(finding, yes, behind, inside);
+            bits_in_test(&finding.bits, *test) | first | second
         }
         Statement::Loop(_, body, step) => {
-            let head = live_at_start(statement_transfer(&finding.bits, statement), behind);
-            let again = live_at_step(list_transfer(&finding.bits, step), head, behind.next);
+            let both = next_lists(finding);
+            let head = live_at_start(looped(both), behind);
+            let again = live_at_step(both.second, head, behind.next);
             let inside = outside | behind.next | head | again;
-            let turn = LiveBehind {
-                next: again,
-                leaves: behind.next,
-                skips: again,
-            };
-            find_in_list(alloc, finding, body, turn, inside)?;
             let back = LiveBehind {
                 next: head,
                 leaves: behind.next,
                 skips: head,
             };
-            find_in_list(alloc, finding, step, back, inside)
+            find_in_list(finding, step, back, inside);
+            let turn = LiveBehind {
+                next: again,
+                leaves: behind.next,
+                skips: again,
+            };
+            find_in_list(finding, body, turn, inside);
+            head
         }
     }
 }
 
-// Which definitions start a web. The function is gone through once for each 64 variables that are set again.
+fn extent_at(extents: &[Option<Extent>], number: usize) -> Option<Extent> {
+    match extents.get(number) {
+        Some(extent) => *extent,
+        None => None,
+    }
+}
+
+// Where variables with bits occur.
+fn extent_of(bits: &[u64], extents: &[Option<Extent>]) -> Option<Extent> {
+    let mut all = None;
+    for number in 0..bits.len() {
+        if bits[number] != 0 {
+            if let Some(extent) = extent_at(extents, number) {
+                all = Some(over_both(all, extent));
+            }
+        }
+    }
+    all
+}
+
+fn part_of(statements: &[Statement], extent: Extent) -> &[Statement] {
+    if extent.first <= extent.end && extent.end <= statements.len() {
+        &statements[extent.first..extent.end]
+    } else {
+        statements
+    }
+}
+
+// How many definitions there are up to the end of a part.
+fn count_up_to(ends: &[usize], extent: Extent) -> usize {
+    match ends.get(extent.end.wrapping_sub(1)) {
+        Some(count) => *count,
+        None => 0,
+    }
+}
+
+// Which definitions of the variables with bits start a web. The part of the function where they occur is gone through from its end:
+// first for what goes backward through the lists in it, and then for the definitions.
+fn mark_in_part(
+    alloc: Global,
+    bits: Vec<u64>,
+    starts: Vec<bool>,
+    survey: &Survey,
+    statements: &[Statement],
+) -> Result<Vec<bool>, AllocError> {
+    let Some(extent) = extent_of(&bits, &survey.extents) else {
+        return Ok(starts);
+    };
+    let part = part_of(statements, extent);
+    let mut lists = Vec::new(alloc);
+    list_transfer(&bits, &mut lists, part)?;
+    let mut finding = Finding {
+        bits,
+        lists,
+        met: 0,
+        starts,
+        number: count_up_to(&survey.ends, extent),
+    };
+    let nowhere = LiveBehind {
+        next: 0,
+        leaves: 0,
+        skips: 0,
+    };
+    find_in_list(&mut finding, part, nowhere, 0);
+    Ok(finding.starts)
+}
+
+// Which definitions start a web. They are sought for 64 variables at once that are set again.
 fn mark_starts(
     alloc: Global,
     again: &[bool],
-    definitions: usize,
+    survey: &Survey,
     statements: &[Statement],
 ) -> Result<Vec<bool>, AllocError> {
     let mut starts = Vec::new(alloc);
-    for _ in 0..definitions {
+    for _ in 0..survey.definitions.len() {
         starts.push(false)?;
     }
-    let mut first = 0;
+    let mut first = next_flag(again, 0);
     for _ in 0..again.len() / 64 + 1 {
         if again.len() <= first {
             return Ok(starts);
         }
         let batch = next_batch(alloc, again, first)?;
-        first = batch.rest;
-        let mut finding = Finding {
-            bits: batch.bits,
-            starts,
-            number: 0,
-        };
-        let nowhere = LiveBehind {
-            next: 0,
-            leaves: 0,
-            skips: 0,
-        };
-        find_in_list(alloc, &mut finding, statements, nowhere, 0)?;
-        starts = finding.starts;
+        first = next_flag(again, batch.rest);
+        starts = mark_in_part(alloc, batch.bits, starts, survey, statements)?;
     }
     Ok(starts)
 }
@@ -241,17 +336,16 @@ pub fn find_webs(alloc: Global, function: &Function) -> Result<WebPlan, AllocErr
 {
     let variables = function.variables;
     let statements = function.body.as_slice();
-    let mut definitions = Vec::new(alloc);
-    add_definitions(&mut definitions, statements)?;
-    let again = set_again(alloc, function, &definitions)?;
-    let marks = mark_starts(alloc, &again, definitions.len(), statements)?;
+    let survey = survey_function(alloc, function)?;
+    let again = set_again(alloc, function, &survey.definitions)?;
+    let marks = mark_starts(alloc, &again, &survey, statements)?;
     let mut met = parameters_set(alloc, function.parameters, variables)?;
     let limit = variables.saturating_add(variables.saturating_sub(9) / 2);
     let mut next = variables;
     let mut starts = Vec::new(alloc);
     let mut owners = Vec::new(alloc);
-    for number in 0..definitions.len() {
-        let variable = definitions[number];
+    for number in 0..survey.definitions.len() {
+        let variable = survey.definitions[number];
         if !has_flag(&marks, number) {
             starts.push(None)?;
         } else if has_flag(&met, variable as usize) && next < limit {

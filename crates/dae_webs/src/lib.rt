@@ -6,6 +6,7 @@
 pub use theorems::{forms_are_renamed, renaming_keeps_sizes};
 pub use whole::rename_webs;
 
+mod extents;
 mod finding;
 mod forgetting;
 mod liveness;

@@ -2,6 +2,7 @@
 
 use crate::forgetting::variable_set;
 use dae_ir::{Check, Item, Operand, Statement, Test, Value};
+use std::alloc::AllocError;
 
 /// What code reads before it sets it, and what passes through it backward: of what is live behind it, behind the loop that it
 /// stands in, and at that loop's step. Behind a jump all passes as well, so that the code there has its liveness.
@@ -21,7 +22,32 @@ pub struct LiveBehind {
     pub skips: u64,
 }
 
+/// What goes backward through the first and the second list of an If or a Loop.
+#[derive(Clone, Copy)]
+pub struct TwoLists {
+    pub first: Transfer,
+    pub second: Transfer,
+}
+
 const ALL: u64 = u64::MAX;
+
+// What goes backward through an empty list: all passes.
+fn empty_transfer() -> Transfer {
+    Transfer {
+        reads: 0,
+        next: ALL,
+        leaves: 0,
+        skips: 0,
+    }
+}
+
+/// What goes backward through two empty lists.
+pub fn empty_lists() -> TwoLists {
+    TwoLists {
+        first: empty_transfer(),
+        second: empty_transfer(),
+    }
+}
 
 /// The bit of a variable: it has none where it isn't one of those in question.
 pub fn bit_of(bits: &[u64], variable: u32) -> u64 {
@@ -38,7 +64,8 @@ fn bit_in(bits: &[u64], x: Operand) -> u64 {
     }
 }
 
-fn bits_in_test(bits: &[u64], test: Test) -> u64 {
+/// The bits of a condition's variables.
+pub fn bits_in_test(bits: &[u64], test: Test) -> u64 {
     bit_in(bits, test.left) | bit_in(bits, test.right)
 }
 
@@ -90,7 +117,8 @@ fn bits_set(bits: &[u64], item: &Item) -> u64 {
     }
 }
 
-fn item_transfer(bits: &[u64], item: &Item) -> Transfer {
+/// What goes backward through an item.
+pub fn item_transfer(bits: &[u64], item: &Item) -> Transfer {
     let reads = bits_read(bits, item);
     match item {
         Item::Break => Transfer {
@@ -114,6 +142,12 @@ fn item_transfer(bits: &[u64], item: &Item) -> Transfer {
     }
 }
 
+fn put_lists(lists: &mut Vec<TwoLists>, place: usize, both: TwoLists) {
+    if place < lists.len() {
+        lists[place] = both;
+    }
+}
+
 // Code and then other code.
 fn one_then(first: Transfer, second: Transfer) -> Transfer {
     Transfer {
@@ -125,21 +159,22 @@ fn one_then(first: Transfer, second: Transfer) -> Transfer {
 }
 
 // Code or other code, behind a condition.
-fn one_or_other(test: u64, first: Transfer, second: Transfer) -> Transfer {
+fn one_or_other(test: u64, both: TwoLists) -> Transfer {
     Transfer {
-        reads: test | first.reads | second.reads,
-        next: first.next | second.next,
-        leaves: first.leaves | second.leaves,
-        skips: first.skips | second.skips,
+        reads: test | both.first.reads | both.second.reads,
+        next: both.first.next | both.second.next,
+        leaves: both.first.leaves | both.second.leaves,
+        skips: both.first.skips | both.second.skips,
     }
 }
 
-// A loop's turns.
-fn looped(body: Transfer, step: Transfer) -> Transfer {
+/// What goes backward through a loop's turns.
+pub fn looped(both: TwoLists) -> Transfer {
+    let body = both.first;
     let through = body.next | body.skips;
     Transfer {
-        reads: body.reads | (through & step.reads),
-        next: body.leaves | (through & step.leaves),
+        reads: body.reads | (through & both.second.reads),
+        next: body.leaves | (through & both.second.leaves),
         leaves: 0,
         skips: 0,
     }
@@ -163,35 +198,47 @@ pub fn live_at_step(step: Transfer, head: u64, behind: u64) -> u64 {
     live_at_start(step, behind)
 }
 
-/// What goes backward through a list of statements.
+/// What goes backward through a list of statements. What goes through the lists of each If and Loop in it comes behind those of
+/// others, in the order in which a walk from the end meets the statements.
 #[cycle(transfer)]
-pub fn list_transfer(bits: &[u64], statements: &[Statement]) -> Transfer {
-    let mut transfer = Transfer {
-        reads: 0,
-        next: ALL,
-        leaves: 0,
-        skips: 0,
-    };
-    for statement in statements {
-        transfer = one_then(transfer, statement_transfer(bits, statement));
+pub fn list_transfer(
+    bits: &[u64],
+    lists: &mut Vec<TwoLists>,
+    statements: &[Statement],
+) -> Result<Transfer, AllocError> {
+    let mut transfer = empty_transfer();
+    for index in (0..statements.len()).rev() {
+        let first = statement_transfer(bits, lists, &statements[index])?;
+        transfer = one_then(first, transfer);
     }
-    transfer
+    Ok(transfer)
 }
 
-/// What goes backward through a statement.
 #[cycle(transfer)]
-pub fn statement_transfer(bits: &[u64], statement: &Statement) -> Transfer {
+fn statement_transfer(
+    bits: &[u64],
+    lists: &mut Vec<TwoLists>,
+    statement: &Statement,
+) -> Result<Transfer, AllocError> {
     match statement {
-        Statement::Simple(_, item) => item_transfer(bits, item),
+        Statement::Simple(_, item) => Ok(item_transfer(bits, item)),
         Statement::If(_, test, yes, no) => {
-            let first = list_transfer(bits, yes);
-            let second = list_transfer(bits, no);
-            one_or_other(bits_in_test(bits, *test), first, second)
+            let place = lists.len();
+            lists.push(empty_lists())?;
+            let second = list_transfer(bits, lists, no)?;
+            let first = list_transfer(bits, lists, yes)?;
+            let both = TwoLists { first, second };
+            put_lists(lists, place, both);
+            Ok(one_or_other(bits_in_test(bits, *test), both))
         }
         Statement::Loop(_, body, step) => {
-            let first = list_transfer(bits, body);
-            let second = list_transfer(bits, step);
-            looped(first, second)
+            let place = lists.len();
+            lists.push(empty_lists())?;
+            let second = list_transfer(bits, lists, step)?;
+            let first = list_transfer(bits, lists, body)?;
+            let both = TwoLists { first, second };
+            put_lists(lists, place, both);
+            Ok(looped(both))
         }
     }
 }

@@ -1,8 +1,8 @@
 use Rattle.std.proofs.Common.{◌≡◌, ◌∙◌, sym, length, false, arith}
 use Rattle.std.specs.Prelude.{nat_eq}
 use Rattle.std.proofs.lemmas.Bool.Decides.{nat_tests}
-use Rattle.dae_select_facts.proofs.Setting.{leaves_alone}
-use Rattle.dae_select_facts.proofs.sets.only_leaves.Goals as goal
+use Rattle.dae_select_live.proofs.Breaks.{leaves_alone}
+use Rattle.dae_select_live.proofs.leaving.only_leaves.Goals as goal
 
 pub returns-else-steps-eq1 : goal.returns-else-steps-eq1
 returns-else-steps-eq1 c =
