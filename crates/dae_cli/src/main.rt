@@ -10,6 +10,16 @@ use std::env;
 use std::io::ErrorKind;
 use std::process::ExitCode;
 
+// How large a block is taken and given back before the work begins.
+const KEPT_BYTES: usize = 16_777_216;
+
+// Takes a block and gives it back. Once the C library has seen that, it keeps smaller blocks that are given back for those
+// that are taken later; else it returns each large one to the system, and takes fresh pages for the next (glibc). The block's
+// own pages are never touched. Where there is no room for it the work goes on, and says itself what memory it wants.
+fn keep_freed_memory(alloc: Global) {
+    let _ = Vec::<u8>::with_capacity(alloc, KEPT_BYTES);
+}
+
 // The words after the program's name.
 fn words_of(alloc: Global, all: env::Args<Global>) -> Result<Vec<String>, AllocError> {
     let mut words = Vec::new(alloc);
@@ -21,6 +31,7 @@ fn words_of(alloc: Global, all: env::Args<Global>) -> Result<Vec<String>, AllocE
 
 fn main(rt: HostRuntime) -> ExitCode {
     let alloc = rt.alloc();
+    keep_freed_memory(alloc);
     let mut shelf = DirShelf::new(&rt);
     let mut out = StdSink::new(rt.stdout());
     let mut note = StdSink::new(rt.stderr());

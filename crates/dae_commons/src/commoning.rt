@@ -8,9 +8,7 @@ ghost use Rattle.dae_commons.specs.Commoned.{IsCommonedList, IsCommonedTo, known
 use crate::copies::{
     is_operand, propagate_check, propagate_operand, propagate_operands, propagate_test,
 };
-use crate::equations::{
-    Equation, copy_equations, equations_in, meet, with_equation, without_variable,
-};
+use crate::equations::{Equation, equations_in, meet, with_equation, without_variable};
 use crate::setting::known_in_loop;
 use crate::sums::{assigned_value, is_itself};
 use dae_base::Items;
@@ -58,37 +56,35 @@ fn without_known(item: Item) -> CommonedItem
 
 // What is known behind an assignment of one value, which is written as another.
 fn known_after_set(
-    alloc: Global,
-    known: &[Equation],
+    known: Items<Equation>,
     variable: u32,
     old: Value,
     new: Value,
 ) -> Result<Items<Equation>, AllocError>
-    ensures { IfOk result (λ behind. behind ≡ known_after_set known.now variable old new) }
+    ensures { IfOk result (λ behind. behind ≡ known_after_set known variable old new) }
 {
     if is_itself(variable, old) {
-        copy_equations(alloc, known)
+        Ok(known)
     } else if is_operand(old) {
-        without_variable(alloc, known, variable)
+        Ok(without_variable(known, variable))
     } else {
-        with_equation(alloc, known, variable, new)
+        with_equation(known, variable, new)
     }
 }
 
 fn common_assignment(
-    alloc: Global,
     row: &[Class],
-    known: &[Equation],
+    known: Items<Equation>,
     variable: u32,
     value: Value,
 ) -> Result<CommonedItem, AllocError>
     ensures item { IfOk result (λ new. new.item
-        ≡ commoned_item (classes_in row.now) known.now (items.Assign variable value)) }
+        ≡ commoned_item (classes_in row.now) known (items.Assign variable value)) }
     ensures known { IfOk result (λ new. new.known
-        ≡ known_after (classes_in row.now) known.now (items.Assign variable value)) }
+        ≡ known_after (classes_in row.now) known (items.Assign variable value)) }
 {
-    let new = assigned_value(row, known, variable, value);
-    let behind = known_after_set(alloc, known, variable, value, new)?;
+    let new = assigned_value(row, known.as_slice(), variable, value);
+    let behind = known_after_set(known, variable, value, new)?;
     Ok(with_known(Item::Assign(variable, new), behind))
 }
 
@@ -105,12 +101,10 @@ fn common_item(
         new.known ≡ known_after (classes_in row.now) known item.now) }
 {
     match item {
-        Item::Assign(variable, value) => {
-            common_assignment(alloc, row, known.as_slice(), *variable, *value)
-        }
+        Item::Assign(variable, value) => common_assignment(row, known, *variable, *value),
         Item::Load(variable, kind, x) => {
             let x = propagate_operand(row, known.as_slice(), *x);
-            let behind = without_variable(alloc, known.as_slice(), *variable)?;
+            let behind = without_variable(known, *variable);
             Ok(with_known(Item::Load(*variable, *kind, x), behind))
         }
         Item::Store(width, x, y) => {

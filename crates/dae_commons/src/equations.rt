@@ -1,7 +1,7 @@
 // Equations that are known at a place of code.
 
-ghost use Rattle.std.specs.Prelude.{◌≡◌, ◌++◌, IfOk, OnOk};
-ghost use Rattle.dae_commons.specs.Equations.{both_known, equations_in, involves, is_among, met, operand_involves, same_equation};
+ghost use Rattle.std.specs.Prelude.{◌≡◌, ◌++◌, take, option_to_list, IfOk, OnOk};
+ghost use Rattle.dae_commons.specs.Equations.{both_known, equation_of, equations_in, involves, is_among, met, operand_involves, same_equation};
 ghost use Rattle.dae_commons.specs.Equations.{value_involves, with_equation, without_variable};
 
 use dae_base::Items;
@@ -44,62 +44,61 @@ fn involves(variable: u32, equation: Equation) -> bool
     equation.variable == variable || value_involves(variable, equation.value)
 }
 
-/// The equations that are known behind what changes no variable.
-pub fn copy_equations(alloc: Global, known: &[Equation]) -> Result<Items<Equation>, AllocError>
-    ensures { IfOk result (λ new. new ≡ known.now) }
+/// Nothing is known any longer that involves a variable.
+fn remove_involved(equations: &mut Vec<Equation>, variable: u32)
+    ensures { equations.new.items ≡ without_variable variable equations.old.items }
 {
-    let mut new = Vec::new(alloc);
-    new.extend_from_slice(known)?;
-    Ok(Items::from_vec(new))
+    equations.retain(|equation| !involves(variable, *equation));
 }
 
-/// Those equations that don't involve a variable come behind others.
-fn push_without(
-    kept: &mut Vec<Equation>,
-    known: &[Equation],
-    variable: u32,
+/// An equation, where there is one, comes before others, of which the latest few are kept, so that the time for an item doesn't grow
+/// with the list that it stands in.
+fn push_equation(
+    equations: &mut Vec<Equation>,
+    equation: Option<Equation>,
 ) -> Result<(), AllocError>
     ensures { OnOk result
-        (kept.new.items ≡ kept.old.items ++ without_variable variable known.now) }
+        (equations.new.items ≡ take 32 (option_to_list equation ++ equations.old.items)) }
 {
-    for equation in known {
-        if !involves(variable, *equation) {
-            kept.push(*equation)?;
-        }
+    if let Some(equation) = equation {
+        equations.insert(0, equation)?;
     }
+    equations.truncate(32);
     Ok(())
 }
 
-/// The equations that are known behind what sets a variable.
-pub fn without_variable(
-    alloc: Global,
-    known: &[Equation],
-    variable: u32,
-) -> Result<Items<Equation>, AllocError>
-    ensures { IfOk result (λ new. new ≡ without_variable variable known.now) }
+/// That a variable holds what was assigned to it, if it didn't stand there itself.
+fn equation_of(variable: u32, value: Value) -> Option<Equation>
+    ensures { option_to_list result ≡ equation_of variable value }
 {
-    let mut new = Vec::new(alloc);
-    push_without(&mut new, known, variable)?;
-    Ok(Items::from_vec(new))
+    if value_involves(variable, value) {
+        None
+    } else {
+        Some(Equation { variable, value })
+    }
 }
 
-/// The equations that are known behind an assignment. The latest few are kept, so that the time for an item doesn't grow with the
-/// list that it stands in.
+/// The equations that are known behind what sets a variable.
+pub fn without_variable(known: Items<Equation>, variable: u32) -> Items<Equation>
+    ensures { result ≡ without_variable variable known }
+{
+    let mut equations = known.into_vec();
+    remove_involved(&mut equations, variable);
+    Items::from_vec(equations)
+}
+
+/// The equations that are known behind an assignment.
 pub fn with_equation(
-    alloc: Global,
-    known: &[Equation],
+    known: Items<Equation>,
     variable: u32,
     value: Value,
 ) -> Result<Items<Equation>, AllocError>
-    ensures { IfOk result (λ new. new ≡ with_equation variable value known.now) }
+    ensures { IfOk result (λ new. new ≡ with_equation variable value known) }
 {
-    let mut new = Vec::new(alloc);
-    if !value_involves(variable, value) {
-        new.push(Equation { variable, value })?;
-    }
-    push_without(&mut new, known, variable)?;
-    new.truncate(32);
-    Ok(Items::from_vec(new))
+    let mut equations = known.into_vec();
+    remove_involved(&mut equations, variable);
+    push_equation(&mut equations, equation_of(variable, value))?;
+    Ok(Items::from_vec(equations))
 }
 
 /// The equations that are known at a place, none where the code doesn't go on.

@@ -18,8 +18,8 @@ fn without_item(
     ensures { IfOk result (λ new. new ≡ without_item known item.now) }
 {
     match item {
-        Item::Assign(variable, _) => without_variable(alloc, known.as_slice(), *variable),
-        Item::Load(variable, _, _) => without_variable(alloc, known.as_slice(), *variable),
+        Item::Assign(variable, _) => Ok(without_variable(known, *variable)),
+        Item::Load(variable, _, _) => Ok(without_variable(known, *variable)),
         Item::Call(_, _, _) => Ok(Items::new(alloc)),
         Item::Store(_, _, _) | Item::Print(_, _) | Item::Expect(_) => Ok(known),
         Item::Break | Item::Continue | Item::Return(_) | Item::Halt(_) => Ok(known),

@@ -13,6 +13,9 @@ use Rattle.dae_lex.specs.declared.output.Output.{Output}
 use Rattle.dae_lex.specs.Numbers.{IsName, IsNumberedBy, IsNumbered, Keeps, AreDefined}
 use Rattle.dae_lex.specs.Settling.{IsMeant, AreRead}
 
+pub keeps_same : (w : Numbers) → Keeps w w
+keeps_same w = record { words = λ n s h. h; literals = λ n bs h. h }
+
 pub keeps_on : (u v w : Numbers) → Keeps u v → Keeps v w → Keeps u w
 keeps_on u v w a b = record {
   words = λ n s h. b.words n s (a.words n s h);

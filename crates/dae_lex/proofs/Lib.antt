@@ -5,6 +5,7 @@ mod Found
 mod Finishing
 mod Limits
 mod Turns
+mod Unreplaced
 mod LineSteps
 mod Rows
 mod Whole

@@ -3,6 +3,8 @@ use Rattle.std.specs.Prelude.{◌≡◌, ℕ, zero, suc, ◌-◌, List, [], ◌�
 use Rattle.dae_tree.specs.Literals.{values_of}
 use Rattle.dae_tree.specs.Replacing.{Meaning, keyword, sign, name, constant, literal, Read, Item, taken, replaced, refused, Tested, token, failed, tested_one, literal_length}
 use Rattle.dae_tree.specs.declared.tokens.Room.{Room}
+use Rattle.dae_tree.specs.declared.pieces.PieceKind.{PieceKind}
+use Rattle.dae_tree.specs.declared.pieces.PieceKind.TheVariants as kinds
 use Rattle.dae_tree.specs.declared.faults.Construct.{Construct}
 use Rattle.dae_tree.specs.declared.faults.Construct.TheVariants.{TooManyReplacements, LiteralsTooLong}
 use Rattle.dae_tree.specs.declared.faults.LexError.{LexError}
@@ -27,6 +29,12 @@ abbrev pub IsMeant : Numbers → Meant → Type 0
 IsMeant w (meanings.Name number n) = IsName w number n.now
 IsMeant w (meanings.Literal number inside) = IsLiteral w number (values_of inside.now)
 IsMeant w _ = Unit {0}
+
+-- a piece of this kind is a token with this meaning, however it is spelled
+abbrev pub IsFixed : PieceKind → Meant → Type 0
+IsFixed (kinds.Constant c) m = m ≡ meanings.Constant c
+IsFixed (kinds.Mark s) m = m ≡ meanings.Sign s
+IsFixed _ m = ⊥
 
 abbrev pub meant : Result Meant Construct → Result Meaning Construct
 meant (Ok meaning) = Ok (meaning_of meaning)

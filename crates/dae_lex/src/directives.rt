@@ -4,6 +4,7 @@ ghost use Rattle.std.specs.Prelude.{◌≡◌, ◌≤◌, ◌<◌, ◌+◌, ◌+
 ghost use Rattle.std.specs.Map.{lookup};
 ghost use Rattle.dae_tree.specs.Directives.{marks_of, number_piece, line_of, lines_of, same_spellings, known_as, conflict_items, definition_items, with_definition, with_definitions, number_macro, header_definitions, replaced_text, line_items, macros_after, replaced_lines, inclusion_of, is_of, includes};
 ghost use Rattle.dae_tree.specs.Directives.{include as Include, define as Define};
+ghost use Rattle.dae_tree.specs.Replacing.{expand};
 ghost use Rattle.dae_tree.specs.declared.headers.Header.TheVariants.{Stdio, Stdlib};
 ghost use Rattle.dae_tree.specs.declared.faults.LexError.TheVariants.{Memory};
 ghost use Rattle.dae_lex_scan.specs.Cuts.{cut_of};
@@ -14,7 +15,7 @@ ghost use Rattle.dae_lex.specs.Rows.{rows_of};
 
 use crate::macros::{Macro, Macros};
 use crate::numbers::{NumberedPiece, Numbers};
-use crate::output::Output;
+use crate::output::{Output, fixed_meaning};
 use crate::replace::replace_piece;
 use dae_base::Place;
 use dae_lex_scan::{Piece, ReadLine, blank_kind, line_length, number_kind, read_line};
@@ -222,6 +223,55 @@ fn define_pieces<'j>(
     define(numbers, macros, hash, new)
 }
 
+/// Puts out what a piece of the text becomes, with its number where it is a word or a literal.
+fn take_numbered<'j>(
+    alloc: Global,
+    numbers: &mut Numbers<'j>,
+    macros: &Macros<'j>,
+    piece: &Piece<'j>,
+    out: &mut Output<'j>,
+) -> Result<(), LexError>
+    requires defined { AreDefined numbers.old macros.now }
+    requires read { AreRead numbers.old out.old }
+    ensures settles { (n : ℕ) → out.old.room.replacements ≤ n →
+        Settles (state_of out.new) result
+        (settle (state_of out.old)
+        (expand n (definitions_of macros.now) [] (cut_of piece.now) (cut_of piece.now))) }
+    ensures left { OnOk result (out.new.room.replacements ≤ out.old.room.replacements) }
+    ensures keeps { OnOk result (Keeps numbers.old numbers.new) }
+    ensures read { OnOk result (AreRead numbers.new out.new) }
+{
+    let first = numbers.piece(alloc, *piece)?;
+    replace_piece(alloc, numbers, macros, first, out)
+}
+
+/// Puts out what a piece of the text becomes. Most pieces are blanks, signs and constants, which need no look-up.
+fn take_piece<'j>(
+    alloc: Global,
+    numbers: &mut Numbers<'j>,
+    macros: &Macros<'j>,
+    piece: &Piece<'j>,
+    out: &mut Output<'j>,
+) -> Result<(), LexError>
+    requires defined { AreDefined numbers.old macros.now }
+    requires read { AreRead numbers.old out.old }
+    ensures settles { (n : ℕ) → out.old.room.replacements ≤ n →
+        Settles (state_of out.new) result
+        (settle (state_of out.old)
+        (expand n (definitions_of macros.now) [] (cut_of piece.now) (cut_of piece.now))) }
+    ensures left { OnOk result (out.new.room.replacements ≤ out.old.room.replacements) }
+    ensures keeps { OnOk result (Keeps numbers.old numbers.new) }
+    ensures read { OnOk result (AreRead numbers.new out.new) }
+{
+    if blank_kind(piece.kind) {
+        return Ok(());
+    }
+    match fixed_meaning(piece.kind) {
+        Some(meaning) => out.put(numbers, Ok(meaning), *piece),
+        None => take_numbered(alloc, numbers, macros, piece, out),
+    }
+}
+
 /// Puts out what a line of text becomes.
 fn take_text<'j>(
     alloc: Global,
@@ -241,8 +291,7 @@ fn take_text<'j>(
     ensures read { OnOk result (AreRead numbers.new out.new) }
 {
     for piece in pieces {
-        let first = numbers.piece(alloc, *piece)?;
-        match replace_piece(alloc, numbers, macros, first, out) {
+        match take_piece(alloc, numbers, macros, piece, out) {
             Ok(()) => {}
             Err(e) => return Err(e),
         }

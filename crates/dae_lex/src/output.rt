@@ -1,11 +1,11 @@
 //! Tokens as they are put out, with what is left of the room.
 
-ghost use Rattle.std.specs.Prelude.{◌≡◌, ◌<◌, ◌+◌, [], ◌∷◌, option_map, IfOk, OnOk, Result, Ok, Err};
+ghost use Rattle.std.specs.Prelude.{◌≡◌, ◌<◌, ◌+◌, [], ◌∷◌, option_map, IfSome, IfOk, OnOk, Result, Ok, Err};
 ghost use Rattle.dae_tree.specs.Tokens.{literal_of};
 ghost use Rattle.dae_tree.specs.Replacing.{items_of, taken, replaced, word_meaning, literal_length};
 ghost use Rattle.dae_lex_scan.specs.Cuts.{cut_of};
 ghost use Rattle.dae_lex.specs.Numbers.{IsName, IsNumbered};
-ghost use Rattle.dae_lex.specs.Settling.{Settles, AreRead, IsMeant, state_of, settle, meaning_of, meant};
+ghost use Rattle.dae_lex.specs.Settling.{Settles, AreRead, IsMeant, IsFixed, state_of, settle, meaning_of, meant};
 ghost use Rattle.dae_lex.specs.declared.numbers.Numbers.{Numbers as Numbers_};
 ghost use Rattle.dae_tree.specs.declared.faults.LexError.TheVariants.{Memory};
 
@@ -53,6 +53,18 @@ fn read_word<'j>(number: usize, word: &'j [u8]) -> Result<Meaning<'j>, Construct
     match find_refused_word(word) {
         Some(construct) => Err(construct),
         None => Ok(Meaning::Name(number, word)),
+    }
+}
+
+/// What a piece of this kind is as a token, where that doesn't depend on how it is spelled.
+pub fn fixed_meaning<'j>(kind: PieceKind) -> Option<Meaning<'j>>
+    ensures meaning { IfSome result (IsFixed kind) }
+    ensures meant { (w : Numbers_) → IfSome result (IsMeant w) }
+{
+    match kind {
+        PieceKind::Constant(value) => Some(Meaning::Constant(value)),
+        PieceKind::Mark(sign) => Some(Meaning::Sign(sign)),
+        _ => None,
     }
 }
 
@@ -125,7 +137,7 @@ impl<'j> Output<'j> {
     }
 
     /// Puts out a token that comes from a piece of the text, or refuses it.
-    fn put(
+    pub fn put(
         &mut self,
         numbers: &Numbers<'j>,
         meaning: Result<Meaning<'j>, Construct>,

@@ -3,7 +3,7 @@
 ghost use Rattle.std.specs.Prelude.{◌≡◌, ◌≤◌, ◌<◌, Some, length, map, IfSome};
 ghost use Rattle.dae_tree.specs.declared.signs.TheConstants.{SIGNS};
 ghost use Rattle.dae_tree.specs.Tables.{first_row, row_of, rows_of, IsLongestRow, sign_of, keyword_of, refused_word, header_of, suffix_of};
-ghost use Rattle.dae_lex_scan.specs.Lone.{lone_sign};
+ghost use Rattle.dae_lex_scan.specs.Lone.{lone_sign, spaced_sign};
 
 use crate::bytes::byte_at;
 use dae_tree::{
@@ -68,6 +68,43 @@ fn lone_sign_at(bytes: &[u8]) -> Option<(usize, PieceKind)>
     }
 }
 
+/// The sign that a byte is, where a blank stands behind it.
+fn spaced_sign(byte: u8) -> Option<Sign>
+    ensures { result ≡ spaced_sign byte }
+{
+    match byte {
+        b'=' => Some(Sign::Assign),
+        b'+' => Some(Sign::Plus),
+        b'-' => Some(Sign::Minus),
+        b'*' => Some(Sign::Times),
+        b'/' => Some(Sign::Divide),
+        b'%' => Some(Sign::Remainder),
+        b'<' => Some(Sign::Less),
+        b'>' => Some(Sign::Greater),
+        b'&' => Some(Sign::And),
+        b'|' => Some(Sign::Or),
+        b'^' => Some(Sign::Xor),
+        _ => None,
+    }
+}
+
+/// The sign at the front where a blank behind its first byte ends it, and its length.
+fn spaced_sign_at(bytes: &[u8]) -> Option<(usize, PieceKind)>
+    ensures value { IfSome result (λ found. Some found ≡ sign_of bytes.now) }
+    ensures within { IfSome result (λ found. (0 < found.0) × (found.0 ≤ length bytes.now)) }
+    ensures longest { IfSome result
+        (λ found. IsLongestRow (map (λ r. (r.0.now, r.1)) SIGNS) bytes.now found.0) }
+{
+    let behind = byte_at(bytes, 1);
+    if behind != b' ' {
+        return None;
+    }
+    match spaced_sign(byte_at(bytes, 0)) {
+        Some(sign) => Some((1, PieceKind::Mark(sign))),
+        None => None,
+    }
+}
+
 /// The longest sign at the front, and its length, by a walk through the table.
 #[tactic(auto, unfolding(dae_tree::specs::Tables::sign_of))]
 fn sign_in_table(bytes: &[u8]) -> Option<(usize, PieceKind)>
@@ -79,6 +116,19 @@ fn sign_in_table(bytes: &[u8]) -> Option<(usize, PieceKind)>
     find_row(&SIGNS, bytes)
 }
 
+/// The longest sign at the front of bytes that no lone sign begins, and its length.
+fn longer_sign_at(bytes: &[u8]) -> Option<(usize, PieceKind)>
+    ensures value { result ≡ sign_of bytes.now }
+    ensures within { IfSome result (λ found. (0 < found.0) × (found.0 ≤ length bytes.now)) }
+    ensures longest { IfSome result
+        (λ found. IsLongestRow (map (λ r. (r.0.now, r.1)) SIGNS) bytes.now found.0) }
+{
+    match spaced_sign_at(bytes) {
+        Some(found) => Some(found),
+        None => sign_in_table(bytes),
+    }
+}
+
 /// The longest sign at the front, and its length.
 pub fn sign_at(bytes: &[u8]) -> Option<(usize, PieceKind)>
     ensures value { result ≡ sign_of bytes.now }
@@ -88,7 +138,7 @@ pub fn sign_at(bytes: &[u8]) -> Option<(usize, PieceKind)>
 {
     match lone_sign_at(bytes) {
         Some(found) => Some(found),
-        None => sign_in_table(bytes),
+        None => longer_sign_at(bytes),
     }
 }
 

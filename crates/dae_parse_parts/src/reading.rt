@@ -1,5 +1,5 @@
 // A part that was read, a node over it, parts side by side, and lists that grow by a part.
-ghost use Rattle.std.specs.Prelude.{◌≡◌, length, slice_get, Some, None, IfOk, IfErr, OnOk};
+ghost use Rattle.std.specs.Prelude.{◌≡◌, ◌++◌, [], ◌∷◌, length, slice_get, Some, None, IfOk, IfErr, OnOk};
 ghost use Rattle.dae_parse_grammar.specs.FirstPlaces.{Places, nowhere, both, over};
 ghost use Rattle.dae_parse_parts.specs.Shown.{Holds, IsKept, IsFrom, IsPair, IsLonger, IsMade, box_value};
 
@@ -92,6 +92,27 @@ pub fn unbox<T: Drop>(part: Read<Box<T>>) -> Read<T>
     Read { tree, depths }
 }
 
+/// Makes room for one item in a list that has none.
+fn reserve_first<T>(list: &mut Vec<T>) -> Result<(), AllocError>
+    ensures { list.new.items ≡ list.old.items }
+{
+    if list.is_empty() {
+        list.reserve_exact(1)
+    } else {
+        Ok(())
+    }
+}
+
+/// A list with an item behind the others. The first gets room for itself alone, since most lists have one item.
+fn list_with<T: Drop>(list: Vec<T>, item: T) -> Result<Vec<T>, AllocError>
+    ensures { IfOk result (λ v. v.items ≡ list.items ++ item ∷ []) }
+{
+    let mut list = list;
+    reserve_first(&mut list)?;
+    list.push(item)?;
+    Ok(list)
+}
+
 /// A list with a tree more.
 pub fn longer<T: Drop>(before: Read<Vec<T>>, item: Read<T>) -> Result<Read<Vec<T>>, AllocError>
     ensures { (f g : Places) → Holds before f → Holds item g
@@ -100,10 +121,9 @@ pub fn longer<T: Drop>(before: Read<Vec<T>>, item: Read<T>) -> Result<Read<Vec<T
     let Read { tree, depths } = beside(before, item)?;
     match tree {
         Some((list, item)) => {
-            let mut list = list;
-            list.push(item)?;
+            let grown = list_with(list, item)?;
             Ok(Read {
-                tree: Some(list),
+                tree: Some(grown),
                 depths,
             })
         }
