@@ -8,7 +8,6 @@ use Rattle.dae_encode.specs.Spelling.{InRange, encoded}
 use Rattle.dae_ir.specs.Streams.{Actions, actions_of}
 use Rattle.dae_ir.specs.declared.stream.StreamFunction.{StreamFunction}
 use Rattle.dae_select_walks.specs.Layout.{CodeAt}
-use Rattle.dae_select_walks.specs.Live.{live, nowhere}
 use Rattle.dae_select_walks.specs.Agrees.{Plan}
 use Rattle.dae_select_blocks.specs.Code.{entry_code, function_code}
 use Rattle.dae_select_blocks.proofs.LawsOfBlocks.{words_are_code}
@@ -27,7 +26,7 @@ module _ (p : Plan) (variables : ℕ → ℕ) where
   placed_long (f ∷ fs) (l ∷ ls) word k e = let rest = placed_long fs ls (word + length (function_code p variables k (actions_of f.body))) (k + 1) (omega arith) in omega arith
 
   -- whatever is asked of a layout that its place doesn't change
-  pub placed_same : {T : Type 0} (what : Option FunctionLayout → T) → ((l : FunctionLayout) (entry start : ℕ) → what (Some (record { homes = l.homes; variables = l.variables; frame = l.frame; leaf = l.leaf; entry = entry; start = start })) ≡ what (Some l))
+  pub placed_same : {T : Type 0} (what : Option FunctionLayout → T) → ((l : FunctionLayout) (entry start : ℕ) → what (Some (record { homes = l.homes; variables = l.variables; frame = l.frame; leaf = l.leaf; bare = l.bare; entry = entry; start = start })) ≡ what (Some l))
       → (fs : List StreamFunction) (ls : List FunctionLayout) (word k g : ℕ) → length ls ≡ length fs → what (slice_get (placed p variables word k fs ls) g) ≡ what (slice_get ls g)
   placed_same what same [] [] word k g e = refl
   placed_same what same [] (l ∷ ls) word k g e = absurd (omega arith)
@@ -36,11 +35,11 @@ module _ (p : Plan) (variables : ℕ → ℕ) where
   placed_same what same (f ∷ fs) (l ∷ ls) word k (suc g) e = placed_same what same fs ls (word + length (function_code p variables k (actions_of f.body))) (k + 1) g (omega arith)
 
   pub start_behind : (fs : List StreamFunction) (ls : List FunctionLayout) (word k g i : ℕ) → length ls ≡ length fs → g < length fs → k + g ≡ i
-      → start_at (slice_get (placed p variables word k fs ls) g) ≡ entry_at (slice_get (placed p variables word k fs ls) g) + length (entry_code p variables i (live (body_in (slice_get fs g)) nowhere))
+      → start_at (slice_get (placed p variables word k fs ls) g) ≡ entry_at (slice_get (placed p variables word k fs ls) g) + length (entry_code p i)
   start_behind [] ls word k g i e lt at = absurd (omega arith)
   start_behind (f ∷ fs) [] word k g i e lt at = absurd (omega arith)
   start_behind (f ∷ fs) (l ∷ ls) word k zero i e lt at =
-      let same : k ≡ i = omega arith in ap (λ (n : ℕ). word + length (entry_code p variables n (live (actions_of f.body) nowhere))) same
+      let same : k ≡ i = omega arith in ap (λ (n : ℕ). word + length (entry_code p n)) same
   start_behind (f ∷ fs) (l ∷ ls) word k (suc g) i e lt at =
       start_behind fs ls (word + length (function_code p variables k (actions_of f.body))) (k + 1) g i (omega arith) (omega arith) (omega arith)
 
