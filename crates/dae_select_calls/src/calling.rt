@@ -1,6 +1,6 @@
 // The blocks of calls and returns, and the code that a function begins with.
 
-ghost use Rattle.std.specs.Prelude.{◌≡◌, ◌+◌, ◌++◌, ◌∷◌, [], pos, ◌^◌, ◌%◌, ◌&&◌, nat_lt, IfOk, OnOk};
+ghost use Rattle.std.specs.Prelude.{if◌then◌else◌, ◌≡◌, ◌+◌, ◌++◌, ◌∷◌, [], pos, ◌^◌, ◌%◌, ◌&&◌, nat_lt, IfOk, OnOk};
 ghost use Rattle.dae_encode.specs.declared.Inst.TheVariants.{Jalr};
 ghost use Rattle.dae_select_blocks.specs.Blocks.{is_register, save_code, restore_code, more_code, less_code, deeper_code, back_code, result_code, count_code, prologue_code, epilogue_code, leave_code};
 ghost use Rattle.dae_select_blocks.specs.Code.{some_below, filtered, registers_in, call_code};
