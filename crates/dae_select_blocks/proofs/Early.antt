@@ -41,7 +41,7 @@ use Rattle.dae_select_blocks.specs.Code.{either_one, reads_once, with_home, earl
 use Rattle.dae_select_blocks.specs.Fits.{Fits}
 use Rattle.dae_select_blocks.specs.Wanted.{IsNumber, AreNumbers}
 use Rattle.dae_select_blocks.proofs.Halves.{immediate_word, immediate_signed}
-use Rattle.dae_select_blocks.proofs.Plain.{plain_read, computes, put_same, put_other, put_twice}
+use Rattle.dae_select_blocks.proofs.Plain.{plain_read, computes, put_same}
 use Rattle.dae_select_blocks.proofs.Runs.{Runs, runs_nothing, runs_quiet, runs_take}
 use Rattle.dae_select_blocks.proofs.Agreement.{Ready, ready_like, ready_gets, key_apart, slot_framed}
 use Rattle.dae_select_blocks.proofs.Operands.{like_put, runs_fetch, runs_keep}

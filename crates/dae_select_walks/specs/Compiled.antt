@@ -10,7 +10,6 @@ use Rattle.dae_ir.specs.Form.{Program, value, holds, computed}
 use Rattle.dae_ir.specs.Streams.{Actions}
 use Rattle.dae_ir.specs.Deeds.{Quit, Plainly, WithStatus, Went, Push, Halts, told_on, heard_on, deed}
 use Rattle.dae_ir.specs.declared.form.Operand.{Operand}
-use Rattle.dae_ir.specs.declared.form.Value.{Value}
 use Rattle.dae_ir.specs.declared.stream.Argument.{Argument}
 use Rattle.dae_ir.specs.declared.stream.Action.{Action}
 use Rattle.dae_ir.specs.declared.stream.Action.TheVariants.{Break, Continue, Call, Return}
@@ -20,7 +19,7 @@ use Rattle.dae_select_walks.specs.declared.Standing.{Standing}
 use Rattle.dae_select_walks.specs.declared.Standing.TheVariants.{Settled, Early, Late}
 use Rattle.dae_select_walks.specs.Walks.{Setting, Comes, Nears, Acts}
 use Rattle.dae_select_walks.specs.Does.{Does, event}
-use Rattle.dae_select_walks.specs.Live.{Ways, ways, behind, live, is, turn, step_ways}
+use Rattle.dae_select_walks.specs.Live.{Ways, ways, live, is}
 use Rattle.dae_select_walks.specs.Facts.{Facts, Hold, facts_behind, facts_in_first, facts_in_second, facts_past_if, facts_at_turn, facts_at_step, facts_past_loop}
 use Rattle.dae_select_walks.specs.Homes.{Contents}
 use Rattle.dae_select_walks.specs.Agrees.{Plan, Moment, Waiting, depth_of, top_of, pointed, IsWithin, AreWaiting, AreResident, Shows, Stands}
