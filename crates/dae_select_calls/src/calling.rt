@@ -1,6 +1,6 @@
 // The blocks of calls and returns, and the code that a function begins with.
 
-ghost use Rattle.std.specs.Prelude.{if◌then◌else◌, ◌≡◌, ◌+◌, ◌++◌, ◌∷◌, [], pos, ◌^◌, ◌%◌, ◌&&◌, nat_lt, IfOk, OnOk};
+ghost use Rattle.std.specs.Prelude.{if◌then◌else◌, ◌≡◌, ◌+◌, ◌*◌, ◌++◌, ◌∷◌, [], pos, ◌^◌, ◌%◌, ◌&&◌, nat_lt, IfOk, OnOk};
 ghost use Rattle.dae_encode.specs.declared.Inst.TheVariants.{Jalr};
 ghost use Rattle.dae_select_blocks.specs.Blocks.{is_register, save_code, restore_code, more_code, less_code, deeper_code, back_code, result_code, count_code, prologue_code, epilogue_code, leave_code};
 ghost use Rattle.dae_select_blocks.specs.Code.{some_below, filtered, registers_in, call_code};
@@ -221,6 +221,42 @@ pub struct Callee {
     pub function: u32,
 }
 
+/// What a call does behind its arguments: these registers are kept, the parameters' registers get their values, and the frames follow.
+fn pass_code(
+    code: &mut Vec<Inst>,
+    making: &Making,
+    callee: u32,
+    arguments: &[Argument],
+    registers: &[u8],
+) -> Result<(), AllocError>
+    requires { IsSound making.now }
+    ensures { OnOk result (code.new.items ≡ code.old.items ++ (save_code registers.now
+        ++ (parameters_code (plan_by making.now) making.now.function callee arguments.now
+        ++ deeper_code (plan_by making.now) making.now.function callee))) }
+{
+    save_code(code, registers)?;
+    parameters_code(code, making, callee, arguments)?;
+    deeper_code(code, making, callee)
+}
+
+/// What a call does when it is answered: the frames are given up, these registers get back what was kept, and the result goes home.
+fn resume_code(
+    code: &mut Vec<Inst>,
+    making: &Making,
+    callee: Callee,
+    registers: &[u8],
+) -> Result<(), AllocError>
+    requires { IsSound making.now }
+    ensures { OnOk result (code.new.items ≡ code.old.items
+        ++ (back_code (plan_by making.now) making.now.function callee.function
+        ++ (restore_code registers.now
+        ++ result_code (home_by making.now.homes.entry) callee.result))) }
+{
+    back_code(code, making, callee.function)?;
+    restore_code(code, registers)?;
+    result_code(code, making.homes, callee.result)
+}
+
 /// The block of a call, where these variables are live behind it, the result aside.
 pub fn call_code(
     code: &mut Vec<Inst>,
@@ -238,13 +274,15 @@ pub fn call_code(
     let variables = layouts.variables(making.function);
     arguments_code(code, making, callee.function, arguments)?;
     let registers = registers_in(making.alloc, making.homes, variables, live)?;
-    save_code(code, registers.as_slice())?;
-    parameters_code(code, making, callee.function, arguments)?;
-    deeper_code(code, making, callee.function)?;
+    pass_code(
+        code,
+        making,
+        callee.function,
+        arguments,
+        registers.as_slice(),
+    )?;
     enter_code(code, layouts.calls, layouts.entry(callee.function))?;
-    back_code(code, making, callee.function)?;
-    restore_code(code, registers.as_slice())?;
-    result_code(code, making.homes, callee.result)
+    resume_code(code, making, callee, registers.as_slice())
 }
 
 /// A counts so much more.
