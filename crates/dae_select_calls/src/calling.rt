@@ -2,7 +2,7 @@
 
 ghost use Rattle.std.specs.Prelude.{if◌then◌else◌, ◌≡◌, ◌+◌, ◌*◌, ◌++◌, ◌∷◌, [], pos, ◌^◌, ◌%◌, ◌&&◌, nat_lt, IfOk, OnOk};
 ghost use Rattle.dae_encode.specs.declared.Inst.TheVariants.{Jalr};
-ghost use Rattle.dae_select_blocks.specs.Blocks.{is_register, save_code, restore_code, more_code, less_code, deeper_code, back_code, result_code, count_code, prologue_code, epilogue_code, leave_code};
+ghost use Rattle.dae_select_blocks.specs.Blocks.{is_register, save_code, parameters_code, restore_code, more_code, less_code, deeper_code, back_code, result_code, count_code, prologue_code, epilogue_code, leave_code};
 ghost use Rattle.dae_select_blocks.specs.Code.{some_below, filtered, registers_in, call_code};
 ghost use Rattle.dae_select_calls.specs.Makings.{plan_by, variables_by, IsSound};
 ghost use Rattle.dae_select_walks.specs.Live.{with_all};
