@@ -164,3 +164,23 @@ pub fn stamp(stamps: &mut Vec<u32>, number: u32, variable: u32) {
         stamps[variable as usize] = number;
     }
 }
+
+/// Whether statements hold a loop.
+#[cycle(holds)]
+pub fn holds_loop(statements: &[Statement]) -> bool {
+    for statement in statements {
+        if is_or_holds_loop(statement) {
+            return true;
+        }
+    }
+    false
+}
+
+#[cycle(holds)]
+fn is_or_holds_loop(statement: &Statement) -> bool {
+    match statement {
+        Statement::Simple(_, _) => false,
+        Statement::If(_, _, yes, no) => holds_loop(yes) || holds_loop(no),
+        Statement::Loop(_, _, _) => true,
+    }
+}

@@ -3,7 +3,7 @@
 ghost use Rattle.std.specs.Prelude.{◌≡◌, IfOk};
 
 use crate::candidates::{
-    clear_flags, has_flag, no_flags, set_flag, stamp, taken_variables, variable_set,
+    clear_flags, has_flag, holds_loop, no_flags, set_flag, stamp, taken_variables, variable_set,
 };
 use crate::events::{Event, Events, add_events, events_in};
 use crate::plan::{HoistPlan, NotHoisted};
@@ -378,6 +378,9 @@ pub fn find_invariants(
     ensures variables { IfOk result (λ plan. plan.variables ≡ function.now.variables) }
     ensures row { IfOk result (λ plan. plan.row.items ≡ row.now) }
 {
+    if !holds_loop(function.body.as_slice()) {
+        return Err(NotHoisted::Kept);
+    }
     let mut finding = Finding {
         values: no_values(alloc, function.variables)?,
         classes: copied(alloc, row)?,
