@@ -106,12 +106,12 @@ fn next_for(alloc: Global, body: &[Step], next: &LiveSet) -> Result<LiveSet, All
 }
 
 /// What is told of a loop with this body, by what is live where a turn begins if `next_for` is live behind it.
-fn row_for(alloc: Global, body: &[Step], turn: &LiveSet) -> Result<Option<LiveSet>, AllocError>
+fn row_for(alloc: Global, body: &[Step], round: &LiveSet) -> Result<Option<LiveSet>, AllocError>
     ensures { IfOk result (λ row.
-        row ≡ (if leaves_at_once (actions_of body.now) then Some turn.now else None)) }
+        row ≡ (if leaves_at_once (actions_of body.now) then Some round.now else None)) }
 {
     if leaves_at_once(body) {
-        let set = turn.copy(alloc)?;
+        let set = round.copy(alloc)?;
         Ok(Some(set))
     } else {
         Ok(None)
@@ -119,15 +119,15 @@ fn row_for(alloc: Global, body: &[Step], turn: &LiveSet) -> Result<Option<LiveSe
 }
 
 /// What is live where a turn begins, by what is if `next_for` is live behind the loop.
-fn turn_for(turn: LiveSet, body: &[Step], next: &LiveSet) -> Result<LiveSet, AllocError>
+fn turn_for(round: LiveSet, body: &[Step], next: &LiveSet) -> Result<LiveSet, AllocError>
     ensures { IfOk result (λ set. member set
-        ≡ (if leaves_at_once (actions_of body.now) then with_all (member turn) (member next.now)
-        else member turn)) }
+        ≡ (if leaves_at_once (actions_of body.now) then with_all (member round) (member next.now)
+        else member round)) }
 {
     if leaves_at_once(body) {
-        unite(turn, next)
+        unite(round, next)
     } else {
-        Ok(turn)
+        Ok(round)
     }
 }
 
@@ -160,10 +160,10 @@ fn tell_in_step(
             let behind = next_for(alloc, body, &next)?;
             let nothing = LiveSet::new(alloc);
             let again = tell_in_list(turns, step, LiveSet::new(alloc), &behind, &nothing)?;
-            let turn = tell_in_list(turns, body, again.copy(alloc)?, &behind, &again)?;
-            let row = row_for(alloc, body, &turn)?;
+            let round = tell_in_list(turns, body, again.copy(alloc)?, &behind, &again)?;
+            let row = row_for(alloc, body, &round)?;
             tell_turn(turns, *mark, row)?;
-            let set = turn_for(turn, body, &next)?;
+            let set = turn_for(round, body, &next)?;
             Ok(set)
         }
     }

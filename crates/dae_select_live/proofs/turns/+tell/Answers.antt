@@ -43,21 +43,21 @@ tell_in_step-returns-in_ok-set-in-Loop t c =
     let leaves = member c.args.leaves.now in let skips = member c.args.skips.now in let next = member c.args.next in
     let B = actions_of i.body.items in let S = actions_of i.step.items in
     let old = told_by c.args.turns.now in let mid = told_by c.tell_in_list-in-Loop.new.turns in let last = told_by c.tell_in_list-in-Loop-2.new.turns in let new = told_by c.tell_turn.new.turns in
-    let again = c.in_ok-again-in-Loop in let begins = c.in_ok-turn-in-Loop in let telling = c.in_ok-tell_turn-in-Loop in
-    let behind = member c.in_ok-behind-in-Loop.behind in let round = member again.again in let set = member begins.turn in
+    let again = c.in_ok-again-in-Loop in let begins = c.in_ok-round-in-Loop in let telling = c.in_ok-tell_turn-in-Loop in
+    let behind = member c.in_ok-behind-in-Loop.behind in let back = member again.again in let set = member begins.round in
     let behind_is : behind ≡ (if leaves_at_once B then none else next) =
     c.in_ok-behind-in-Loop.ensures ∙ ap (λ (l : List Step). if leaves_at_once (actions_of l) then none else next) c.deref-in-Loop.ensures.value in
-    let round_is : round ≡ live S (ways none behind none) =
+    let again_is : back ≡ live S (ways none behind none) =
     again.ensures.live ∙ ap (λ (l : List Step). live (actions_of l) (ways (member c.new.result) behind (member c.new-nothing.result))) c.deref-in-Loop-2.ensures.value
     ∙ ap (λ (x : VariableSet). live S (ways x behind (member c.new-nothing.result))) c.new.ensures ∙ ap (λ (x : VariableSet). live S (ways none behind x)) c.new-nothing.ensures in
-    let set_is : set ≡ live B (ways round behind round) =
-    begins.ensures.live ∙ ap (λ (l : List Step). live (actions_of l) (ways (member c.in_ok-copy-in-Loop.field-0) behind round)) c.deref-in-Loop-3.ensures.value
-    ∙ ap (λ (vs : List ℕ). live B (ways (member vs) behind round)) c.in_ok-copy-in-Loop.ensures in
+    let set_is : set ≡ live B (ways back behind back) =
+    begins.ensures.live ∙ ap (λ (l : List Step). live (actions_of l) (ways (member c.in_ok-copy-in-Loop.field-0) behind back)) c.deref-in-Loop-3.ensures.value
+    ∙ ap (λ (vs : List ℕ). live B (ways (member vs) behind back)) c.in_ok-copy-in-Loop.ensures in
     let found : set ≡ turn B S (if leaves_at_once B then none else next) =
-    set_is ∙ ap (λ (x : VariableSet). live B (ways x behind x)) round_is ∙ ap (turn B S) behind_is in
-    let row_is = c.in_ok-row-in-Loop.ensures ∙ ap {B = Option (List ℕ)} (λ (l : List Step). if leaves_at_once (actions_of l) then Some begins.turn else None) c.deref-in-Loop-4.ensures.value in
+    set_is ∙ ap (λ (x : VariableSet). live B (ways x behind x)) again_is ∙ ap (turn B S) behind_is in
+    let row_is = c.in_ok-row-in-Loop.ensures ∙ ap {B = Option (List ℕ)} (λ (l : List Step). if leaves_at_once (actions_of l) then Some begins.round else None) c.deref-in-Loop-4.ensures.value in
     let row_told : IsTurn B S c.in_ok-row-in-Loop.row =
-    subst (IsTurn B S) (sym row_is) (turn_told B S next set (leaves_at_once B) begins.turn refl refl found) in
+    subst (IsTurn B S) (sym row_is) (turn_told B S next set (leaves_at_once B) begins.round refl refl found) in
     let given : member c.in_ok-set-in-Loop.set ≡ turn B S next =
     c.in_ok-set-in-Loop.ensures ∙ ap (λ (l : List Step). if leaves_at_once (actions_of l) then with_all set next else set) c.deref-in-Loop-5.ensures.value
     ∙ turn_found B S next set (leaves_at_once B) refl found in
