@@ -1,11 +1,11 @@
--- Where nothing is known before code, nothing is known behind it.
-use Rattle.std.proofs.Common.{◌≡◌, List, [], ◌∷◌, length, refl, ap, sym, ◌∙◌, arith}
+-- Where nothing is known before code, nothing is known behind it; and equations in which a variable doesn't stand are left as they are.
+use Rattle.std.proofs.Common.{◌≡◌, ℕ, Bool, true, false, ◌||◌, if◌then◌else◌, List, [], ◌∷◌, length, refl, ap, sym, ◌∙◌, arith}
 use Rattle.dae_ir.specs.Code.{Done, Do, If, Loop}
 use Rattle.dae_ir.specs.Form.{Form}
 use Rattle.dae_ir.specs.declared.form.Item.{Item}
 use Rattle.dae_ir.specs.declared.form.Item.TheVariants.{Assign, Load, Store, Print, Expect, Break, Continue, Call, Return, Halt}
 use Rattle.dae_commons.specs.declared.equations.Equation.{Equation}
-use Rattle.dae_commons.specs.Equations.{known_in_loop, without_item, without_set}
+use Rattle.dae_commons.specs.Equations.{involves, known_in_loop, some_involves, without_item, without_set, without_variable}
 
 item_leaves : (item : Item) → without_item [] item ≡ []
 item_leaves (Assign v x) = refl
@@ -34,3 +34,11 @@ pub still_nothing : (q : List Equation) (x y : Form) → length q ≡ 0 → q �
 still_nothing [] x y none =
     sym (ap (λ (q : List Equation). without_set q y) (code_leaves x) ∙ code_leaves y)
 still_nothing (d ∷ q) x y none = absurd (omega arith)
+
+pub all_left : (v : ℕ) (q : List Equation) → some_involves v q ≡ false → q ≡ without_variable v q
+all_left v [] none = refl
+all_left v (e ∷ q) none = by (involves v e) none
+  where
+    by : (b : Bool) → (b || some_involves v q) ≡ false → e ∷ q ≡ (if b then without_variable v q else e ∷ without_variable v q)
+    by true h = absurd cc
+    by false h = ap (λ (r : List Equation). e ∷ r) (all_left v q h)

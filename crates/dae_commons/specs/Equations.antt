@@ -42,6 +42,11 @@ without_variable v [] = []
 without_variable v (e ∷ q) =
     if involves v e then without_variable v q else e ∷ without_variable v q
 
+-- the variable stands in one of them
+abbrev pub some_involves : ℕ → List Equation → Bool
+some_involves v [] = false
+some_involves v (e ∷ q) = involves v e || some_involves v q
+
 abbrev pub equation : ℕ → Value → Equation
 equation v x = record { variable = v; value = x }
 

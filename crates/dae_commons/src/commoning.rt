@@ -9,7 +9,7 @@ use crate::copies::{
     is_operand, propagate_check, propagate_operand, propagate_operands, propagate_test,
 };
 use crate::equations::{
-    Equation, copy_equations, equations_in, meet, with_equation, without_variable,
+    Equation, copy_equations, equations_in, leave_out, meet, with_equation, without_variable,
 };
 use crate::setting::known_in_loop;
 use crate::sums::{assigned_value, is_itself};
@@ -110,7 +110,7 @@ fn common_item(
         }
         Item::Load(variable, kind, x) => {
             let x = propagate_operand(row, known.as_slice(), *x);
-            let behind = without_variable(alloc, known.as_slice(), *variable)?;
+            let behind = leave_out(alloc, known, *variable)?;
             Ok(with_known(Item::Load(*variable, *kind, x), behind))
         }
         Item::Store(width, x, y) => {

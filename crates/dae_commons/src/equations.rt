@@ -2,7 +2,7 @@
 
 ghost use Rattle.std.specs.Prelude.{◌≡◌, ◌++◌, IfOk, OnOk};
 ghost use Rattle.dae_commons.specs.Equations.{both_known, equations_in, involves, is_among, met, operand_involves, same_equation};
-ghost use Rattle.dae_commons.specs.Equations.{value_involves, with_equation, without_variable};
+ghost use Rattle.dae_commons.specs.Equations.{some_involves, value_involves, with_equation, without_variable};
 
 use dae_base::Items;
 use dae_ir::{Operand, Value};
@@ -81,6 +81,33 @@ pub fn without_variable(
     let mut new = Vec::new(alloc);
     push_without(&mut new, known, variable)?;
     Ok(Items::from_vec(new))
+}
+
+fn some_involves(variable: u32, known: &[Equation]) -> bool
+    ensures { result ≡ some_involves variable known.now }
+{
+    for equation in known {
+        if involves(variable, *equation) {
+            return true;
+        }
+    }
+    false
+}
+
+/// The equations that are known behind what sets a variable, of equations that aren't needed any more: where the variable stands in
+/// none of them, that takes no memory.
+pub fn leave_out(
+    alloc: Global,
+    known: Items<Equation>,
+    variable: u32,
+) -> Result<Items<Equation>, AllocError>
+    ensures { IfOk result (λ new. new ≡ without_variable variable known) }
+{
+    if some_involves(variable, known.as_slice()) {
+        without_variable(alloc, known.as_slice(), variable)
+    } else {
+        Ok(known)
+    }
 }
 
 /// The equations that are known behind an assignment. The latest few are kept, so that the time for an item doesn't grow with the

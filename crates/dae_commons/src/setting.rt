@@ -4,7 +4,7 @@ ghost use Rattle.std.specs.Prelude.{◌≡◌, IfOk};
 ghost use Rattle.dae_ir.specs.Form.{form_of};
 ghost use Rattle.dae_commons.specs.Equations.{IsWithoutStatement, known_in_loop, without_item, without_set};
 
-use crate::equations::{Equation, without_variable};
+use crate::equations::{Equation, leave_out};
 use dae_base::Items;
 use dae_ir::{Item, Statement};
 use std::alloc::{AllocError, Global};
@@ -18,8 +18,8 @@ fn without_item(
     ensures { IfOk result (λ new. new ≡ without_item known item.now) }
 {
     match item {
-        Item::Assign(variable, _) => without_variable(alloc, known.as_slice(), *variable),
-        Item::Load(variable, _, _) => without_variable(alloc, known.as_slice(), *variable),
+        Item::Assign(variable, _) => leave_out(alloc, known, *variable),
+        Item::Load(variable, _, _) => leave_out(alloc, known, *variable),
         Item::Call(_, _, _) => Ok(Items::new(alloc)),
         Item::Store(_, _, _) | Item::Print(_, _) | Item::Expect(_) => Ok(known),
         Item::Break | Item::Continue | Item::Return(_) | Item::Halt(_) => Ok(known),
