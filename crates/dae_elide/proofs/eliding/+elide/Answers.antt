@@ -40,31 +40,27 @@ both_alike ss xs steps e h =
 
 pub elide_statement-elide_list-requires : goal.elide_statement-elide_list-requires
 elide_statement-elide_list-requires t c =
-    let w = c.in-If in (
-      search (rules, the_lemmas),
-      both_alike c.deref.result.now w.yes.items c.first_list-one.result.now c.deref.ensures.value (c.first_list-one.ensures ∙ first_like_if c.args.statement.now c.args.like.now c.requires w.place w.test w.yes w.no w.is),
-    )
+    let w = c.in-If in
+    let both = both_alike c.deref.result.now w.yes.items c.first_list-one.result.now c.deref.ensures.value (c.first_list-one.ensures ∙ first_like_if c.args.statement.now c.args.like.now c.requires w.place w.test w.yes w.no w.is) in
+    (search (rules, the_lemmas), (both.0, both.1))
 
 pub elide_statement-elide_list-requires-in-If : goal.elide_statement-elide_list-requires-in-If
 elide_statement-elide_list-requires-in-If t c =
-    let w = c.in-If in (
-      search (rules, the_lemmas),
-      both_alike c.deref-in-If.result.now w.no.items c.second_list-other.result.now c.deref-in-If.ensures.value (c.second_list-other.ensures ∙ second_like_if c.args.statement.now c.args.like.now c.requires w.place w.test w.yes w.no w.is),
-    )
+    let w = c.in-If in
+    let both = both_alike c.deref-in-If.result.now w.no.items c.second_list-other.result.now c.deref-in-If.ensures.value (c.second_list-other.ensures ∙ second_like_if c.args.statement.now c.args.like.now c.requires w.place w.test w.yes w.no w.is) in
+    (search (rules, the_lemmas), (both.0, both.1))
 
 pub elide_statement-elide_list-requires-in-Loop : goal.elide_statement-elide_list-requires-in-Loop
 elide_statement-elide_list-requires-in-Loop t c =
-    let w = c.in-Loop in (
-      search (rules, the_lemmas),
-      both_alike c.deref-in-Loop.result.now w.body.items c.first_list-turn.result.now c.deref-in-Loop.ensures.value (c.first_list-turn.ensures ∙ first_like_loop c.args.statement.now c.args.like.now c.requires w.place w.body w.step w.is),
-    )
+    let w = c.in-Loop in
+    let both = both_alike c.deref-in-Loop.result.now w.body.items c.first_list-turn.result.now c.deref-in-Loop.ensures.value (c.first_list-turn.ensures ∙ first_like_loop c.args.statement.now c.args.like.now c.requires w.place w.body w.step w.is) in
+    (search (rules, the_lemmas), (both.0, both.1))
 
 pub elide_statement-elide_list-requires-in-Loop-2 : goal.elide_statement-elide_list-requires-in-Loop-2
 elide_statement-elide_list-requires-in-Loop-2 t c =
-    let w = c.in-Loop in (
-      search (rules, the_lemmas),
-      both_alike c.deref-in-Loop-2.result.now w.step.items c.second_list-again.result.now c.deref-in-Loop-2.ensures.value (c.second_list-again.ensures ∙ second_like_loop c.args.statement.now c.args.like.now c.requires w.place w.body w.step w.is),
-    )
+    let w = c.in-Loop in
+    let both = both_alike c.deref-in-Loop-2.result.now w.step.items c.second_list-again.result.now c.deref-in-Loop-2.ensures.value (c.second_list-again.ensures ∙ second_like_loop c.args.statement.now c.args.like.now c.requires w.place w.body w.step w.is) in
+    (search (rules, the_lemmas), (both.0, both.1))
 
 -- ---- what is elided
 
