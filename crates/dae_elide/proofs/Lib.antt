@@ -4,3 +4,4 @@ mod Lasting
 mod Programs
 mod Walked
 mod Unchecked
+mod Paired

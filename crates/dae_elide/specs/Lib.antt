@@ -1,3 +1,4 @@
+pub mod Alike
 pub mod Checking
 pub mod Elided
 pub mod Forms

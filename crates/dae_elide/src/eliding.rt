@@ -1,14 +1,16 @@
 // The walk that elides checks.
 
-ghost use Rattle.std.specs.Prelude.{◌≡◌, IfOk};
+ghost use Rattle.std.specs.Prelude.{◌≡◌, length, IfOk};
 ghost use Rattle.dae_ir.specs.Form.{form_of};
+ghost use Rattle.dae_ir.specs.Streams.{actions_of};
 ghost use Rattle.dae_select_facts.specs.Knowns.{facts_by};
-ghost use Rattle.dae_elide.specs.Elided.{elided, elided_check, elided_item, is_known, kept_width};
+ghost use Rattle.dae_elide.specs.Alike.{BeginsAlike};
+ghost use Rattle.dae_elide.specs.Elided.{as_actions, elided, elided_check, elided_item, is_known, kept_width};
 ghost use Rattle.dae_elide.specs.Walked.{IsElided, chosen_by};
 
-use crate::likes::{action_like, steps_like};
+use crate::likes::{action_like, first_list, second_list};
 use dae_base::{Items, Width};
-use dae_ir::{Branch, Check, Class, Item, Operand, Statement, Value};
+use dae_ir::{Branch, Check, Class, Item, Operand, Statement, Step, Value};
 use dae_select_facts::{
     Known, bounds_in, facts_at_turn, facts_behind, facts_behind_turn, facts_in_list, facts_past_if,
     facts_past_loop, is_aligned, is_good,
@@ -116,7 +118,9 @@ fn elide_statement(
     classes: &[Class],
     known: Known,
     statement: &Statement,
+    like: &Step,
 ) -> Result<Elided, AllocError>
+    requires { BeginsAlike statement.now like.now }
     ensures { IfOk result (λ e. IsElided memory (chosen_by classes.now) (facts_by known)
         statement.now e.statement (facts_by e.known)) }
 {
@@ -132,27 +136,26 @@ fn elide_statement(
         }
         Statement::If(place, test, yes, no) => {
             let branch = Branch::Silent(*test);
+            let one = first_list(like);
+            let other = second_list(like);
             let in_first = facts_in_list(alloc, branch, Edge::Then, &known)?;
-            let first = elide_list(alloc, memory, classes, in_first, yes)?;
+            let first = elide_list(alloc, memory, classes, in_first, yes, one)?;
             let in_second = facts_in_list(alloc, branch, Edge::Else, &known)?;
-            let second = elide_list(alloc, memory, classes, in_second, no)?;
-            let one = steps_like(alloc, yes)?;
-            let other = steps_like(alloc, no)?;
-            let past = facts_past_if(alloc, branch, one.as_slice(), other.as_slice(), &known)?;
+            let second = elide_list(alloc, memory, classes, in_second, no, other)?;
+            let past = facts_past_if(alloc, branch, one, other, &known)?;
             Ok(Elided {
                 statement: Statement::If(*place, *test, first, second),
                 known: past,
             })
         }
         Statement::Loop(place, body, step) => {
-            let turn = steps_like(alloc, body)?;
-            let again = steps_like(alloc, step)?;
-            let (turn, again) = (turn.as_slice(), again.as_slice());
+            let turn = first_list(like);
+            let again = second_list(like);
             let at_turn = facts_at_turn(alloc, memory, turn, again, &known)?;
             let at_step = facts_behind_turn(alloc, turn, &at_turn)?;
             let past = facts_past_loop(alloc, turn, again, &known)?;
-            let first = elide_list(alloc, memory, classes, at_turn, body)?;
-            let second = elide_list(alloc, memory, classes, at_step, step)?;
+            let first = elide_list(alloc, memory, classes, at_turn, body, turn)?;
+            let second = elide_list(alloc, memory, classes, at_step, step, again)?;
             Ok(Elided {
                 statement: Statement::Loop(*place, first, second),
                 known: past,
@@ -162,7 +165,7 @@ fn elide_statement(
 }
 
 /// Statements without the checks that are known to pass, where this is known before them, memory has so many addresses, and these
-/// are the classes of the variables.
+/// are the classes of the variables. The steps are those in which the same is known.
 #[cycle(elide)]
 pub fn elide_list(
     alloc: Global,
@@ -170,14 +173,19 @@ pub fn elide_list(
     classes: &[Class],
     known: Known,
     statements: &[Statement],
+    steps: &[Step],
 ) -> Result<Vec<Statement>, AllocError>
+    requires alike { actions_of steps.now ≡ as_actions (form_of statements.now) }
+    requires long { length steps.now ≡ length statements.now }
     ensures { IfOk result (λ new. form_of new.items
         ≡ elided memory (chosen_by classes.now) (facts_by known) (form_of statements.now)) }
 {
     let mut new = Vec::new(alloc);
     let mut known = known;
-    for statement in statements {
-        let elided = elide_statement(alloc, memory, classes, known, statement)?;
+    for index in 0..statements.len() {
+        let statement = &statements[index];
+        let like = &steps[index];
+        let elided = elide_statement(alloc, memory, classes, known, statement, like)?;
         new.push(elided.statement)?;
         known = elided.known;
     }

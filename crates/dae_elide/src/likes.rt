@@ -2,7 +2,9 @@
 
 ghost use Rattle.std.specs.Prelude.{◌≡◌, IfOk};
 ghost use Rattle.dae_ir.specs.Form.{form_of};
-ghost use Rattle.dae_ir.specs.Streams.{actions_of};
+ghost use Rattle.dae_ir.specs.Code.{Done};
+ghost use Rattle.dae_ir.specs.Streams.{actions_of, step_onto};
+ghost use Rattle.dae_elide.specs.Alike.{first_of, second_of};
 ghost use Rattle.dae_elide.specs.Elided.{as_action, as_actions};
 ghost use Rattle.dae_elide.specs.Walked.{IsLike};
 
@@ -75,4 +77,26 @@ pub fn steps_like(alloc: Global, statements: &[Statement]) -> Result<Vec<Step>, 
         steps.push(step)?;
     }
     Ok(steps)
+}
+
+/// The first list of a step; an empty one where it has no lists.
+pub fn first_list(step: &Step) -> &[Step]
+    ensures { actions_of result.now ≡ first_of (step_onto step.now Done) }
+{
+    match step {
+        Step::If(_, _, first, _) => first.as_slice(),
+        Step::Loop(_, first, _) => first.as_slice(),
+        Step::Act(_, _) => &[],
+    }
+}
+
+/// The second list of a step; an empty one where it has no lists.
+pub fn second_list(step: &Step) -> &[Step]
+    ensures { actions_of result.now ≡ second_of (step_onto step.now Done) }
+{
+    match step {
+        Step::If(_, _, _, second) => second.as_slice(),
+        Step::Loop(_, _, second) => second.as_slice(),
+        Step::Act(_, _) => &[],
+    }
 }

@@ -5,6 +5,7 @@ ghost use Rattle.dae_elide.specs.Forms.{AreElidedFunctions, IsElidedFunction, Is
 
 use crate::checking::checks_no_place;
 use crate::eliding::elide_list;
+use crate::likes::steps_like;
 use dae_base::Items;
 use dae_ir::{Class, Function, Ir};
 use dae_select_facts::unknown;
@@ -19,7 +20,8 @@ fn elide_function(
     ensures { IfOk result (IsElidedFunction memory function) }
 {
     let body = function.body.as_slice();
-    let body = elide_list(alloc, memory, classes, unknown(alloc), body)?;
+    let steps = steps_like(alloc, body)?;
+    let body = elide_list(alloc, memory, classes, unknown(alloc), body, &steps)?;
     Ok(Function {
         name: function.name,
         parameters: function.parameters,

@@ -158,27 +158,29 @@ pub fn variable_set(item: &Item) -> Option<u32> {
     }
 }
 
-/// The variables that statements set get a number.
-#[cycle(stamp)]
-pub fn stamp_list(stamps: &mut Vec<u32>, number: u32, statements: &[Statement]) {
-    for statement in statements {
-        stamp_statement(stamps, number, statement);
+/// A variable gets a number.
+pub fn stamp(stamps: &mut Vec<u32>, number: u32, variable: u32) {
+    if (variable as usize) < stamps.len() {
+        stamps[variable as usize] = number;
     }
 }
 
-#[cycle(stamp)]
-fn stamp_statement(stamps: &mut Vec<u32>, number: u32, statement: &Statement) {
+/// Whether statements hold a loop.
+#[cycle(holds)]
+pub fn holds_loop(statements: &[Statement]) -> bool {
+    for statement in statements {
+        if is_or_holds_loop(statement) {
+            return true;
+        }
+    }
+    false
+}
+
+#[cycle(holds)]
+fn is_or_holds_loop(statement: &Statement) -> bool {
     match statement {
-        Statement::Simple(_, item) => {
-            if let Some(variable) = variable_set(item) {
-                if (variable as usize) < stamps.len() {
-                    stamps[variable as usize] = number;
-                }
-            }
-        }
-        Statement::If(_, _, first, second) | Statement::Loop(_, first, second) => {
-            stamp_list(stamps, number, first);
-            stamp_list(stamps, number, second);
-        }
+        Statement::Simple(_, _) => false,
+        Statement::If(_, _, yes, no) => holds_loop(yes) || holds_loop(no),
+        Statement::Loop(_, _, _) => true,
     }
 }

@@ -3,8 +3,9 @@
 ghost use Rattle.std.specs.Prelude.{◌≡◌, IfOk};
 
 use crate::candidates::{
-    clear_flags, has_flag, no_flags, set_flag, stamp_list, taken_variables, variable_set,
+    clear_flags, has_flag, holds_loop, no_flags, set_flag, stamp, taken_variables, variable_set,
 };
+use crate::events::{Event, Events, add_events, events_in};
 use crate::plan::{HoistPlan, NotHoisted};
 use dae_ir::{Class, Function, Item, Operand, Statement, Test, Value};
 use std::alloc::{AllocError, Global};
@@ -203,59 +204,35 @@ fn look_at_value(
     Ok(())
 }
 
-fn look_at_item(
-    finding: &mut Finding,
-    search: &mut Search,
-    substitutes: &mut Substitutes,
-    item: &Item,
-) -> Result<(), AllocError> {
-    match item {
-        Item::Assign(variable, value) => {
-            look_at_value(finding, search, substitutes, *variable, *value)
-        }
-        Item::Load(variable, _, _) => {
-            forget(substitutes, *variable);
-            Ok(())
-        }
-        Item::Call(variable, _, _) => {
-            forget(substitutes, *variable);
-            Ok(())
-        }
-        _ => Ok(()),
-    }
-}
-
-// The values in a list of a loop. No variable has a substitute at the beginning of a list, nor behind lists in it.
-#[cycle(look)]
-fn look_in_list(
+// The values in the lists of a loop. No variable has a substitute at the beginning of a list, nor behind lists in it.
+fn look_at_events(
     alloc: Global,
     finding: &mut Finding,
     search: &mut Search,
-    statements: &[Statement],
+    events: &[Event],
 ) -> Result<(), AllocError> {
     let mut substitutes = Substitutes {
         list: Vec::new(alloc),
     };
-    for statement in statements {
-        look_in_statement(alloc, finding, search, &mut substitutes, statement)?;
+    for event in events {
+        match event {
+            Event::Assigned(variable, value) => {
+                look_at_value(finding, search, &mut substitutes, *variable, *value)?;
+            }
+            Event::Set(variable) => forget(&mut substitutes, *variable),
+            Event::Parted => substitutes.list.truncate(0),
+        }
     }
     Ok(())
 }
 
-#[cycle(look)]
-fn look_in_statement(
-    alloc: Global,
-    finding: &mut Finding,
-    search: &mut Search,
-    substitutes: &mut Substitutes,
-    statement: &Statement,
-) -> Result<(), AllocError> {
-    match statement {
-        Statement::Simple(_, item) => look_at_item(finding, search, substitutes, item),
-        Statement::If(_, _, first, second) | Statement::Loop(_, first, second) => {
-            substitutes.list.truncate(0);
-            look_in_list(alloc, finding, search, first)?;
-            look_in_list(alloc, finding, search, second)
+// The variables that are set in a loop get its number.
+fn stamp_events(stamps: &mut Vec<u32>, number: u32, events: &[Event]) {
+    for event in events {
+        match event {
+            Event::Assigned(variable, _) => stamp(stamps, number, *variable),
+            Event::Set(variable) => stamp(stamps, number, *variable),
+            Event::Parted => {}
         }
     }
 }
@@ -264,15 +241,14 @@ fn look_in_statement(
 fn find_in_loop(
     alloc: Global,
     finding: &mut Finding,
+    events: &Events,
     held: &[Held],
     free: Vec<u32>,
-    body: &[Statement],
-    step: &[Statement],
 ) -> Result<Vec<Held>, AllocError> {
+    let events = events_in(events, finding.loops as usize);
     let number = finding.loops.wrapping_add(1);
     finding.loops = number;
-    stamp_list(&mut finding.stamps, number, body);
-    stamp_list(&mut finding.stamps, number, step);
+    stamp_events(&mut finding.stamps, number, events);
     let mut around = Vec::new(alloc);
     around.extend_from_slice(held)?;
     let mut search = Search {
@@ -280,8 +256,7 @@ fn find_in_loop(
         free,
         held: around,
     };
-    look_in_list(alloc, finding, &mut search, body)?;
-    look_in_list(alloc, finding, &mut search, step)?;
+    look_at_events(alloc, finding, &mut search, events)?;
     Ok(search.held)
 }
 
@@ -323,6 +298,7 @@ fn pass_item(finding: &mut Finding, passed: &mut Passed, item: &Item) -> Result<
 fn find_in_list(
     alloc: Global,
     finding: &mut Finding,
+    events: &Events,
     held: &[Held],
     statements: &[Statement],
 ) -> Result<(), AllocError> {
@@ -331,7 +307,7 @@ fn find_in_list(
         set: Vec::new(alloc),
     };
     for statement in statements {
-        find_in_statement(alloc, finding, held, &mut passed, statement)?;
+        find_in_statement(alloc, finding, events, held, &mut passed, statement)?;
     }
     clear_flags(&mut finding.set, &passed.set);
     Ok(())
@@ -341,6 +317,7 @@ fn find_in_list(
 fn find_in_statement(
     alloc: Global,
     finding: &mut Finding,
+    events: &Events,
     held: &[Held],
     passed: &mut Passed,
     statement: &Statement,
@@ -349,15 +326,15 @@ fn find_in_statement(
         Statement::Simple(_, item) => pass_item(finding, passed, item),
         Statement::If(_, _, yes, no) => {
             passed.front.truncate(0);
-            find_in_list(alloc, finding, held, yes)?;
-            find_in_list(alloc, finding, held, no)
+            find_in_list(alloc, finding, events, held, yes)?;
+            find_in_list(alloc, finding, events, held, no)
         }
         Statement::Loop(_, body, step) => {
             let free = reversed(alloc, &passed.front)?;
             passed.front.truncate(0);
-            let inside = find_in_loop(alloc, finding, held, free, body, step)?;
-            find_in_list(alloc, finding, &inside, body)?;
-            find_in_list(alloc, finding, &inside, step)
+            let inside = find_in_loop(alloc, finding, events, held, free)?;
+            find_in_list(alloc, finding, events, &inside, body)?;
+            find_in_list(alloc, finding, events, &inside, step)
         }
     }
 }
@@ -401,6 +378,9 @@ pub fn find_invariants(
     ensures variables { IfOk result (λ plan. plan.variables ≡ function.now.variables) }
     ensures row { IfOk result (λ plan. plan.row.items ≡ row.now) }
 {
+    if !holds_loop(function.body.as_slice()) {
+        return Err(NotHoisted::Kept);
+    }
     let mut finding = Finding {
         values: no_values(alloc, function.variables)?,
         classes: copied(alloc, row)?,
@@ -413,7 +393,12 @@ pub fn find_invariants(
     for parameter in 0..function.parameters {
         set_flag(&mut finding.set, parameter.wrapping_add(1));
     }
-    find_in_list(alloc, &mut finding, &[], function.body.as_slice())?;
+    let mut events = Events {
+        events: Vec::new(alloc),
+        loops: Vec::new(alloc),
+    };
+    add_events(&mut events, row, function.body.as_slice())?;
+    find_in_list(alloc, &mut finding, &events, &[], function.body.as_slice())?;
     if !finding.found {
         return Err(NotHoisted::Kept);
     }

@@ -7,6 +7,7 @@ pub use theorems::{forms_are_hoisted, hoisting_keeps_sizes};
 pub use whole::{HoistedForm, hoist_invariants};
 
 mod candidates;
+mod events;
 mod finding;
 mod hoisting;
 mod keeping;

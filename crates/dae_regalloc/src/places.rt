@@ -4,12 +4,15 @@ ghost use Rattle.std.specs.Prelude.{◌≡◌, ◌+◌, ◌^◌, ◌<◌, true, 
 ghost use Rattle.dae_ir.specs.Code.{Done};
 ghost use Rattle.dae_ir.specs.Streams.{actions_of, step_onto};
 ghost use Rattle.dae_select_live.specs.Members.{member};
+ghost use Rattle.dae_select_live.specs.Turns.{told_by, TellsTurns};
 ghost use Rattle.dae_select_walks.specs.Live.{ways, with_all, sets, parameters_of, function_lives};
 ghost use Rattle.dae_regalloc.specs.Seen.{AreSeen, ArePlacesOf, ArePlacesOfStep, can_number, count_places};
 
 use crate::spans::Spans;
 use dae_ir::{Action, Step};
-use dae_select_live::{LiveSet, live_at_turn, live_before_action, live_with_branch, set_by};
+use dae_select_live::{
+    LiveSet, Turns, live_at_turn, live_before_action, live_with_branch, set_by, tell_turns,
+};
 use std::alloc::{AllocError, Global};
 
 /// What is live at the place of an action: what is live before it, and what it sets.
@@ -38,17 +41,19 @@ fn live_at_entry(before: LiveSet, parameters: u32) -> Result<LiveSet, AllocError
 
 #[cycle(places)]
 fn see_step(
-    alloc: Global,
+    turns: &Turns,
     spans: &mut Spans,
     step: &Step,
     next: LiveSet,
     leaves: &LiveSet,
     skips: &LiveSet,
 ) -> Result<LiveSet, AllocError>
-    requires { spans.old.places + count_places (step_onto step.now Done) < 2 ^ 32 }
+    requires room { spans.old.places + count_places (step_onto step.now Done) < 2 ^ 32 }
+    requires told { TellsTurns (told_by turns.now) (step_onto step.now Done) }
     ensures { IfOk result (λ set.
         ArePlacesOfStep step.now spans.old next leaves.now skips.now spans.new set) }
 {
+    let alloc = turns.alloc;
     match step {
         Step::Act(_, action) => {
             let set = live_before_action(alloc, action, next, leaves, skips)?;
@@ -57,16 +62,16 @@ fn see_step(
             Ok(set)
         }
         Step::If(_, branch, p, q) => {
-            let second = see_steps(alloc, spans, q, next.copy(alloc)?, leaves, skips)?;
-            let first = see_steps(alloc, spans, p, next, leaves, skips)?;
+            let second = see_steps(turns, spans, q, next.copy(alloc)?, leaves, skips)?;
+            let first = see_steps(turns, spans, p, next, leaves, skips)?;
             let set = live_with_branch(*branch, first, &second)?;
             spans.see(&set)?;
             Ok(set)
         }
-        Step::Loop(_, body, step) => {
-            let turn = live_at_turn(alloc, body, step, &next)?;
-            let again = see_steps(alloc, spans, step, turn.copy(alloc)?, &next, &turn)?;
-            let set = see_steps(alloc, spans, body, again.copy(alloc)?, &next, &again)?;
+        Step::Loop(mark, body, step) => {
+            let turn = live_at_turn(turns, *mark, body, step, &next)?;
+            let again = see_steps(turns, spans, step, turn.copy(alloc)?, &next, &turn)?;
+            let set = see_steps(turns, spans, body, again.copy(alloc)?, &next, &again)?;
             spans.see(&set)?;
             Ok(set)
         }
@@ -77,21 +82,22 @@ fn see_step(
 /// where a Continue goes; and what is live before it.
 #[cycle(places)]
 fn see_steps(
-    alloc: Global,
+    turns: &Turns,
     spans: &mut Spans,
     steps: &[Step],
     next: LiveSet,
     leaves: &LiveSet,
     skips: &LiveSet,
 ) -> Result<LiveSet, AllocError>
-    requires { spans.old.places + count_places (actions_of steps.now) < 2 ^ 32 }
+    requires room { spans.old.places + count_places (actions_of steps.now) < 2 ^ 32 }
+    requires told { TellsTurns (told_by turns.now) (actions_of steps.now) }
     ensures { IfOk result (λ set.
         ArePlacesOf (actions_of steps.now) (ways (member next) (member leaves.now)
         (member skips.now)) spans.old spans.new set) }
 {
     let mut set = next;
     for index in (0..steps.len()).rev() {
-        set = see_step(alloc, spans, &steps[index], set, leaves, skips)?;
+        set = see_step(turns, spans, &steps[index], set, leaves, skips)?;
     }
     Ok(set)
 }
@@ -102,11 +108,12 @@ pub fn spans_of(alloc: Global, parameters: u32, body: &[Step]) -> Result<Spans, 
     ensures { IfOk result (λ spans.
         AreSeen (function_lives parameters (actions_of body.now)) spans) }
 {
+    let turns = tell_turns(alloc, body)?;
     let mut spans = Spans::new(alloc);
     let leaves = LiveSet::new(alloc);
     let skips = LiveSet::new(alloc);
     let set = see_steps(
-        alloc,
+        &turns,
         &mut spans,
         body,
         LiveSet::new(alloc),

@@ -3,6 +3,7 @@
 ghost use Rattle.std.specs.Prelude.{◌≡◌, length, IfOk, OnOk};
 ghost use Rattle.dae_select_walks.specs.Live.{nowhere};
 ghost use Rattle.dae_select_walks.specs.Facts.{unknown};
+ghost use Rattle.dae_select_live.specs.Turns.{told_by, TellsTurns};
 ghost use Rattle.dae_select_walks.specs.declared.Standing.TheVariants.{Settled as IsSettled};
 ghost use Rattle.dae_ir.specs.Streams.{actions_of};
 ghost use Rattle.dae_select_blocks.specs.Code.{entry_code, function_code};
@@ -19,13 +20,14 @@ use dae_encode::Inst;
 use dae_ir::Step;
 use dae_select_calls::{Layouts, Making, prologue_code};
 use dae_select_facts::unknown;
-use dae_select_live::LiveSet;
+use dae_select_live::{LiveSet, tell_turns};
 use std::alloc::{AllocError, Global};
 
 /// The code of a function's actions.
 fn body_code(code: &mut GrowingCode, making: &Making, body: &[Step]) -> Result<(), AllocError>
     requires sound { IsSound making.now }
     requires empty { code.old ≡ no_code }
+    requires told { TellsTurns (told_by making.now.turns.now) (actions_of body.now) }
     ensures { OnOk result (code.new
         ≡ marked_code (by_jal making.now) (plan_by making.now) (variables_by making.now)
         making.now.function IsSettled unknown (actions_of body.now) nowhere 0 0) }
@@ -71,12 +73,14 @@ pub fn function_code(
         StandWithin (length made.code.items) made.places.items) }
 {
     let homes = layouts.homes(function);
+    let turns = tell_turns(alloc, body)?;
     let making = Making {
         alloc,
         layouts,
         function,
         homes,
         jumps: jumps_in(body),
+        turns: &turns,
     };
     let mut actions = GrowingCode::new(alloc);
     body_code(&mut actions, &making, body)?;

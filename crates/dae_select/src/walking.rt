@@ -1,10 +1,12 @@
 // The code of structured actions, from the last to the first: what a transfer leads over is there before it.
 
 ghost use Rattle.std.specs.Prelude.{◌≡◌, ◌+◌, ◌-◌, ◌++◌, ◌<◌, ◌≤◌, ◌^◌, true, length, drop, ◌&&◌, ◌||◌, if◌then◌else◌, None, Some, is_some, IfOk, OnOk};
-ghost use Rattle.dae_ir.specs.Streams.{actions_of};
+ghost use Rattle.dae_ir.specs.Code.{Done};
+ghost use Rattle.dae_ir.specs.Streams.{actions_of, step_onto};
 ghost use Rattle.dae_select_walks.specs.Facts.{facts_at_turn, facts_at_step};
 ghost use Rattle.dae_select_facts.specs.Knowns.{facts_by};
 ghost use Rattle.dae_select_live.specs.Members.{member};
+ghost use Rattle.dae_select_live.specs.Turns.{told_by, TellsTurns};
 ghost use Rattle.dae_select_blocks.specs.Blocks.{take_code, own_code, jump_over};
 ghost use Rattle.dae_select_blocks.specs.Code.{action_code, block_code, call_code, branch_code, is_dead};
 ghost use Rattle.dae_select_blocks.specs.Code.{does_nothing, past_code, leaves_first};
@@ -517,6 +519,7 @@ fn step_code(
 ) -> Result<LiveSet, AllocError>
     requires sound { IsSound making.now }
     requires taken { IsTakenByStep around.now.after step.now }
+    requires told { TellsTurns (told_by making.now.turns.now) (step_onto step.now Done) }
     ensures { IfOk result (λ set. IsStepBy making.now around.now exits.now step.now code.old next
         code.new set) }
 {
@@ -542,8 +545,8 @@ fn step_code(
             put_branch(code, making, test, p, rest, behind)?;
             live_with_branch(*branch, first, &second)
         }
-        Step::Loop(_, body, step) => {
-            let turn = live_at_turn(making.alloc, body, step, &next)?;
+        Step::Loop(mark, body, step) => {
+            let turn = live_at_turn(making.turns, *mark, body, step, &next)?;
             let test = bottom_of(body, step);
             let words = words_behind(making, test)?;
             let step_exits = exits_of_step(making, &next, &turn, words)?;
@@ -572,7 +575,8 @@ pub fn list_code(
     next: LiveSet,
     exits: &Exits,
 ) -> Result<LiveSet, AllocError>
-    requires { IsSound making.now }
+    requires sound { IsSound making.now }
+    requires told { TellsTurns (told_by making.now.turns.now) (actions_of steps.now) }
     ensures { IfOk result (λ set. IsListBy making.now known exits.now steps.now code.old next
         code.new set) }
 {

@@ -3,3 +3,4 @@ pub mod Laws
 mod Several
 mod Anew
 mod Breaks
+pub mod Telling

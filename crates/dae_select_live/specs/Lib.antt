@@ -1,2 +1,3 @@
 pub mod Members
 pub mod Before
+pub mod Turns

@@ -4,11 +4,13 @@
 #![tactic(auto)]
 
 pub use leaving::only_leaves;
-pub use live::{live_at_turn, live_before, live_before_action, live_with_branch};
+pub use live::{live_before, live_before_action, live_with_branch};
 pub use reads::set_by;
 pub use set::LiveSet;
+pub use turns::{Turns, live_at_turn, tell_turns};
 
 mod leaving;
 mod live;
 mod reads;
 mod set;
+mod turns;

@@ -3,7 +3,7 @@
 ghost use Rattle.std.specs.Prelude.{◌≡◌, IfOk};
 ghost use Rattle.dae_ir.specs.Classes.{VariableSet};
 ghost use Rattle.dae_ir.specs.Streams.{actions_of};
-ghost use Rattle.dae_select_walks.specs.Live.{ways, live, before, after, turn, with_all, decided};
+ghost use Rattle.dae_select_walks.specs.Live.{ways, live, before, after, with_all, decided};
 ghost use Rattle.dae_select_live.specs.Members.{member};
 ghost use Rattle.dae_select_live.specs.Before.{IsLiveBefore};
 
@@ -105,19 +105,4 @@ pub fn live_before(
         set = live_before_step(alloc, &steps[index], set, leaves, skips)?;
     }
     Ok(set)
-}
-
-/// What is live where a loop begins a turn, where `next` is live behind the loop.
-pub fn live_at_turn(
-    alloc: Global,
-    body: &[Step],
-    step: &[Step],
-    next: &LiveSet,
-) -> Result<LiveSet, AllocError>
-    ensures { IfOk result (λ set. member set
-        ≡ turn (actions_of body.now) (actions_of step.now) (member next.now)) }
-{
-    let nothing = LiveSet::new(alloc);
-    let again = live_before(alloc, step, LiveSet::new(alloc), next, &nothing)?;
-    live_before(alloc, body, again.copy(alloc)?, next, &again)
 }

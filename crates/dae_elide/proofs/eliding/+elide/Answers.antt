@@ -1,24 +1,68 @@
-use Rattle.std.proofs.Common.{◌≡◌, List, ap, sym, ◌∙◌, subst}
+use Rattle.std.proofs.Common.{◌≡◌, List, length, ap, sym, ◌∙◌, subst, arith, rules}
 use Rattle.dae_ir.specs.Form.{form_of}
 use Rattle.dae_ir.specs.Streams.{actions_of}
-use Rattle.dae_ir.specs.declared.form.Statement.{Statement}
+use Rattle.dae_ir.specs.declared.form.Statement.{Statement, the_lemmas}
 use Rattle.dae_ir.specs.declared.form.Statement.TheVariants as statement
 use Rattle.dae_ir.specs.declared.stream.Step.{Step}
 use Rattle.dae_select_facts.specs.Knowns.{facts_by}
 use Rattle.dae_elide.specs.Elided.{as_actions, elided}
 use Rattle.dae_elide.specs.Walked.{IsElided, chosen_by}
+use Rattle.dae_elide.proofs.Paired.{as_long, begins_alike, first_like_if, first_like_loop, second_like_if, second_like_loop}
 use Rattle.dae_elide.proofs.Walked.{if_elided, loop_elided, elided_next, elided_end}
 use Rattle.dae_elide.proofs.eliding.+elide.Goals as goal
 
-pub elide_list-loop-statement-preserved : goal.elide_list-loop-statement-preserved
-elide_list-loop-statement-preserved t c =
+pub elide_list-loop-index-preserved : goal.elide_list-loop-index-preserved
+elide_list-loop-index-preserved t c =
     let e = c.in_ok-elided.elided in
-    elided_next c.args.memory (chosen_by c.args.classes.now) (facts_by c.args.known) c.args.statements.now c.loop-statement.statement-index c.statement-item.result e.statement (facts_by c.loop-statement.known) (facts_by e.known) c.loop-statement.new.items c.push.new.self.items
-    c.loop-statement-test.true c.statement-item.is c.in_ok-elided.ensures c.in_ok-push.ensures.items c.loop-statement.invariant
+    let lt = c.loop-index-test.true in
+    elided_next c.args.memory (chosen_by c.args.classes.now) (facts_by c.args.known) c.args.statements.now c.loop-index.index c.index-statements-index.result e.statement (facts_by c.loop-index.known) (facts_by e.known) c.loop-index.new.items c.push.new.self.items
+    (omega arith) c.index-statements-index.is c.in_ok-elided.ensures c.in_ok-push.ensures.items c.loop-index.invariant
 
 pub elide_list-returns : goal.elide_list-returns
 elide_list-returns t c =
-    elided_end c.args.memory (chosen_by c.args.classes.now) (facts_by c.args.known) c.args.statements.now c.loop-statement.statement-index (facts_by c.loop-statement.known) c.loop-statement.new.items c.loop-statement-test.false c.loop-statement.invariant
+    let end = c.loop-index-test.false in
+    elided_end c.args.memory (chosen_by c.args.classes.now) (facts_by c.args.known) c.args.statements.now c.loop-index.index (facts_by c.loop-index.known) c.loop-index.new.items (omega arith) c.loop-index.invariant
+
+-- ---- steps alike
+
+pub elide_list-elide_statement-requires : goal.elide_list-elide_statement-requires
+elide_list-elide_statement-requires t c =
+    let lt = c.loop-index-test.true in let long = c.requires.long in (
+      search (rules, the_lemmas),
+      begins_alike c.args.statements.now c.args.steps.now c.loop-index.index c.index-statements-index.result c.index-steps-index.result (omega arith) c.index-statements-index.is (omega (arith, long)) c.index-steps-index.is c.requires.alike,
+    )
+
+-- like a list of statements, and as long
+both_alike : (ss xs : List Statement) (steps : List Step) → ss ≡ xs → actions_of steps ≡ as_actions (form_of xs) → (actions_of steps ≡ as_actions (form_of ss)) × (length steps ≡ length ss)
+both_alike ss xs steps e h =
+    let alike : actions_of steps ≡ as_actions (form_of ss) = h ∙ ap (λ (l : List Statement). as_actions (form_of l)) (sym e) in
+    (alike, as_long ss steps alike)
+
+pub elide_statement-elide_list-requires : goal.elide_statement-elide_list-requires
+elide_statement-elide_list-requires t c =
+    let w = c.in-If in
+    let both = both_alike c.deref.result.now w.yes.items c.first_list-one.result.now c.deref.ensures.value (c.first_list-one.ensures ∙ first_like_if c.args.statement.now c.args.like.now c.requires w.place w.test w.yes w.no w.is) in
+    (search (rules, the_lemmas), (both.0, both.1))
+
+pub elide_statement-elide_list-requires-in-If : goal.elide_statement-elide_list-requires-in-If
+elide_statement-elide_list-requires-in-If t c =
+    let w = c.in-If in
+    let both = both_alike c.deref-in-If.result.now w.no.items c.second_list-other.result.now c.deref-in-If.ensures.value (c.second_list-other.ensures ∙ second_like_if c.args.statement.now c.args.like.now c.requires w.place w.test w.yes w.no w.is) in
+    (search (rules, the_lemmas), (both.0, both.1))
+
+pub elide_statement-elide_list-requires-in-Loop : goal.elide_statement-elide_list-requires-in-Loop
+elide_statement-elide_list-requires-in-Loop t c =
+    let w = c.in-Loop in
+    let both = both_alike c.deref-in-Loop.result.now w.body.items c.first_list-turn.result.now c.deref-in-Loop.ensures.value (c.first_list-turn.ensures ∙ first_like_loop c.args.statement.now c.args.like.now c.requires w.place w.body w.step w.is) in
+    (search (rules, the_lemmas), (both.0, both.1))
+
+pub elide_statement-elide_list-requires-in-Loop-2 : goal.elide_statement-elide_list-requires-in-Loop-2
+elide_statement-elide_list-requires-in-Loop-2 t c =
+    let w = c.in-Loop in
+    let both = both_alike c.deref-in-Loop-2.result.now w.step.items c.second_list-again.result.now c.deref-in-Loop-2.ensures.value (c.second_list-again.ensures ∙ second_like_loop c.args.statement.now c.args.like.now c.requires w.place w.body w.step w.is) in
+    (search (rules, the_lemmas), (both.0, both.1))
+
+-- ---- what is elided
 
 pub elide_statement-returns-in_ok-past-in-If : goal.elide_statement-returns-in_ok-past-in-If
 elide_statement-returns-in_ok-past-in-If t c =
@@ -31,10 +75,10 @@ elide_statement-returns-in_ok-past-in-If t c =
     let behind = facts_by c.in_ok-past-in-If.past in
     let first = c.in_ok-first-in-If.first in
     let second = c.in_ok-second-in-If.second in
-    let p = c.as_slice.result.now in
-    let q = c.as_slice-in-If.result.now in
-    let one : actions_of p ≡ as_actions (form_of w.yes.items) = ap (λ (xs : List Step). actions_of xs) c.as_slice.ensures.value ∙ c.in_ok-one-in-If.ensures ∙ ap (λ (xs : List Statement). as_actions (form_of xs)) c.deref-in-If-2.ensures.value in
-    let other : actions_of q ≡ as_actions (form_of w.no.items) = ap (λ (xs : List Step). actions_of xs) c.as_slice-in-If.ensures.value ∙ c.in_ok-other-in-If.ensures ∙ ap (λ (xs : List Statement). as_actions (form_of xs)) c.deref-in-If-3.ensures.value in
+    let p = c.first_list-one.result.now in
+    let q = c.second_list-other.result.now in
+    let one : actions_of p ≡ as_actions (form_of w.yes.items) = c.first_list-one.ensures ∙ first_like_if c.args.statement.now c.args.like.now c.requires w.place w.test w.yes w.no w.is in
+    let other : actions_of q ≡ as_actions (form_of w.no.items) = c.second_list-other.ensures ∙ second_like_if c.args.statement.now c.args.like.now c.requires w.place w.test w.yes w.no w.is in
     let f : form_of first.items ≡ elided m chosen in_first (form_of w.yes.items) = c.in_ok-first-in-If.ensures ∙ ap (λ (xs : List Statement). elided m chosen in_first (form_of xs)) c.deref.ensures.value in
     let g : form_of second.items ≡ elided m chosen in_second (form_of w.no.items) = c.in_ok-second-in-If.ensures ∙ ap (λ (xs : List Statement). elided m chosen in_second (form_of xs)) c.deref-in-If.ensures.value in
     subst (λ (s : Statement). IsElided m chosen facts s (statement.If w.place w.test first second) behind) (sym w.is)
@@ -51,11 +95,11 @@ elide_statement-returns-in_ok-second-in-Loop t c =
     let behind = facts_by c.in_ok-past-in-Loop.past in
     let first = c.in_ok-first-in-Loop.first in
     let second = c.in_ok-second-in-Loop.second in
-    let p = c.as_slice-turn.result.now in
-    let q = c.as_slice-again.result.now in
-    let one : actions_of p ≡ as_actions (form_of w.body.items) = ap (λ (xs : List Step). actions_of xs) c.as_slice-turn.ensures.value ∙ c.in_ok-turn-in-Loop.ensures ∙ ap (λ (xs : List Statement). as_actions (form_of xs)) c.deref-in-Loop.ensures.value in
-    let other : actions_of q ≡ as_actions (form_of w.step.items) = ap (λ (xs : List Step). actions_of xs) c.as_slice-again.ensures.value ∙ c.in_ok-again-in-Loop.ensures ∙ ap (λ (xs : List Statement). as_actions (form_of xs)) c.deref-in-Loop-2.ensures.value in
-    let f : form_of first.items ≡ elided m chosen at_turn (form_of w.body.items) = c.in_ok-first-in-Loop.ensures ∙ ap (λ (xs : List Statement). elided m chosen at_turn (form_of xs)) c.deref-in-Loop-3.ensures.value in
-    let g : form_of second.items ≡ elided m chosen at_step (form_of w.step.items) = c.in_ok-second-in-Loop.ensures ∙ ap (λ (xs : List Statement). elided m chosen at_step (form_of xs)) c.deref-in-Loop-4.ensures.value in
+    let p = c.first_list-turn.result.now in
+    let q = c.second_list-again.result.now in
+    let one : actions_of p ≡ as_actions (form_of w.body.items) = c.first_list-turn.ensures ∙ first_like_loop c.args.statement.now c.args.like.now c.requires w.place w.body w.step w.is in
+    let other : actions_of q ≡ as_actions (form_of w.step.items) = c.second_list-again.ensures ∙ second_like_loop c.args.statement.now c.args.like.now c.requires w.place w.body w.step w.is in
+    let f : form_of first.items ≡ elided m chosen at_turn (form_of w.body.items) = c.in_ok-first-in-Loop.ensures ∙ ap (λ (xs : List Statement). elided m chosen at_turn (form_of xs)) c.deref-in-Loop.ensures.value in
+    let g : form_of second.items ≡ elided m chosen at_step (form_of w.step.items) = c.in_ok-second-in-Loop.ensures ∙ ap (λ (xs : List Statement). elided m chosen at_step (form_of xs)) c.deref-in-Loop-2.ensures.value in
     subst (λ (s : Statement). IsElided m chosen facts s (statement.Loop w.place first second) behind) (sym w.is)
     (loop_elided m chosen facts w.place w.body w.step first second p q at_turn at_step behind one other c.in_ok-at_turn-in-Loop.ensures c.in_ok-at_step-in-Loop.ensures c.in_ok-past-in-Loop.ensures f g)

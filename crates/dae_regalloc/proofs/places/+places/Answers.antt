@@ -1,36 +1,45 @@
-use Rattle.std.proofs.Common.{◌≡◌, ℕ, List, refl, ap, ◌∙◌, subst, drop, arith, rules}
+use Rattle.std.proofs.Common.{◌≡◌, ℕ, ◌-◌, List, refl, ap, sym, ◌∙◌, subst, drop, arith, rules}
 use Rattle.dae_ir.specs.Streams.{actions_of}
 use Rattle.dae_ir.specs.declared.stream.Step.{Step, the_lemmas}
 use Rattle.dae_select_walks.specs.Live.{ways, turn}
 use Rattle.dae_regalloc.specs.Seen.{ArePlacesOf}
 use Rattle.dae_select_live.specs.Members.{member}
+use Rattle.dae_select_live.specs.Turns.{key_of, told_by, IsTold, TellsTurns}
+use Rattle.dae_select_live.specs.declared.turns.Turns.{Turns}
+use Rattle.dae_select_live.proofs.Telling.{told_at, told_in_if, told_in_loop}
 use Rattle.dae_regalloc.proofs.PlaceCounts.{if_places, loop_places, room_for_step}
 use Rattle.dae_regalloc.proofs.Placing.{acted, branched, looped, none_placed, one_more, moved}
 use Rattle.dae_regalloc.proofs.places.+places.Goals as goal
 
+-- what is told of the loops of steps is told of those of the same steps
+told_as : (turns : Turns) (xs ys : List Step) → xs ≡ ys → TellsTurns (told_by turns) (actions_of ys) → TellsTurns (told_by turns) (actions_of xs)
+told_as turns xs ys e h = subst (λ (l : List Step). TellsTurns (told_by turns) (actions_of l)) (sym e) h
+
 -- ---- room for the places
 
 pub see_step-see-requires : goal.see_step-see-requires
-see_step-see-requires t c = let room = rw c.in-Act.is at c.requires in omega (arith, room)
+see_step-see-requires t c = let room = rw c.in-Act.is at c.requires.room in omega (arith, room)
 
 pub see_step-see_steps-requires : goal.see_step-see_steps-requires
 see_step-see_steps-requires t c =
     let i = c.in-If in
-    let room = rw i.is at c.requires in let e = if_places i.field-0 i.branch i.p i.q in
-    (search (rules, the_lemmas), rw c.deref.ensures.value (omega (arith, room, e)))
+    let room = rw i.is at c.requires.room in let e = if_places i.field-0 i.branch i.p i.q in
+    let told = told_in_if (told_by c.args.turns.now) c.args.step.now i.field-0 i.branch i.p i.q i.is c.requires.told in
+    (search (rules, the_lemmas), (rw c.deref.ensures.value (omega (arith, room, e)), told_as c.args.turns.now _ _ c.deref.ensures.value told.1))
 
 pub see_step-see_steps-requires-in-If : goal.see_step-see_steps-requires-in-If
 see_step-see_steps-requires-in-If t c =
     let i = c.in-If in
-    let room = rw i.is at c.requires in let e = if_places i.field-0 i.branch i.p i.q in
+    let room = rw i.is at c.requires.room in let e = if_places i.field-0 i.branch i.p i.q in
     let one = rw c.deref.ensures.value at c.in_ok-second-in-If.ensures in
     let more = one.count in
-    (search (rules, the_lemmas), rw c.deref-in-If.ensures.value (omega (arith, room, e, more)))
+    let told = told_in_if (told_by c.args.turns.now) c.args.step.now i.field-0 i.branch i.p i.q i.is c.requires.told in
+    (search (rules, the_lemmas), (rw c.deref-in-If.ensures.value (omega (arith, room, e, more)), told_as c.args.turns.now _ _ c.deref-in-If.ensures.value told.0))
 
 pub see_step-see-requires-in-If : goal.see_step-see-requires-in-If
 see_step-see-requires-in-If t c =
     let i = c.in-If in
-    let room = rw i.is at c.requires in let e = if_places i.field-0 i.branch i.p i.q in
+    let room = rw i.is at c.requires.room in let e = if_places i.field-0 i.branch i.p i.q in
     let one = rw c.deref.ensures.value at c.in_ok-second-in-If.ensures in
     let other = rw c.deref-in-If.ensures.value at c.in_ok-first-in-If.ensures in
     let more = one.count in let further = other.count in
@@ -39,21 +48,23 @@ see_step-see-requires-in-If t c =
 pub see_step-see_steps-requires-in-Loop : goal.see_step-see_steps-requires-in-Loop
 see_step-see_steps-requires-in-Loop t c =
     let i = c.in-Loop in
-    let room = rw i.is at c.requires in let e = loop_places i.field-0 i.body i.step in
-    (search (rules, the_lemmas), rw c.deref-in-Loop-3.ensures.value (omega (arith, room, e)))
+    let room = rw i.is at c.requires.room in let e = loop_places i.mark i.body i.step in
+    let told = told_in_loop (told_by c.args.turns.now) c.args.step.now i.mark i.body i.step i.is c.requires.told in
+    (search (rules, the_lemmas), (rw c.deref-in-Loop-3.ensures.value (omega (arith, room, e)), told_as c.args.turns.now _ _ c.deref-in-Loop-3.ensures.value told.1.1))
 
 pub see_step-see_steps-requires-in-Loop-2 : goal.see_step-see_steps-requires-in-Loop-2
 see_step-see_steps-requires-in-Loop-2 t c =
     let i = c.in-Loop in
-    let room = rw i.is at c.requires in let e = loop_places i.field-0 i.body i.step in
+    let room = rw i.is at c.requires.room in let e = loop_places i.mark i.body i.step in
     let one = rw c.deref-in-Loop-3.ensures.value at c.in_ok-again-in-Loop.ensures in
     let more = one.count in
-    (search (rules, the_lemmas), rw c.deref-in-Loop-4.ensures.value (omega (arith, room, e, more)))
+    let told = told_in_loop (told_by c.args.turns.now) c.args.step.now i.mark i.body i.step i.is c.requires.told in
+    (search (rules, the_lemmas), (rw c.deref-in-Loop-4.ensures.value (omega (arith, room, e, more)), told_as c.args.turns.now _ _ c.deref-in-Loop-4.ensures.value told.1.0))
 
 pub see_step-see-requires-in-Loop : goal.see_step-see-requires-in-Loop
 see_step-see-requires-in-Loop t c =
     let i = c.in-Loop in
-    let room = rw i.is at c.requires in let e = loop_places i.field-0 i.body i.step in
+    let room = rw i.is at c.requires.room in let e = loop_places i.mark i.body i.step in
     let one = rw c.deref-in-Loop-3.ensures.value at c.in_ok-again-in-Loop.ensures in
     let other = rw c.deref-in-Loop-4.ensures.value at c.in_ok-set-in-Loop.ensures in
     let more = one.count in let further = other.count in
@@ -65,8 +76,20 @@ see_steps-see_step-requires t c =
     let le = c.loop-index.auto.index in
     let so_far = c.loop-index.invariant in (
       search (rules, the_lemmas),
-      room_for_step c.args.steps.now c.loop-index.index c.index-steps-index.result c.args.spans.now.places c.loop-index.spans.places (omega arith) (omega arith) c.index-steps-index.is so_far.count c.requires,
+      (
+        room_for_step c.args.steps.now c.loop-index.index c.index-steps-index.result c.args.spans.now.places c.loop-index.spans.places (omega arith) (omega arith) c.index-steps-index.is so_far.count c.requires.room,
+        told_at (told_by c.args.turns.now) c.args.steps.now (c.loop-index.index - 1) c.index-steps-index.result (omega arith) c.index-steps-index.is c.requires.told,
+      ),
     )
+
+-- ---- what is told of loops
+
+pub see_step-live_at_turn-requires : goal.see_step-live_at_turn-requires
+see_step-live_at_turn-requires t c =
+    let i = c.in-Loop in let row = told_by c.args.turns.now (key_of i.mark) in
+    let told = told_in_loop (told_by c.args.turns.now) c.args.step.now i.mark i.body i.step i.is c.requires.told in
+    let body = subst (λ (l : List Step). IsTold (actions_of l) (actions_of i.step.items) row) (sym c.deref-in-Loop.ensures.value) told.0 in
+    subst (λ (l : List Step). IsTold (actions_of c.deref-in-Loop.result.now) (actions_of l) row) (sym c.deref-in-Loop-2.ensures.value) body
 
 -- ---- what is seen
 
@@ -94,7 +117,7 @@ see_step-returns-in_ok-see-in-Loop t c =
     ∙ ap (λ (l : List Step). turn (actions_of i.body.items) (actions_of l) (member a.next)) c.deref-in-Loop-2.ensures.value in
     let step = moved c.in_ok-copy-in-Loop.field-0 turned a.next a.next turned turned c.deref-in-Loop-3.result.now i.step.items a.spans.now mid again c.in_ok-copy-in-Loop.ensures refl refl c.deref-in-Loop-3.ensures.value c.in_ok-again-in-Loop.ensures in
     let body = moved c.in_ok-copy-in-Loop-2.field-0 again a.next a.next again again c.deref-in-Loop-4.result.now i.body.items mid last set c.in_ok-copy-in-Loop-2.ensures refl refl c.deref-in-Loop-4.ensures.value c.in_ok-set-in-Loop.ensures in
-    looped a.step.now i.field-0 i.body i.step a.leaves.now a.skips.now a.next a.spans.now mid last c.see-in-Loop.new.self turned again set i.is first step body c.in_ok-see-in-Loop.ensures.seen c.in_ok-see-in-Loop.ensures.count
+    looped a.step.now i.mark i.body i.step a.leaves.now a.skips.now a.next a.spans.now mid last c.see-in-Loop.new.self turned again set i.is first step body c.in_ok-see-in-Loop.ensures.seen c.in_ok-see-in-Loop.ensures.count
 
 pub see_steps-loop-index-init : goal.see_steps-loop-index-init
 see_steps-loop-index-init t c =

@@ -4,8 +4,11 @@ use Rattle.dae_ir.specs.Streams.{actions_of}
 use Rattle.dae_regalloc.proofs.Placing.{whole_placed}
 use Rattle.dae_regalloc.proofs.places.spans_of.Goals as goal
 
-pub see_steps-requires : goal.see_steps-requires
-see_steps-requires c = let none = c.new-spans.ensures in let first = none.count in let few = c.requires in grind (arith, nat_tests)
+pub see_steps-requires-clause-room : goal.see_steps-requires-clause-room
+see_steps-requires-clause-room c = let none = c.new-spans.ensures in let first = none.count in let few = c.requires in grind (arith, nat_tests)
+
+pub see_steps-requires-clause-told : goal.see_steps-requires-clause-told
+see_steps-requires-clause-told c = c.in_ok-turns.ensures
 
 pub see-requires : goal.see-requires
 see-requires c =
