@@ -125,7 +125,7 @@ impl Graph {
 fn new_row(alloc: Global, variables: u32) -> Result<Vec<Vertex>, AllocError>
     ensures { IfOk result (λ row. IsNewRow variables row.items) }
 {
-    let mut row = Vec::new(alloc);
+    let mut row = Vec::with_capacity(alloc, variables as usize)?;
     for _ in 0..variables {
         row.push(Vertex {
             needed: false,
