@@ -1,7 +1,8 @@
-//! Calls of the program over texts in memory, for its tests.
+//! Calls of the program over texts in memory.
 
+use crate::parts::told;
 use dae_cli_command::dae_main;
-use dae_io::{MemShelf, MemSink};
+use dae_io::{FailingCall, MemShelf, MemSink};
 use std::alloc::{AllocError, Global};
 use std::process::Abort;
 
@@ -21,7 +22,7 @@ pub fn schedules() -> &'static [&'static str] {
 }
 
 /// The words of a line, which have blanks between them.
-pub fn words_in(alloc: Global, line: &str) -> Result<Vec<String>, AllocError> {
+fn words_in(alloc: Global, line: &str) -> Result<Vec<String>, AllocError> {
     let mut words = Vec::new(alloc);
     for word in line.split(' ') {
         if !word.is_empty() {
@@ -31,17 +32,47 @@ pub fn words_in(alloc: Global, line: &str) -> Result<Vec<String>, AllocError> {
     Ok(words)
 }
 
-/// A shelf that holds no file.
-pub fn empty_shelf(alloc: Global) -> Result<Box<MemShelf>, AllocError> {
-    let shelf = MemShelf::new(alloc, &[])?;
+/// The bytes that a text spells in hexadecimal.
+pub fn bytes_of(alloc: Global, hexadecimal: &str) -> Result<Vec<u8>, AllocError> {
+    match hex::decode(alloc, hexadecimal) {
+        Ok(bytes) => Ok(bytes),
+        Err(_) => Ok(Vec::new(alloc)),
+    }
+}
+
+/// The call with this number, from 1 on, which takes one byte and fails; 0 is none.
+fn failing_at(number: u64) -> FailingCall {
+    FailingCall {
+        call: number,
+        taken: 1,
+    }
+}
+
+/// An empty shelf of which the call with this number fails.
+pub fn empty_shelf(alloc: Global, fails: u64) -> Result<Box<MemShelf>, AllocError> {
+    let shelf = MemShelf::new(alloc, &[failing_at(fails)])?;
     Ok(Box::new(alloc, shelf)?)
 }
 
 /// A shelf that holds one file.
 pub fn shelf_of(alloc: Global, name: &str, text: &[u8]) -> Result<Box<MemShelf>, AllocError> {
-    let mut shelf = empty_shelf(alloc)?;
+    let mut shelf = empty_shelf(alloc, 0)?;
     shelf.hold(alloc, name, text)?;
     Ok(shelf)
+}
+
+/// Puts what a part tells on the shelf, if it has a name.
+pub fn hold_text(
+    alloc: Global,
+    shelf: &mut MemShelf,
+    name: &str,
+    part: &str,
+) -> Result<(), AllocError> {
+    if name.is_empty() {
+        return Ok(());
+    }
+    let text = told(alloc, part)?;
+    shelf.hold(alloc, name, text.as_slice())
 }
 
 /// What a call answers.
@@ -69,22 +100,23 @@ impl Answer {
     }
 }
 
-/// The answer before a call.
-fn unanswered(alloc: Global) -> Result<Box<Answer>, AllocError> {
-    let out = MemSink::with_room(alloc, 65_536, &[])?;
-    let note = MemSink::with_room(alloc, 65_536, &[])?;
+/// The answer before a call, where the puts with these numbers fail.
+fn unanswered(alloc: Global, on_out: u64, on_note: u64) -> Result<Box<Answer>, AllocError> {
+    let out = MemSink::with_room(alloc, 65_536, &[failing_at(on_out)])?;
+    let note = MemSink::with_room(alloc, 65_536, &[failing_at(on_note)])?;
     let status = 255;
     Ok(Box::new(alloc, Answer { status, out, note })?)
 }
 
-/// What is answered for the words of a line.
+/// What is answered for the words of a line, where the puts with these numbers fail, on out and on note.
 pub fn answer_over(
     alloc: Global,
     line: &str,
     shelf: &mut MemShelf,
+    (on_out, on_note): (u64, u64),
 ) -> Result<Box<Answer>, AllocError> {
     let words = words_in(alloc, line)?;
-    let mut answer = unanswered(alloc)?;
+    let mut answer = unanswered(alloc, on_out, on_note)?;
     answer.make(alloc, words.as_slice(), shelf);
     Ok(answer)
 }
@@ -97,10 +129,9 @@ pub fn check_answer(
     shelf: &mut MemShelf,
     due: (u8, &[u8], &[u8]),
 ) -> Result<(), AllocError> {
-    let answer = answer_over(alloc, line, shelf)?;
-    assert_eq!(rt; answer.status, due.0, "{line}");
-    assert_eq!(rt; answer.put(), due.1, "{line}");
-    assert_eq!(rt; answer.noted(), due.2, "{line}");
+    let answer = answer_over(alloc, line, shelf, (0, 0))?;
+    let is_due = (answer.status, answer.put(), answer.noted()) == due;
+    assert!(rt; is_due, "{line}");
     Ok(())
 }
 
@@ -112,11 +143,10 @@ pub fn check_lines(
     shelf: &mut MemShelf,
     due: (u8, &[u8], &[u8]),
 ) -> Result<(), AllocError> {
-    let answer = answer_over(alloc, line, shelf)?;
+    let answer = answer_over(alloc, line, shelf, (0, 0))?;
     let lines = lines_of(alloc, answer.noted())?;
-    assert_eq!(rt; answer.status, due.0, "{line}");
-    assert_eq!(rt; answer.put(), due.1, "{line}");
-    assert_eq!(rt; lines.as_slice(), due.2, "{line}");
+    let is_due = (answer.status, answer.put(), lines.as_slice()) == due;
+    assert!(rt; is_due, "{line}");
     Ok(())
 }
 

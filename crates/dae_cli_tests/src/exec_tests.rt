@@ -1,7 +1,8 @@
 //! The run of images: worked images under every schedule, damaged ones, and random ones.
 
-use crate::calls::{check_answer, schedules, shelf_of};
+use crate::calls::{bytes_of, check_answer, schedules, shelf_of};
 use crate::images::IMAGES;
+use crate::parts::{number_in, part, status_in, told};
 use dae_io::MemShelf;
 use std::alloc::{AllocError, Global};
 use std::process::Abort;
@@ -23,32 +24,13 @@ const COPIES: &[u8] =
     b"DAE1\x02\0\0\0\0\0\0\0\0\0\0\0\0\0\0\0\0\0\0\0\0\0\0\0\0\0\0\0\x01\0\0\0@\0\0\0\x01\0\0\0\0\0\0\0\0\0\0\0\0\0\0\0\0\0\0\0\x02\0\0\0\x02\0\0\0\0\0\0\0\0\0\0\0\0\0\0\0\x13\x0e\x90\0s\0\0\0\x13\x05\x0e\0s\0\0\0";
 
 /// The image with this name in the tables.
-fn image_named(name: &str) -> &'static [u8] {
+fn bytes_named(name: &str) -> &'static [u8] {
     match name {
         "halts" => HALTS,
         "beside" => STORES_BESIDE,
         "there" => STORES_THERE,
         _ => COPIES,
     }
-}
-
-/// The part of a row at this place, or nothing.
-fn part(row: &str, at: usize) -> &str {
-    row.split('|').nth(at).unwrap_or("")
-}
-
-/// What a part notes, with ` for each line feed.
-fn noted(alloc: Global, part: &str) -> Result<Vec<u8>, AllocError> {
-    let mut note = Vec::new(alloc);
-    add_note(&mut note, part)?;
-    Ok(note)
-}
-
-fn add_note(note: &mut Vec<u8>, part: &str) -> Result<(), AllocError> {
-    for byte in part.as_bytes() {
-        note.push(if *byte == b'`' { b'\n' } else { *byte })?;
-    }
-    Ok(())
 }
 
 /// What is answered for the image on the shelf under a schedule, with options behind it.
@@ -87,10 +69,9 @@ fn check_schedules(
 }
 
 fn check_worked(rt: &impl Abort, alloc: Global, row: &str) -> Result<(), AllocError> {
-    let mut shelf = shelf_of(alloc, "p", image_named(part(row, 0)))?;
-    let note = noted(alloc, part(row, 3))?;
-    let status = part(row, 2).parse::<u8>().unwrap_or(255);
-    let due: (u8, &[u8], &[u8]) = (status, b"", note.as_slice());
+    let mut shelf = shelf_of(alloc, "p", bytes_named(part(row, 0)))?;
+    let note = told(alloc, part(row, 3))?;
+    let due: (u8, &[u8], &[u8]) = (status_in(row, 2), b"", note.as_slice());
     check_schedules(rt, alloc, &mut shelf, part(row, 1), due)
 }
 
@@ -145,8 +126,8 @@ fn put_number(bytes: &mut [u8], at: usize, number: u32) {
 
 /// The image of a row with its number put in its place.
 fn changed(alloc: Global, row: &str) -> Result<Vec<u8>, AllocError> {
-    let mut bytes = Vec::from_slice(alloc, image_named(part(row, 0)))?;
-    let at = part(row, 1).parse::<usize>().unwrap_or(0);
+    let mut bytes = Vec::from_slice(alloc, bytes_named(part(row, 0)))?;
+    let at = number_in(row, 1);
     let number = part(row, 2).parse::<u32>().unwrap_or(0);
     put_number(bytes.as_mut_slice(), at, number);
     Ok(bytes)
@@ -154,9 +135,14 @@ fn changed(alloc: Global, row: &str) -> Result<Vec<u8>, AllocError> {
 
 fn check_changed(rt: &impl Abort, alloc: Global, row: &str) -> Result<(), AllocError> {
     let bytes = changed(alloc, row)?;
-    let note = noted(alloc, part(row, 4))?;
-    let status = part(row, 3).parse::<u8>().unwrap_or(255);
-    check_bytes(rt, alloc, bytes.as_slice(), status, note.as_slice())
+    let note = told(alloc, part(row, 4))?;
+    check_bytes(
+        rt,
+        alloc,
+        bytes.as_slice(),
+        status_in(row, 3),
+        note.as_slice(),
+    )
 }
 
 fn check_all_changed(rt: &impl Abort, alloc: Global, rows: &str) -> Result<(), AllocError> {
@@ -236,14 +222,6 @@ fn images_of_other_lengths_are_refused(rt: HostRuntime) -> Result<(), AllocError
     check_longer(&rt, rt.alloc(), COPIES, 96)
 }
 
-/// The bytes that a text spells in hexadecimal.
-fn decoded(rt: &impl Abort, alloc: Global, text: &str) -> Vec<u8> {
-    match hex::decode(alloc, text) {
-        Ok(bytes) => bytes,
-        Err(_) => panic!(rt; "{text}"),
-    }
-}
-
 /// The answer of a line for this schedule, or else for all: a status, the output and the note.
 fn answer_in(line: &str, at: usize) -> &str {
     match line.split(';').nth(at) {
@@ -262,8 +240,8 @@ fn check_told(
 ) -> Result<(), AllocError> {
     let mut parts = answer.split(' ');
     let status = parts.next().unwrap_or("").parse::<u8>().unwrap_or(255);
-    let out = decoded(rt, alloc, parts.next().unwrap_or(""));
-    let note = decoded(rt, alloc, parts.next().unwrap_or(""));
+    let out = bytes_of(alloc, parts.next().unwrap_or(""))?;
+    let note = bytes_of(alloc, parts.next().unwrap_or(""))?;
     check_exec(
         rt,
         alloc,
@@ -290,7 +268,7 @@ fn check_image(
 fn check_line(rt: &impl Abort, alloc: Global, line: &str) -> Result<(), AllocError> {
     let head = line.split(';').next().unwrap_or("");
     let (image, options) = head.split_once(' ').unwrap_or((head, ""));
-    let bytes = decoded(rt, alloc, image);
+    let bytes = bytes_of(alloc, image)?;
     let mut shelf = shelf_of(alloc, "p", bytes.as_slice())?;
     check_image(rt, alloc, &mut shelf, options, line)
 }

@@ -1,66 +1,19 @@
 //! Rows of words and texts, with the status, the output and the lines that are due.
 
-use crate::calls::{answer_over, check_answer, check_lines, empty_shelf, schedules, shelf_of};
+use crate::calls::{
+    answer_over, check_answer, check_lines, empty_shelf, hold_text, schedules, shelf_of,
+};
+use crate::parts::{add, part, status_in, told};
 use crate::rows::{FILES, LONG, ROWS, TWICE};
 use dae_io::MemShelf;
 use std::alloc::{AllocError, Global};
 use std::process::Abort;
 
-/// The part of a row at this place, or nothing.
-fn part(row: &str, at: usize) -> &str {
-    row.split('|').nth(at).unwrap_or("")
-}
-
-/// The number that a part spells.
-fn status_in(row: &str, at: usize) -> u8 {
-    part(row, at).parse::<u8>().unwrap_or(255)
-}
-
-/// The byte that one of a part stands for.
-fn spelled(byte: u8) -> u8 {
-    match byte {
-        b'`' => b'\n',
-        b'~' => b'\r',
-        b'$' => b'\t',
-        b'^' => 255,
-        _ => byte,
-    }
-}
-
-/// Adds what a part tells.
-fn add(text: &mut Vec<u8>, part: &str) -> Result<(), AllocError> {
-    for byte in part.as_bytes() {
-        text.push(spelled(*byte))?;
-    }
-    Ok(())
-}
-
-/// What a part tells.
-fn told(alloc: Global, part: &str) -> Result<Vec<u8>, AllocError> {
-    let mut text = Vec::new(alloc);
-    add(&mut text, part)?;
-    Ok(text)
-}
-
-/// Puts a file on the shelf, if it has a name.
-fn hold_file(
-    alloc: Global,
-    shelf: &mut MemShelf,
-    name: &str,
-    part: &str,
-) -> Result<(), AllocError> {
-    if name.is_empty() {
-        return Ok(());
-    }
-    let text = told(alloc, part)?;
-    shelf.hold(alloc, name, text.as_slice())
-}
-
 /// A shelf with a row's files, two at most.
 fn row_shelf(alloc: Global, row: &str) -> Result<Box<MemShelf>, AllocError> {
-    let mut shelf = empty_shelf(alloc)?;
-    hold_file(alloc, &mut shelf, part(row, 4), part(row, 5))?;
-    hold_file(alloc, &mut shelf, part(row, 6), part(row, 7))?;
+    let mut shelf = empty_shelf(alloc, 0)?;
+    hold_text(alloc, &mut shelf, part(row, 4), part(row, 5))?;
+    hold_text(alloc, &mut shelf, part(row, 6), part(row, 7))?;
     Ok(shelf)
 }
 
@@ -72,10 +25,12 @@ fn check_put(
     words: &str,
     shelf: &mut MemShelf,
 ) -> Result<(), AllocError> {
-    let answer = answer_over(alloc, words, shelf)?;
+    let answer = answer_over(alloc, words, shelf, (0, 0))?;
     let out = told(alloc, part(row, 2))?;
-    assert_eq!(rt; answer.status, status_in(row, 1), "{row}");
-    assert_eq!(rt; answer.put(), out.as_slice(), "{row}");
+    assert!(rt;
+        answer.status == status_in(row, 1) && answer.put() == out.as_slice(),
+        "{row}"
+    );
     Ok(())
 }
 
@@ -111,11 +66,7 @@ fn check_rows(rt: &impl Abort, alloc: Global, rows: &str) -> Result<(), AllocErr
 
 #[test]
 fn each_row_is_answered(rt: HostRuntime) -> Result<(), AllocError> {
-    check_rows(&rt, rt.alloc(), ROWS)
-}
-
-#[test]
-fn each_file_is_run(rt: HostRuntime) -> Result<(), AllocError> {
+    check_rows(&rt, rt.alloc(), ROWS)?;
     check_rows(&rt, rt.alloc(), FILES)
 }
 
@@ -205,13 +156,10 @@ fn check_long_rows(
     Ok(())
 }
 
+/// Each long text is answered, and files share one room.
 #[test]
 fn each_long_text_is_answered(rt: HostRuntime) -> Result<(), AllocError> {
-    check_long_rows(&rt, rt.alloc(), "run a.c", LONG)
-}
-
-#[test]
-fn files_share_one_room(rt: HostRuntime) -> Result<(), AllocError> {
+    check_long_rows(&rt, rt.alloc(), "run a.c", LONG)?;
     check_long_rows(&rt, rt.alloc(), "run a.c a.c", TWICE)
 }
 
@@ -259,12 +207,9 @@ const PRINTS: &[u8] =
 
 /// A run of the file and one of its image are answered alike.
 fn check_both(rt: &impl Abort, alloc: Global, shelf: &mut MemShelf) -> Result<(), AllocError> {
-    let run = answer_over(alloc, "run a.c", shelf)?;
-    let exec = answer_over(alloc, "exec p", shelf)?;
-    assert_eq!(rt; run.status, exec.status);
-    assert_eq!(rt; run.put(), exec.put());
-    assert_eq!(rt; run.noted(), exec.noted());
-    Ok(())
+    let run = answer_over(alloc, "run a.c", shelf, (0, 0))?;
+    let due = (run.status, run.put(), run.noted());
+    check_answer(rt, alloc, "exec p", shelf, due)
 }
 
 #[test]

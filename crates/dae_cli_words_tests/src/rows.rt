@@ -129,4 +129,35 @@ big +8|
 big a.c|
 big 3 4|
 big --to=x 3|
-big|"#;
+big|
+exec -p|
+exec --ld=2|
+exec p --ld=2|
+exec --ld p|
+exec --ld=0 p|
+exec --ld=08 p|
+exec --ld=+2 p|
+exec --ld=4097 p|
+exec --ld=2 --ld=2 p|
+exec --steps=1000000000001 p|
+exec --show=16 p|
+exec --show=16,65 p|
+exec --show=16,1,1 p|
+exec --schedule=seed: p|
+exec --schedule=seed:4294967296 p|
+exec --to=x p|
+run --to=x p|
+run --memory=63 p|
+run --memory=72 p|
+run --memory=67108880 p|
+run --calls=0 p|
+run --cap=65 p|
+run p --cap=4|
+runs p|
+compile p|
+compile --to=x --to=x p|
+compile --to=-x p|
+compile --to=x --ld=2 p|
+run --cap=64 --ld=2 --calls=4096 --memory=64 p|run 2,8,8,8,8,8,8 round 10000000 - 64,4096,64 p
+exec --steps=1000000000000 --schedule=seed:1 --show=0,64 --cq=1 p|exec 8,8,8,8,8,8,1 seed:1 1000000000000 Shown { address: 0, count: 64 } p
+compile --calls=7 --to=x=y --cap=64 p q|compile 1048576,7,64 x=y p q"#;

@@ -1,9 +1,9 @@
-//! Certificates: texts, and how many nodes another program of the same rules found in each, or which line was bad.
+//! Certificates: how many nodes a text has, and what it tells of a register.
 
 use dae_certificate::{CertificateError, Known, read};
 use dae_ranges::Range;
-use std::alloc::Global;
-use std::test::*;
+use dae_rows::{number, part, told};
+use std::alloc::{AllocError, Global};
 
 /// How many nodes the text has, or its bad line, from 1 on.
 fn nodes(alloc: Global, text: &[u8]) -> Result<usize, u32> {
@@ -17,68 +17,26 @@ fn nodes(alloc: Global, text: &[u8]) -> Result<usize, u32> {
     }
 }
 
-#[test]
-fn reads_lines(rt: HostRuntime) {
-    let table = [
-        (b"".as_slice(), Ok(0)),
-        (b"node 8 0\ne 17 0 0 1\n".as_slice(), Ok(1)),
-        (b"node 8 0\ne 17 0 0 1".as_slice(), Ok(1)),
-        (b"\n".as_slice(), Err(1)),
-        (b"node halted halted\n".as_slice(), Ok(1)),
-        (
-            b"node 0 4294967295\na 1 0 4294967295 1\ne 27 0 12 4\n".as_slice(),
-            Ok(1),
-        ),
-        (b"node 0 4294967296\n".as_slice(), Err(1)),
-        (b"node 00 0\n".as_slice(), Err(1)),
-        (b"node 0 0\na 0 0 0 1\n".as_slice(), Err(2)),
-        (b"node 0 0\na 28 0 0 1\n".as_slice(), Err(2)),
-        (b"node 0 0\na 5 8 4 4\n".as_slice(), Err(2)),
-        (b"node 0 0\na 5 4 10 4\n".as_slice(), Err(2)),
-        (b"node 0 0\na 5 4 12 0\n".as_slice(), Err(2)),
-        (b"node 0 0\na 5 7 7 4294967295\n".as_slice(), Ok(1)),
-        (b"a 5 7 7 1\n".as_slice(), Err(1)),
-        (
-            b"node 0 0\na 5 7 7 1\ne 5 7 7 1\na 5 8 8 1\n".as_slice(),
-            Err(4),
-        ),
-        (
-            b"node 0 0\na 5 7 7 1\nnode 4 4\na 5 7 7 1\n".as_slice(),
-            Ok(2),
-        ),
-        (b"node 0  0\n".as_slice(), Err(1)),
-        (b"node 0 0 \n".as_slice(), Err(1)),
-        (b" node 0 0\n".as_slice(), Err(1)),
-        (b"node 0 0\r\n".as_slice(), Err(1)),
-        (b"node 0 0\n\nnode 0 0\n".as_slice(), Err(2)),
-        (b"node 0\n".as_slice(), Err(1)),
-        (b"node 0 0 0\n".as_slice(), Err(1)),
-        (b"node +1 0\n".as_slice(), Err(1)),
-        (b"a 1 2 3\n".as_slice(), Err(1)),
-        (b"node 0 0\ne 17 0 0 1 1\n".as_slice(), Err(2)),
-        (b"node 0 Halted\n".as_slice(), Err(1)),
-        (b"node 0 0\nb 1 0 0 1\n".as_slice(), Err(2)),
-        (b"node 0 \xc3\xa9\n".as_slice(), Err(1)),
-        (b"node 0 99999999999999999999999\n".as_slice(), Err(1)),
-    ];
-    for (text, wanted) in table {
-        assert_eq!(rt; nodes(rt.alloc(), text), wanted, "{text:?}");
-    }
+/// What a row's text is read as.
+pub fn read_of(alloc: Global, row: &str) -> Result<String, AllocError> {
+    let text = told(alloc, part(row, 2))?;
+    let found = nodes(alloc, text.as_slice());
+    format!(in alloc; "{found:?}")
 }
 
-#[test]
-fn takes_64_nodes(rt: HostRuntime) -> Result<(), Fail> {
-    let mut text = Vec::new(rt.alloc());
-    for count in 1..=65u32 {
+fn add_nodes(text: &mut Vec<u8>, count: u32) -> Result<(), AllocError> {
+    for _ in 0..count {
         text.extend_from_slice(b"node 0 0\n")?;
-        let wanted = if count <= 64 {
-            Ok(count as usize)
-        } else {
-            Err(65)
-        };
-        assert_eq!(rt; nodes(rt.alloc(), &text), wanted);
     }
     Ok(())
+}
+
+/// What a text of as many nodes is read as.
+pub fn many_read(alloc: Global, row: &str) -> Result<String, AllocError> {
+    let mut text = Vec::new(alloc);
+    add_nodes(&mut text, number(part(row, 2)))?;
+    let found = nodes(alloc, text.as_slice());
+    format!(in alloc; "{found:?}")
 }
 
 /// The range of register 17 of E in the first node.
@@ -86,22 +44,18 @@ fn first_of_17(nodes: &[Known]) -> Option<Range> {
     nodes.first()?.e.registers.as_slice().get(17).copied()
 }
 
-#[test]
-fn keeps_ranges(rt: HostRuntime) {
-    let table = [
-        (b"node 8 0\ne 17 0 0 1\n".as_slice(), 0, 0, 1),
-        (b"node 8 0\ne 17 4 24 5\n".as_slice(), 4, 4, 5),
-        (b"node 8 0\na 17 4 24 5\n".as_slice(), 0, u32::MAX, 1),
-        (
-            b"node 8 0\nnode 4 4\ne 17 4 24 5\n".as_slice(),
-            0,
-            u32::MAX,
-            1,
-        ),
-    ];
-    for (text, lo, count, step) in table {
-        let nodes = read(rt.alloc(), text);
-        let found = nodes.ok().and_then(|nodes| first_of_17(nodes.as_slice()));
-        assert_eq!(rt; found, Some(Range { lo, step, count }), "{text:?}");
+/// The same of a text.
+fn range_of_17(alloc: Global, text: &[u8]) -> Option<Range> {
+    if text.len() > 1_048_576 {
+        return None;
     }
+    let nodes = read(alloc, text).ok()?;
+    first_of_17(nodes.as_slice())
+}
+
+/// What a row's text tells of that register.
+pub fn told_of(alloc: Global, row: &str) -> Result<String, AllocError> {
+    let text = told(alloc, part(row, 2))?;
+    let found = range_of_17(alloc, text.as_slice());
+    format!(in alloc; "{found:?}")
 }

@@ -1,10 +1,14 @@
-// Tests of dae_ranges, dae_certificate and dae_guard_walk: tables that another program of the same rules worked out. They stand
-// here, so that the crates that they try are proved once.
+// Tests of dae_ranges, dae_certificate and dae_guard_walk: ranges, certificates, and what the guard says of pairs of codes. Each row of the
+// tables is answered by a text.
 #![tactic(auto)]
 
+#[cfg(test)]
+mod answers;
 #[cfg(test)]
 mod certificate;
 #[cfg(test)]
 mod guards;
 #[cfg(test)]
 mod ranges;
+#[cfg(test)]
+mod rows;

@@ -1,6 +1,6 @@
 -- Each variable is set before it is read, whichever way the code takes. What a loop sets doesn't count behind it, since it
 -- may be left before.
-use Rattle.std.specs.Prelude.{◌≡◌, ℕ, true, ◌&&◌, ◌||◌, nat_eq, nat_lt, nat_le, List, [], ◌∷◌, Option, Some, None}
+use Rattle.std.specs.Prelude.{◌≡◌, ℕ, true, ◌&&◌, List, [], ◌∷◌, Option, Some, None}
 use Rattle.dae_ir.specs.Code.{Code, Done, Do, If, Loop}
 use Rattle.dae_ir.specs.Form.{form_of}
 use Rattle.dae_ir.specs.Classes.{VariableSet, has, has_value, has_test, has_check}

@@ -1,24 +1,20 @@
 -- The marks of all functions are sets that the form keeps, so its least sets are within them.
-use Rattle.std.proofs.Common.{◌≡◌, ℕ, ◌+◌, ◌<◌, ◌≤◌, ◌%◌, Bool, true, false, not, ◌&&◌, nat_eq, if◌then◌else◌, List, length, Option, Some, None, refl, ap, sym, ◌∙◌, subst, arith}
+use Rattle.std.proofs.Common.{◌≡◌, ℕ, ◌+◌, ◌<◌, ◌≤◌, ◌%◌, Bool, true, false, not, ◌&&◌, nat_eq, if◌then◌else◌, length, Option, Some, None, refl, ap, sym, ◌∙◌, subst, arith}
 use Rattle.std.specs.Prelude.{slice_get, nat_le}
 use Rattle.std.specs.List.{list_all, AllByRecursion}
-use Rattle.std.proofs.lemmas.Bool.{and_from, eqb-true, leb-true}
+use Rattle.std.proofs.lemmas.Bool.{eqb-true, leb-true}
 use Rattle.std.proofs.lemmas.Option.{same_Some}
 use Rattle.dae_base.specs.declared.Place.{Place}
 use Rattle.dae_base.proofs.Laws.{and_first, and_second, all_at}
-use Rattle.dae_ir.specs.Code.{Done, Do, If, Loop, Each}
+use Rattle.dae_ir.specs.Code.{Each}
 use Rattle.dae_ir.specs.Form.{Form, form_of}
-use Rattle.dae_ir.specs.Classes.{VariableSet, IsWithin, AddressesKept, has, has_test, is_by_a, classes_of}
-use Rattle.dae_ir.specs.Programs.{body_in, AreClassesOf}
-use Rattle.dae_ir.specs.Sizes.{bit, is_load_into, own_loads, conditions_a}
+use Rattle.dae_ir.specs.Classes.{VariableSet, AddressesKept}
+use Rattle.dae_ir.specs.Programs.{body_in}
 use Rattle.dae_ir.specs.declared.form.Function.{Function as FormFunction}
 use Rattle.dae_ir.specs.declared.form.Ir.{Ir}
-use Rattle.dae_ir.specs.declared.form.Item.{Item}
-use Rattle.dae_ir.specs.declared.form.Item.TheVariants.{Assign, Load, Store, Print, Expect, Break, Continue, Call, Return, Halt}
+use Rattle.dae_ir.specs.declared.form.Item.TheVariants.{Expect, Return, Halt}
 use Rattle.dae_ir.specs.declared.form.Check.TheVariants.{Frame}
-use Rattle.dae_ir.specs.declared.form.Operand.{Operand}
-use Rattle.dae_ir.specs.declared.form.Operand.TheVariants.{Variable, Number}
-use Rattle.dae_ir.specs.declared.stream.Class.{Class}
+use Rattle.dae_ir.specs.declared.form.Operand.TheVariants.{Number}
 use Rattle.dae_program.specs.declared.program.Function.{Function}
 use Rattle.dae_program.specs.declared.program.Program.{Program}
 use Rattle.dae_program.specs.Lawful.{is_sound_slot, are_sound_statements, are_inside, parameter_count, takes}
@@ -31,7 +27,7 @@ use Rattle.dae_lower_bounds.specs.Constants.{InitialisesConstants}
 use Rattle.dae_lower_bounds.specs.Voids.{void_statements, void_tests}
 use Rattle.dae_lower_formed.specs.Formed.{plain, IsFunctionFormOf, IsLowered}
 use Rattle.dae_lower_formed.proofs.Laws.{bounds_of, form_there, function_there, lawful_at, counts}
-use Rattle.dae_lower_bounds.proofs.Marked.{AnyTest, loads_into, loads_then, tests_within, tests_then, bit_grows, each_then, joined, joined_first, joined_second, Any, Marked}
+use Rattle.dae_lower_bounds.proofs.Marked.{AnyTest, loads_into, loads_then, tests_within, tests_then, each_then, joined, joined_first, joined_second, Any, Marked}
 use Rattle.dae_lower_bounds.proofs.MarkedStatements.{function_does}
 
 -- ---- a function's code round its statements

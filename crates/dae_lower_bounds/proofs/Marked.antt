@@ -1,6 +1,6 @@
 -- Code whose variables are marked where they lead to addresses: sets that hold just those marks, and the wanted variables of the
 -- function itself, are kept by the code; and it has few loads into variables that are marked, and few tests of them alone.
-use Rattle.std.proofs.Common.{◌≡◌, ℕ, suc, ◌+◌, ◌<◌, ◌≤◌, Bool, true, false, ◌&&◌, nat_eq, nat_lt, if◌then◌else◌, refl, ap, sym, ◌∙◌, subst, arith}
+use Rattle.std.proofs.Common.{◌≡◌, ℕ, ◌+◌, ◌<◌, ◌≤◌, Bool, true, false, ◌&&◌, nat_lt, if◌then◌else◌, refl, ap, sym, ◌∙◌, subst, arith}
 use Rattle.std.proofs.lemmas.Bool.{lt-ltb, le-ltb, and_from}
 use Rattle.dae_base.specs.declared.Place.{Place}
 use Rattle.dae_base.specs.declared.LoadKind.{LoadKind}

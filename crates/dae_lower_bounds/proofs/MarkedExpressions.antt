@@ -19,7 +19,7 @@ use Rattle.dae_meaning.specs.declared.Operator.TheVariants.{Add}
 use Rattle.dae_meaning.specs.declared.Comparison.{Comparison}
 use Rattle.dae_meaning.specs.declared.Comparison.TheVariants.{Equal}
 use Rattle.dae_program.specs.Lawful.{Bounds, is_sound, are_sound, takes, count}
-use Rattle.dae_program.specs.Wanted.{Wants, IfSo, KeepsWants, KeepArguments, wanted, wanted_arguments, holds_wanted, is_open, is_open_operand, open_in, open_in_all}
+use Rattle.dae_program.specs.Wanted.{Wants, IfSo, KeepsWants, KeepArguments, wanted, wanted_arguments, is_open, is_open_operand, open_in, open_in_all}
 use Rattle.dae_program.specs.Trees as tree
 use Rattle.dae_program.specs.Trees.{Expression, Target, Expressions}
 use Rattle.dae_lower.specs.Lowering.{Made, ◌≫◌, nothing, only, emit, skip, one, set, or, assigned, assigned_all, fetched, held, put_in, operated, narrowed, Spot, Local, Placed, test_of, related, isnt_zero, turn, gives, Ways, by_value, chosen, variable, advanced, stepped, assigned_target, Links, ways, spot, operands}

@@ -27,7 +27,7 @@ use Rattle.dae_program.specs.declared.statements.Piece.TheVariants as piece
 use Rattle.dae_lower.specs.Lowering.{Made, ◌≫◌, nothing, emit, one, nowhere, or, assigned_all, test_of, Links, ways, operands, leave_unless, leave_unless_some, effect_of_some, loop, unread, preheader, headed_loop, text_loop, prints, turn_bytes, zeros_at, zeros, settings, arms_continue, search_labels, search, switch, statements, arms_from, parameters_stored}
 use Rattle.dae_lower_bounds.specs.Constants.{IsConstant, AreConstant, InitialisesConstants, ArmsInitialiseConstants}
 use Rattle.dae_lower_bounds.specs.Voids.{is_void_test, void_in_all, void_in_some, void_test, void_some, count_labels, void_statements, void_arms}
-use Rattle.dae_lower_bounds.proofs.Marked.{AnyTest, loads_into, loads_then, tests_within, tests_then, bit_grows, each_then, joined, agrees_first, agrees_second, Leads, Any, OwnFits, Marked, chain, more, plain_code, one_new, nothing_marked, branches_marked}
+use Rattle.dae_lower_bounds.proofs.Marked.{AnyTest, loads_into, loads_then, tests_within, tests_then, each_then, joined, agrees_first, agrees_second, Leads, Any, OwnFits, Marked, chain, more, plain_code, one_new, nothing_marked, branches_marked}
 use Rattle.dae_lower_bounds.proofs.MarkedExpressions.{WaysDo, AllLead, either_bit, tests_of, counts_operand, counts_test, decided, expression_does}
 
 next_isnt : (n : ℕ) → nat_eq (n + 1) n ≡ false

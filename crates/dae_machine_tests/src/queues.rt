@@ -3,6 +3,7 @@
 use dae_base::{LoadKind, Width};
 use dae_queues::laws::item_push_and_take;
 use dae_queues::{Fifo, PlainFifo, RingFifo, Slot, SlotQueue, StoreAt, StoreQueue, overlap};
+use dae_rows::{number, part, word_in};
 use std::alloc::{AllocError, Global};
 use std::process::Abort;
 
@@ -318,23 +319,21 @@ fn store_queues_are_lists(rt: HostRuntime) -> Result<(), AllocError> {
     check_calls_of_stores(&rt, &mut queue, &mut list)
 }
 
-#[test]
-fn ranges_share_bytes(rt: HostRuntime) {
-    let rows = [
-        (16, Width::B4, 17, Width::B1, true),
-        (16, Width::B4, 19, Width::B2, true),
-        (16, Width::B4, 20, Width::B4, false),
-        (18, Width::B2, 16, Width::B2, false),
-        (20, Width::B1, 20, Width::B4, true),
-        (u32::MAX, Width::B4, 0, Width::B4, false),
-    ];
-    for (x, wx, y, wy, want) in rows {
-        assert_eq!(rt;
-            (overlap(x, wx, y, wy), overlap(y, wy, x, wx)),
-            (want, want),
-            "{x} and {y}"
-        );
+fn width_in(text: &str, at: usize) -> Width {
+    match word_in(text, at) {
+        "1" => Width::B1,
+        "2" => Width::B2,
+        _ => Width::B4,
     }
+}
+
+/// Whether the two places of a row share a byte, asked both ways.
+pub fn sharing_told(alloc: Global, row: &str) -> Result<String, AllocError> {
+    let question = part(row, 2);
+    let (x, y) = (number(word_in(question, 0)), number(word_in(question, 2)));
+    let (wx, wy) = (width_in(question, 1), width_in(question, 3));
+    let (shared, turned) = (overlap(x, wx, y, wy), overlap(y, wy, x, wx));
+    format!(in alloc; "{shared} {turned}")
 }
 
 // A store to the bytes 16 to 19 waits. It is older than the first load, which reads one of them, and than the second,

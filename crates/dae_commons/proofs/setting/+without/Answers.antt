@@ -9,7 +9,7 @@ use Rattle.dae_commons.proofs.setting.+without.Goals as goal
 
 pub without_list-loop-statement-preserved : goal.without_list-loop-statement-preserved
 without_list-loop-statement-preserved t c =
-    without_next c.args.statements.now c.loop-statement.statement-index c.statement-item.result c.args.known c.loop-statement.current c.in_ok-current.field-0
+    without_next c.args.statements.now c.loop-statement.statement-index c.statement-item.result c.args.known c.loop-statement.current c.in_ok-current.current
     c.loop-statement-test.true c.statement-item.is c.loop-statement.invariant c.in_ok-current.ensures
 
 pub without_list-returns : goal.without_list-returns
