@@ -1,6 +1,6 @@
 // What a load is turned into.
 
-ghost use Rattle.std.specs.Prelude.{◌≡◌, ◌+◌, ◌^◌, ◌<◌, [], OnOk, IfOk};
+ghost use Rattle.std.specs.Prelude.{◌≡◌, ◌+◌, ◌^◌, ◌<◌, OnOk, IfOk};
 ghost use Rattle.dae_alias.specs.Meeting.{known_in};
 ghost use Rattle.dae_alias.specs.Reuse.{copy, loads_in, number_of, turned};
 ghost use Rattle.dae_alias.specs.Stretches.{IsSetOnceMore, IsSetSeldom};
