@@ -14,4 +14,5 @@ pub mod Onto
 pub mod Turns
 pub mod Marks
 pub mod Numbered
+pub mod Unrepeated
 pub mod Whole

@@ -98,17 +98,6 @@ turned_end h l ss i w out le t =
       loads = (let a = t.count in let b = ap loads_in none in omega (arith, a, b));
     }
 
-onto_both : (xs ys : List Statement) (k : Form) → onto (xs ++ ys) k ≡ onto xs (onto ys k)
-onto_both [] ys k = refl
-onto_both (x ∷ xs) ys k = ap (before x) (onto_both xs ys k)
-
--- what is written is put behind what was
-pub turns_behind : (h : Holders) (s : Statement) (old new : Walk) (out xs out' : List Statement) → out' ≡ out ++ xs → Turns h s old new [] xs → Turns h s old new out out'
-turns_behind h s old new out xs out' e t = record {
-  written = λ k. ap (λ (ys : List Statement). onto ys (reused_from h new k)) e ∙ onto_both out xs (reused_from h new k) ∙ ap (λ (c : Form). onto out c) (t.written k);
-  loads = t.loads;
-}
-
 -- ---- room for the loads
 
 -- where there is room for all loads there is room for those of a statement, behind those before it

@@ -1,7 +1,7 @@
 // Whole forms whose loads are reused.
 
 ghost use Rattle.std.specs.Prelude.{◌≡◌, IfErr, IfOk, OnOk, false};
-ghost use Rattle.std.specs.List.{list_all};
+ghost use Rattle.std.specs.List.{list_all, list_any};
 ghost use Rattle.dae_alias.specs.Forms.{AreReused, IsReusedFunction, IsReuseOf, is_reusable};
 ghost use Rattle.dae_alias.specs.declared.errors.ReuseError.TheVariants as errors;
 
@@ -13,6 +13,14 @@ use dae_base::Items;
 use dae_ir::{Function, Ir};
 use std::alloc::Global;
 
+// Whether a load is marked.
+fn any_marked(marks: &[bool]) -> bool
+    ensures { result ≡ list_any (λ mark. mark) marks.now }
+{
+    marks.iter().any(|mark| *mark)
+}
+
+// A function of which no load is repeated stays as it is.
 fn reuse_in_function(alloc: Global, function: Function) -> Result<Function, ReuseError>
     ensures reused { IfOk result (IsReusedFunction function) }
     ensures many { IfErr result (λ e. e ≡ errors.Variables → is_reusable function ≡ false) }
@@ -20,6 +28,9 @@ fn reuse_in_function(alloc: Global, function: Function) -> Result<Function, Reus
     let marks = mark_repeated(alloc, function.body.as_slice())?;
     if marks.len() > (u32::MAX - function.variables) as usize {
         return Err(ReuseError::Variables);
+    }
+    if !any_marked(&marks) {
+        return Ok(function);
     }
     let table = number_marked(alloc, &marks, function.variables)?;
     let part = turn_statements(alloc, &table.holders, 0, function.body.as_slice())?;

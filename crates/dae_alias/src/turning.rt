@@ -1,6 +1,6 @@
 // What a load is turned into.
 
-ghost use Rattle.std.specs.Prelude.{◌≡◌, ◌+◌, ◌^◌, ◌<◌, [], OnOk, IfOk};
+ghost use Rattle.std.specs.Prelude.{◌≡◌, ◌+◌, ◌^◌, ◌<◌, OnOk, IfOk};
 ghost use Rattle.dae_alias.specs.Meeting.{known_in};
 ghost use Rattle.dae_alias.specs.Reuse.{copy, loads_in, number_of, turned};
 ghost use Rattle.dae_alias.specs.Stretches.{IsSetOnceMore, IsSetSeldom};
@@ -194,10 +194,9 @@ pub fn turn_statements(
     ensures { IfOk result (IsTurned (holders_of table.now) statements.now loads) }
 {
     let mut walk = start(alloc, loads);
-    let mut out = Vec::new(alloc);
+    let mut out = Vec::with_capacity(alloc, statements.len())?;
     for statement in statements {
-        let mut turned = turn_statement(alloc, table, &mut walk, statement)?;
-        out.append(&mut turned)?;
+        turn_statement(alloc, table, &mut walk, statement, &mut out)?;
     }
     Ok(Part {
         statements: out,
@@ -211,36 +210,35 @@ fn turn_statement(
     table: &[Option<u32>],
     walk: &mut Walk,
     statement: &Statement,
-) -> Result<Vec<Statement>, AllocError>
+    out: &mut Vec<Statement>,
+) -> Result<(), AllocError>
     requires loads { walk.old.loads + loads_in (before statement.now Done) < 2 ^ 64 }
     requires seldom { IsSetSeldom (known_in walk.old) }
-    ensures turns { IfOk result
-        (λ xs. Turns (holders_of table.now) statement.now walk.old walk.new [] xs.items) }
+    ensures turns { OnOk result
+        (Turns (holders_of table.now) statement.now walk.old walk.new out.old.items
+        out.new.items) }
     ensures once { OnOk result (IsSetOnceMore (known_in walk.old) (known_in walk.new)) }
 {
     match statement {
         Statement::Simple(place, item) => {
-            let mut out = Vec::new(alloc);
-            turn_item(alloc, table, walk, &mut out, *place, item)?;
-            Ok(out)
+            turn_item(alloc, table, walk, out, *place, item)?;
+            Ok(())
         }
         Statement::If(place, test, yes, no) => {
-            let mut out = Vec::new(alloc);
             let first = turn_statements(alloc, table, walk.loads, yes)?;
             let second = turn_statements(alloc, table, first.loads, no)?;
             begin_again(walk);
             walk.loads = second.loads;
             out.push(Statement::If(*place, *test, first.statements, second.statements))?;
-            Ok(out)
+            Ok(())
         }
         Statement::Loop(place, body, step) => {
-            let mut out = Vec::new(alloc);
             let first = turn_statements(alloc, table, walk.loads, body)?;
             let second = turn_statements(alloc, table, first.loads, step)?;
             begin_again(walk);
             walk.loads = second.loads;
             out.push(Statement::Loop(*place, first.statements, second.statements))?;
-            Ok(out)
+            Ok(())
         }
     }
 }

@@ -153,7 +153,7 @@ pub fn common_list(
 {
     let start = Vec::from_slice(alloc, known)?;
     let mut current = Some(Items::from_vec(start));
-    let mut out = Vec::new(alloc);
+    let mut out = Vec::with_capacity(alloc, statements.len())?;
     for statement in statements {
         let common = common_statement(alloc, row, current, statement)?;
         current = common.known;

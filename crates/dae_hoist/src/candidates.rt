@@ -5,7 +5,7 @@ use std::alloc::{AllocError, Global};
 
 /// A flag for each variable.
 pub fn no_flags(alloc: Global, variables: u32) -> Result<Vec<bool>, AllocError> {
-    let mut flags = Vec::new(alloc);
+    let mut flags = Vec::with_capacity(alloc, variables as usize)?;
     for _ in 0..variables {
         flags.push(false)?;
     }

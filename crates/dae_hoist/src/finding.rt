@@ -340,7 +340,7 @@ fn find_in_statement(
 }
 
 fn no_values(alloc: Global, variables: u32) -> Result<Vec<Option<Value>>, AllocError> {
-    let mut values = Vec::new(alloc);
+    let mut values = Vec::with_capacity(alloc, variables as usize)?;
     for _ in 0..variables {
         values.push(None)?;
     }
@@ -348,7 +348,7 @@ fn no_values(alloc: Global, variables: u32) -> Result<Vec<Option<Value>>, AllocE
 }
 
 fn no_stamps(alloc: Global, variables: u32) -> Result<Vec<u32>, AllocError> {
-    let mut stamps = Vec::new(alloc);
+    let mut stamps = Vec::with_capacity(alloc, variables as usize)?;
     for _ in 0..variables {
         stamps.push(0)?;
     }

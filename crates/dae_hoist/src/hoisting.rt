@@ -153,7 +153,7 @@ pub fn hoist_list(
         (set_in before.new) new.items) }
 {
     let count = count_set(before);
-    let mut out = Vec::new(alloc);
+    let mut out = Vec::with_capacity(alloc, statements.len())?;
     for statement in statements {
         let hoisted = hoist_statement(alloc, plan, before, statement)?;
         out.push(hoisted)?;

@@ -85,8 +85,7 @@ fn copied(alloc: Global, lists: &[Items<u8>]) -> Result<Items<Items<u8>>, AllocE
 {
     let mut copy = Items::new(alloc);
     for list in lists {
-        let mut bytes = Vec::new(alloc);
-        bytes.extend_from_slice(list.as_slice())?;
+        let bytes = Vec::from_slice(alloc, list.as_slice())?;
         copy.push(Items::from_vec(bytes))?;
     }
     Ok(copy)

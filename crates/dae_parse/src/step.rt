@@ -1,4 +1,5 @@
-// One step of the machine, by what it does.
+// One step of the machine, by what it does. What is done seldom stays in functions of its own (`inline(never)`), so that a step sets up
+// no more than what is done often needs.
 
 ghost use Rattle.std.specs.Prelude.{◌≡◌, List, length, IfOk};
 ghost use Rattle.dae_parse_grammar.specs.Frames as plain;

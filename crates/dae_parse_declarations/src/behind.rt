@@ -22,6 +22,7 @@ use dae_tree::{Declarator, Enumerator, Member, Name, Sign};
 use std::alloc::AllocError;
 
 /// Behind the size of an array (C90 6.5.4.2).
+#[inline(never)]
 #[tactic(auto, using(dae_parse_states::proofs::Laws::bracket_or_none))]
 pub fn in_size(
     machine: &mut Machine<'_>,
@@ -42,6 +43,7 @@ pub fn in_size(
 }
 
 /// Behind the value of an enumerator (C90 6.5.2.2).
+#[inline(never)]
 pub fn in_enumerator(
     machine: &mut Machine<'_>,
     value: Operand,
@@ -61,6 +63,7 @@ pub fn in_enumerator(
 }
 
 /// Behind what a pointer stands before (C90 6.5.4.1).
+#[inline(never)]
 pub fn behind_star(
     machine: &mut Machine<'_>,
     declared: Declared,
@@ -76,6 +79,7 @@ pub fn behind_star(
 }
 
 /// Behind a declarator in parentheses.
+#[inline(never)]
 #[tactic(auto, using(dae_parse_states::proofs::Laws::paren_or_none))]
 pub fn in_group(
     machine: &mut Machine<'_>,
@@ -95,6 +99,7 @@ pub fn in_group(
 }
 
 /// Behind the type of a cast (C90 6.3.4).
+#[inline(never)]
 #[tactic(auto, using(dae_parse_states::proofs::Laws::paren_or_none))]
 pub fn of_cast(
     machine: &mut Machine<'_>,
@@ -115,6 +120,7 @@ pub fn of_cast(
 }
 
 /// Behind the type in `sizeof` (C90 6.3.3.4).
+#[inline(never)]
 #[tactic(auto, using(dae_parse_states::proofs::Laws::paren_or_none))]
 pub fn of_sizeof(
     machine: &mut Machine<'_>,
@@ -137,6 +143,7 @@ pub fn of_sizeof(
 }
 
 /// Behind a declarator of members (C90 6.5.2.1).
+#[inline(never)]
 #[tactic(auto, using(crate::proofs::OtherwiseDeclarators::member_or_none))]
 pub fn of_member(
     machine: &mut Machine<'_>,

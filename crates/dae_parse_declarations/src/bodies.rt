@@ -23,6 +23,7 @@ use dae_tree::{Enumerator, Member, Name, Seen, Sign, TrailingComma};
 use std::alloc::{AllocError, Global};
 
 /// Behind `struct` or `enum` (C90 6.5.2).
+#[inline(never)]
 #[tactic(auto, using(crate::proofs::OtherwiseDeclarators::tag_or_none))]
 pub fn read_tag(
     machine: &mut Machine<'_>,
@@ -66,6 +67,7 @@ fn open_body(machine: &Machine<'_>, kind: TagKind, body: Box<Body>) -> Doing
 }
 
 /// Behind a tag (C90 6.5.2.3).
+#[inline(never)]
 #[tactic(auto, using(crate::proofs::OtherwiseDeclarators::tag_alone_otherwise))]
 pub fn read_body(
     machine: &mut Machine<'_>,
@@ -114,6 +116,7 @@ fn with_tag(
 }
 
 /// In the body of a structure, before a declaration of members or the brace (C90 6.5.2.1).
+#[inline(never)]
 #[tactic(auto, using(crate::proofs::OtherwiseDeclarators::members_otherwise))]
 pub fn read_member(
     machine: &mut Machine<'_>,
@@ -145,6 +148,7 @@ fn close_structure(body: Box<Body>, members: Read<Vec<Member>>) -> Result<Doing,
 }
 
 /// In the body of an enumeration, before an enumerator (C90 6.5.2.2).
+#[inline(never)]
 #[tactic(auto, using(crate::proofs::OtherwiseDeclarators::enumerator_or_none))]
 pub fn read_enumerator(
     machine: &mut Machine<'_>,
@@ -161,6 +165,7 @@ pub fn read_enumerator(
 }
 
 /// Behind the name of an enumerator.
+#[inline(never)]
 #[tactic(auto, using(crate::proofs::OtherwiseDeclarators::enumerator_otherwise))]
 pub fn read_enumerator_value(
     machine: &mut Machine<'_>,
@@ -181,6 +186,7 @@ pub fn read_enumerator_value(
 }
 
 /// Behind an enumerator.
+#[inline(never)]
 #[tactic(auto, using(crate::proofs::OtherwiseDeclarators::entry_or_none))]
 pub fn read_behind_enumerator(
     machine: &mut Machine<'_>,
@@ -201,6 +207,7 @@ pub fn read_behind_enumerator(
 }
 
 /// Behind the comma behind an enumerator.
+#[inline(never)]
 #[tactic(auto, using(crate::proofs::OtherwiseDeclarators::comma_otherwise))]
 pub fn read_behind_comma(
     machine: &mut Machine<'_>,

@@ -155,6 +155,7 @@ fn parameters_stand(scope: &Scope<bool>, rest: Rest<'_>) -> bool
 }
 
 /// Behind the star of a pointer (C90 6.5.4.1).
+#[inline(never)]
 #[tactic(auto, using(crate::proofs::OtherwiseDeclarators::qualified_otherwise))]
 pub fn read_qualifier(
     machine: &mut Machine<'_>,
@@ -194,6 +195,7 @@ pub fn read_suffix(
 }
 
 /// Behind the bracket of an array (C90 6.5.4.2).
+#[inline(never)]
 #[tactic(auto, using(crate::proofs::OtherwiseDeclarators::sized_otherwise))]
 pub fn read_size(
     machine: &mut Machine<'_>,
@@ -213,6 +215,7 @@ pub fn read_size(
 }
 
 /// Behind the parenthesis of a function, whose parameters have a scope of their own (C90 6.5.4.3 and 6.1.2.1).
+#[inline(never)]
 #[tactic(auto, using(crate::proofs::OtherwiseDeclarators::parameters_otherwise))]
 pub fn read_parameters(
     machine: &mut Machine<'_>,

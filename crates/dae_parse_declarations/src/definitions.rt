@@ -26,6 +26,7 @@ use std::alloc::AllocError;
 const GREATEST_LENGTH: usize = 8192;
 
 /// Behind the body of a function, in a file of so many tokens (C90 6.7.1).
+#[inline(never)]
 pub fn in_definition(
     machine: &mut Machine<'_>,
     found: Read<Box<Statement>>,

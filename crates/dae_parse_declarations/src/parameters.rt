@@ -21,6 +21,7 @@ use dae_tree::{Seen, Sign};
 use std::alloc::AllocError;
 
 /// Behind the declarator of a parameter, whose name is one of the scope of the parameters (C90 6.5.4.3 and 6.1.2.1).
+#[inline(never)]
 #[tactic(auto, using(crate::proofs::OtherwiseDeclarators::parameter_or_none))]
 pub fn of_parameter(
     machine: &mut Machine<'_>,

@@ -117,6 +117,7 @@ fn read_type_name(
 }
 
 /// Behind the specifiers of a cast (C90 6.3.4).
+#[inline(never)]
 pub fn for_cast(
     machine: &mut Machine<'_>,
     specified: Specified,
@@ -131,6 +132,7 @@ pub fn for_cast(
 }
 
 /// Behind the specifiers of a type in `sizeof` (C90 6.3.3.4).
+#[inline(never)]
 pub fn for_sizeof(
     machine: &mut Machine<'_>,
     specified: Specified,
@@ -147,6 +149,7 @@ pub fn for_sizeof(
 }
 
 /// Behind the specifiers of a parameter (C90 6.5.4.3).
+#[inline(never)]
 pub fn for_parameter(
     machine: &mut Machine<'_>,
     specified: Specified,
@@ -165,6 +168,7 @@ pub fn for_parameter(
 }
 
 /// Behind the specifiers of members (C90 6.5.2.1).
+#[inline(never)]
 pub fn for_member(
     machine: &mut Machine<'_>,
     specified: Specified,

@@ -148,6 +148,7 @@ fn begin(machine: &mut Machine<'_>, doing: Doing) -> Result<Option<Doing>, Alloc
 }
 
 /// Before the parenthesis of a test.
+#[inline(never)]
 #[tactic(auto, using(dae_parse_states::proofs::Laws::open_or_none))]
 pub fn read_test(machine: &mut Machine<'_>, head: Head) -> Result<Option<Doing>, AllocError>
     ensures { (a : plain.Head) → ShowsHead head a →
@@ -161,6 +162,7 @@ pub fn read_test(machine: &mut Machine<'_>, head: Head) -> Result<Option<Doing>,
 }
 
 /// Behind `for`.
+#[inline(never)]
 #[tactic(auto, using(dae_parse_states::proofs::Laws::open_or_none))]
 pub fn read_for(machine: &mut Machine<'_>, word: Place) -> Result<Option<Doing>, AllocError>
     ensures { Steps machine.old result machine.new (step_at (plain.looping word)) }
@@ -172,6 +174,7 @@ pub fn read_for(machine: &mut Machine<'_>, word: Place) -> Result<Option<Doing>,
 }
 
 /// Behind the first semicolon of a `for`.
+#[inline(never)]
 #[tactic(auto, using(crate::proofs::OtherwiseStatements::tested_otherwise))]
 pub fn read_loop_test(
     machine: &mut Machine<'_>,
@@ -199,6 +202,7 @@ pub fn read_loop_test(
 }
 
 /// Behind the second semicolon of a `for`.
+#[inline(never)]
 #[tactic(auto, using(crate::proofs::OtherwiseStatements::stepped_otherwise))]
 pub fn read_loop_step(
     machine: &mut Machine<'_>,
@@ -216,6 +220,7 @@ pub fn read_loop_step(
 }
 
 /// Behind `default`.
+#[inline(never)]
 #[tactic(auto, using(dae_parse_states::proofs::Laws::colon_or_none))]
 pub fn read_default(machine: &mut Machine<'_>, place: Place) -> Result<Option<Doing>, AllocError>
     ensures { Steps machine.old result machine.new (step_at (plain.defaulting place)) }
@@ -228,6 +233,7 @@ pub fn read_default(machine: &mut Machine<'_>, place: Place) -> Result<Option<Do
 }
 
 /// Behind the parenthesis of a `for`.
+#[inline(never)]
 #[tactic(auto, using(crate::proofs::OtherwiseStatements::started_otherwise))]
 pub fn read_loop_start(
     machine: &mut Machine<'_>,
@@ -244,6 +250,7 @@ pub fn read_loop_start(
 }
 
 /// Behind the test of a `do` (C90 6.6.5.2).
+#[inline(never)]
 #[tactic(auto, using(dae_parse_states::proofs::Laws::semicolon_or_none))]
 pub fn read_do_end(machine: &mut Machine<'_>, parts: DoParts) -> Result<Option<Doing>, AllocError>
     ensures { (b : StatementTree) (e : Expression) → ShowsStatement parts.body b
@@ -259,6 +266,7 @@ pub fn read_do_end(machine: &mut Machine<'_>, parts: DoParts) -> Result<Option<D
 }
 
 /// Behind `return` (C90 6.6.6.4).
+#[inline(never)]
 #[tactic(auto, using(crate::proofs::OtherwiseStatements::returned_otherwise))]
 pub fn read_return(machine: &mut Machine<'_>, place: Place) -> Result<Option<Doing>, AllocError>
     ensures { Steps machine.old result machine.new (returned place) }
@@ -272,6 +280,7 @@ pub fn read_return(machine: &mut Machine<'_>, place: Place) -> Result<Option<Doi
 }
 
 /// Behind `break` (C90 6.6.6.3).
+#[inline(never)]
 #[tactic(auto, using(dae_parse_states::proofs::Laws::semicolon_or_none))]
 pub fn read_break(machine: &mut Machine<'_>, place: Place) -> Result<Option<Doing>, AllocError>
     ensures { Steps machine.old result machine.new (step_at (plain.breaking place)) }
@@ -284,6 +293,7 @@ pub fn read_break(machine: &mut Machine<'_>, place: Place) -> Result<Option<Doin
 }
 
 /// Behind `continue` (C90 6.6.6.2).
+#[inline(never)]
 #[tactic(auto, using(dae_parse_states::proofs::Laws::semicolon_or_none))]
 pub fn read_continue(machine: &mut Machine<'_>, place: Place) -> Result<Option<Doing>, AllocError>
     ensures { Steps machine.old result machine.new (step_at (plain.continuing place)) }

@@ -59,6 +59,7 @@ pub fn else_branch(
 }
 
 /// Behind the body of a `while` (C90 6.6.5.1).
+#[inline(never)]
 pub fn while_body(
     machine: &mut Machine<'_>,
     found: Read<Box<Statement>>,
@@ -74,6 +75,7 @@ pub fn while_body(
 }
 
 /// Behind the body of a `switch` (C90 6.6.4.2).
+#[inline(never)]
 pub fn switch_body(
     machine: &mut Machine<'_>,
     found: Read<Box<Statement>>,
@@ -89,6 +91,7 @@ pub fn switch_body(
 }
 
 /// Behind the body of a `do` (C90 6.6.5.2).
+#[inline(never)]
 #[tactic(auto, using(crate::proofs::OtherwiseStatements::done_or_none))]
 pub fn do_body(
     machine: &mut Machine<'_>,
@@ -105,6 +108,7 @@ pub fn do_body(
 }
 
 /// Behind the body of a `for` (C90 6.6.5.3).
+#[inline(never)]
 pub fn for_body(
     machine: &mut Machine<'_>,
     found: Read<Box<Statement>>,
@@ -134,6 +138,7 @@ pub fn case_body(
 }
 
 /// Behind the statement of a `default` (C90 6.6.1).
+#[inline(never)]
 pub fn default_body(
     machine: &mut Machine<'_>,
     found: Read<Box<Statement>>,

@@ -33,6 +33,7 @@ pub fn in_evaluation(
 }
 
 /// Behind a test (C90 6.6.4 and 6.6.5).
+#[inline(never)]
 #[tactic(auto, using(dae_parse_states::proofs::Laws::paren_or_none))]
 pub fn in_test(
     machine: &mut Machine<'_>,
@@ -68,6 +69,7 @@ pub fn in_test(
 }
 
 /// Behind the first expression of a `for` (C90 6.6.5.3).
+#[inline(never)]
 #[tactic(auto, using(dae_parse_states::proofs::Laws::semicolon_or_none))]
 pub fn in_start(
     machine: &mut Machine<'_>,
@@ -85,6 +87,7 @@ pub fn in_start(
 }
 
 /// Behind the second expression of a `for` (C90 6.6.5.3).
+#[inline(never)]
 #[tactic(auto, using(dae_parse_states::proofs::Laws::semicolon_or_none))]
 pub fn in_loop_test(
     machine: &mut Machine<'_>,
@@ -114,6 +117,7 @@ pub fn in_loop_test(
 }
 
 /// Behind the third expression of a `for` (C90 6.6.5.3).
+#[inline(never)]
 #[tactic(auto, using(dae_parse_states::proofs::Laws::paren_or_none))]
 pub fn in_step(
     machine: &mut Machine<'_>,
@@ -131,6 +135,7 @@ pub fn in_step(
 }
 
 /// Behind the value of a `return` (C90 6.6.6.4).
+#[inline(never)]
 #[tactic(auto, using(dae_parse_states::proofs::Laws::semicolon_or_none))]
 pub fn in_return(
     machine: &mut Machine<'_>,
@@ -148,6 +153,7 @@ pub fn in_return(
 }
 
 /// Behind the value of a `case` (C90 6.6.1).
+#[inline(never)]
 #[tactic(auto, using(dae_parse_states::proofs::Laws::colon_or_none))]
 pub fn in_case(
     machine: &mut Machine<'_>,

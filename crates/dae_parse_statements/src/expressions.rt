@@ -84,6 +84,7 @@ pub fn behind_binary(
 }
 
 /// Behind the second operand of the conditional operator.
+#[inline(never)]
 #[tactic(auto, using(dae_parse_states::proofs::Laws::colon_or_none))]
 pub fn behind_question(
     machine: &mut Machine<'_>,
@@ -129,6 +130,7 @@ pub fn in_arguments(
 }
 
 /// Behind the operand of `sizeof`.
+#[inline(never)]
 pub fn behind_sizeof(
     machine: &mut Machine<'_>,
     a: Operand,
@@ -142,6 +144,7 @@ pub fn behind_sizeof(
 }
 
 /// Behind the operand of a cast.
+#[inline(never)]
 pub fn behind_cast(
     machine: &mut Machine<'_>,
     a: Operand,
@@ -158,6 +161,7 @@ pub fn behind_cast(
 }
 
 /// Behind the third operand of the conditional operator.
+#[inline(never)]
 pub fn behind_colon(
     machine: &mut Machine<'_>,
     a: Operand,

@@ -99,6 +99,7 @@ fn seek_parenthesis(
 }
 
 /// Behind `sizeof` (C90 6.3.3.4).
+#[inline(never)]
 pub fn read_sizeof(
     machine: &mut Machine<'_>,
     place: Place,

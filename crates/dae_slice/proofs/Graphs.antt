@@ -7,6 +7,7 @@ use Rattle.std.proofs.lemmas.Bool.{cases_eq}
 use Rattle.std.proofs.lemmas.Option.{slice_get_within}
 use Rattle.dae_base.proofs.Laws.{all_join}
 use Rattle.dae_slice.specs.Graphs.{Family, vertex_in, vertex, exists, is_needed, AreIn, VertexKept, Keeps, Adds, Settles, pending, links_of, links_of_row}
+use Rattle.dae_slice.specs.SourceLists.{source_list}
 use Rattle.dae_slice.specs.declared.graph.Node.{Node}
 use Rattle.dae_slice.specs.declared.graph.Vertex.{Vertex}
 use Rattle.dae_slice.specs.declared.graph.Graph.{Graph}
@@ -69,7 +70,7 @@ module _ (f v : ℕ) (old new : Graph) (x y : Vertex) (but : AreSameBut f v old.
   abbrev there : (h w : ℕ) → exists new h w ≡ exists old h w
   there h w = elim (but h w) [ inl e ↦ ap is_some e | inr p ↦ rw (p.0, p.1, is, was) refl ]
 
-  pub linked : (from : Node) → y.needed ≡ x.needed → y.sources.items ≡ x.sources.items ++ from ∷ [] → new.work.items ≡ old.work.items → Adds (λ c. c f v ≡ true → c from.function from.variable ≡ true) old new
+  pub linked : (from : Node) → y.needed ≡ x.needed → source_list y.sources ≡ source_list x.sources ++ from ∷ [] → new.work.items ≡ old.work.items → Adds (λ c. c f v ≡ true → c from.function from.variable ≡ true) old new
   linked from n s w = record {
     like = record {
       exists = there;
@@ -84,11 +85,11 @@ module _ (f v : ℕ) (old new : Graph) (x y : Vertex) (but : AreSameBut f v old.
             record {
               vertices = kept c f v new old x (back_again f v old.rows.items new.rows.items but) was k.vertices (record {
                 needed = rw n at here.needed;
-                sources = λ h. all_front _ x.sources.items (from ∷ []) (rw s at (here.sources h));
+                sources = λ h. all_front _ (source_list x.sources) (from ∷ []) (rw s at (here.sources h));
               });
               work = rw w at k.work;
             },
-            λ h. (all_back _ x.sources.items (from ∷ []) (rw s at (here.sources h))).0,
+            λ h. (all_back _ (source_list x.sources) (from ∷ []) (rw s at (here.sources h))).0,
           )
 
       other : (c : Family) → Keeps old c × (c f v ≡ true → c from.function from.variable ≡ true) → Keeps new c
@@ -97,12 +98,12 @@ module _ (f v : ℕ) (old new : Graph) (x y : Vertex) (but : AreSameBut f v old.
           record {
             vertices = kept c f v old new y but is k.vertices (record {
               needed = rw n here.needed;
-              sources = λ h. rw s (all_join _ x.sources.items (from ∷ []) (here.sources h) (p h, tt));
+              sources = λ h. rw s (all_join _ (source_list x.sources) (from ∷ []) (here.sources h) (p h, tt));
             });
             work = rw w k.work;
           }
 
-  pub settled : (n : Node) → n.function ≡ f → n.variable ≡ v → y.needed ≡ true → y.sources.items ≡ [] → new.work.items ≡ old.work.items ++ x.sources.items → pending new ≡ pending old → Settles n old new
+  pub settled : (n : Node) → n.function ≡ f → n.variable ≡ v → y.needed ≡ true → source_list y.sources ≡ [] → new.work.items ≡ old.work.items ++ source_list x.sources → pending new ≡ pending old → Settles n old new
   settled n nf nv need none w p = record {
     exists = there;
     keeps = λ c. rw (nf, nv) (one c, other c);
@@ -113,13 +114,13 @@ module _ (f v : ℕ) (old new : Graph) (x y : Vertex) (but : AreSameBut f v old.
       one : (c : Family) → Keeps new c → Keeps old c × (c f v ≡ true)
       one c k =
           let here : VertexKept c f v (Some y) = rw is at (k.vertices f v) in
-          let all : AreIn c (old.work.items ++ x.sources.items) = rw w at k.work in (
+          let all : AreIn c (old.work.items ++ source_list x.sources) = rw w at k.work in (
             record {
               vertices = kept c f v new old x (back_again f v old.rows.items new.rows.items but) was k.vertices (record {
                 needed = λ h. here.needed need;
-                sources = λ h. all_back _ old.work.items x.sources.items all;
+                sources = λ h. all_back _ old.work.items (source_list x.sources) all;
               });
-              work = all_front _ old.work.items x.sources.items all;
+              work = all_front _ old.work.items (source_list x.sources) all;
             },
             here.needed need,
           )
@@ -132,14 +133,14 @@ module _ (f v : ℕ) (old new : Graph) (x y : Vertex) (but : AreSameBut f v old.
               needed = λ h. i;
               sources = λ h. rw none tt;
             });
-            work = rw w (all_join _ old.work.items x.sources.items k.work (here.sources i));
+            work = rw w (all_join _ old.work.items (source_list x.sources) k.work (here.sources i));
           }
 
 -- ---- how many links there are after a write
 
-row_links : (xs : List Vertex) (v : ℕ) (x y : Vertex) → v < length xs → x ≡ get_or xs v x → links_of_row (set xs v y) + length x.sources.items ≡ links_of_row xs + length y.sources.items
+row_links : (xs : List Vertex) (v : ℕ) (x y : Vertex) → v < length xs → x ≡ get_or xs v x → links_of_row (set xs v y) + length (source_list x.sources) ≡ links_of_row xs + length (source_list y.sources)
 row_links [] v x y lt e = absurd (omega arith)
-row_links (z ∷ zs) zero x y lt e = let same : length x.sources.items ≡ length z.sources.items = ap (λ (u : Vertex). length u.sources.items) e in omega arith
+row_links (z ∷ zs) zero x y lt e = let same : length (source_list x.sources) ≡ length (source_list z.sources) = ap (λ (u : Vertex). length (source_list u.sources)) e in omega arith
 row_links (z ∷ zs) (suc v) x y lt e = omega (arith, row_links zs v x y (omega arith) e)
 
 rows_links : (rows : Rows) (f : ℕ) (row new : Vec Vertex Global) → f < length rows → row ≡ get_or rows f row → links_of (set rows f new) + links_of_row row.items ≡ links_of rows + links_of_row new.items
@@ -147,10 +148,10 @@ rows_links [] f row new lt e = absurd (omega arith)
 rows_links (r ∷ rs) zero row new lt e = let same : links_of_row row.items ≡ links_of_row r.items = ap (λ (u : Vec Vertex Global). links_of_row u.items) e in omega arith
 rows_links (r ∷ rs) (suc f) row new lt e = omega (arith, rows_links rs f row new (omega arith) e)
 
-pub links_moved : (rows : Rows) (f v : ℕ) (row : Vec Vertex Global) (x y : Vertex) (old new : List Node) → f < length rows → row ≡ get_or rows f row → v < length row.items → x ≡ get_or row.items v x → y.sources.items ≡ [] → new ≡ old ++ x.sources.items → length new + links_of (set rows f (with_item row v y)) ≡ length old + links_of rows
+pub links_moved : (rows : Rows) (f v : ℕ) (row : Vec Vertex Global) (x y : Vertex) (old new : List Node) → f < length rows → row ≡ get_or rows f row → v < length row.items → x ≡ get_or row.items v x → source_list y.sources ≡ [] → new ≡ old ++ source_list x.sources → length new + links_of (set rows f (with_item row v y)) ≡ length old + links_of rows
 links_moved rows f v row x y old new lt is inside this none moved =
     let a = row_links row.items v x y inside this in
     let b = rows_links rows f row (with_item row v y) lt is in
-    let n : length y.sources.items ≡ 0 = ap length none in
-    let m : length new ≡ length old + length x.sources.items = rw moved (length-append old x.sources.items) in
+    let n : length (source_list y.sources) ≡ 0 = ap length none in
+    let m : length new ≡ length old + length (source_list x.sources) = rw moved (length-append old (source_list x.sources)) in
     omega arith

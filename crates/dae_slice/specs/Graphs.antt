@@ -6,6 +6,7 @@ use Rattle.std.specs.Prelude.{Vec}
 use Rattle.std.specs.declared.alloc.Global.{Global}
 use Rattle.dae_ir.specs.Classes.{VariableSet, IsWithin}
 use Rattle.dae_ir.specs.declared.form.Function.{Function}
+use Rattle.dae_slice.specs.SourceLists.{source_list}
 use Rattle.dae_slice.specs.declared.graph.Node.{Node}
 use Rattle.dae_slice.specs.declared.graph.Vertex.{Vertex}
 use Rattle.dae_slice.specs.declared.graph.Graph.{Graph}
@@ -36,7 +37,7 @@ marked g f v = is_needed (vertex g f v)
 -- the variables with links to it
 abbrev pub sources : Option Vertex → List Node
 sources None = []
-sources (Some x) = x.sources.items
+sources (Some x) = source_list x.sources
 
 -- all are in the family
 abbrev pub AreIn : Family → List Node → Type 0
@@ -74,7 +75,7 @@ in_range functions f v = nat_lt v (variables_of (slice_get functions f))
 
 pub record IsNew (x : Vertex) : Type 0 where
   pub needed : x.needed ≡ false
-  pub sources : x.sources.items ≡ []
+  pub sources : source_list x.sources ≡ []
 
 pub record IsNewRow (variables : ℕ) (row : List Vertex) : Type 0 where
   pub length : length row ≡ variables
@@ -95,7 +96,7 @@ IsSettled g = (f v : ℕ) → marked g f v ≡ true → sources (vertex g f v) �
 -- how many links and needed variables are still to be followed
 abbrev pub links_of_row : List Vertex → ℕ
 links_of_row [] = 0
-links_of_row (x ∷ xs) = length x.sources.items + links_of_row xs
+links_of_row (x ∷ xs) = length (source_list x.sources) + links_of_row xs
 
 abbrev pub links_of : List (Vec Vertex Global) → ℕ
 links_of [] = 0

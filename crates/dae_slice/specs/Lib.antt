@@ -1,2 +1,3 @@
+pub mod SourceLists
 pub mod Graphs
 pub mod Links

@@ -4,6 +4,7 @@ ghost use Rattle.std.specs.Prelude.{◌≡◌, true, OnOk, IfOk, slice_get};
 ghost use Rattle.dae_ir.specs.Classes.{has, has_test};
 ghost use Rattle.dae_slice.specs.Graphs.{marked, is_needed, exists, Adds, Keeps, IsFresh, IsNewRow, IsSettled, Settles, IsLeastKept};
 
+use crate::source_nodes::SourceNodes;
 use dae_ir::{Function, Operand, Test};
 use std::alloc::{AllocError, Global};
 
@@ -19,7 +20,7 @@ pub struct Node {
 #[derive(Drop)]
 pub struct Vertex {
     pub needed: bool,
-    pub sources: Vec<Node>,
+    pub sources: SourceNodes,
 }
 
 /// A vertex for each variable of each function, and the variables that are needed but not marked so yet.
@@ -89,9 +90,10 @@ impl Graph {
             (Adds (λ c. c to.function to.variable ≡ true
             → c from.function from.variable ≡ true) self.old self.new) }
     {
+        let alloc = *self.work.allocator();
         let row = &mut self.rows[to.function];
         let vertex = &mut row[to.variable];
-        vertex.sources.push(from)?;
+        vertex.sources.add(alloc, from)?;
         Ok(())
     }
 
@@ -103,7 +105,7 @@ impl Graph {
         let row = &mut self.rows[node.function];
         let vertex = &mut row[node.variable];
         vertex.needed = true;
-        self.work.append(&mut vertex.sources)?;
+        vertex.sources.hand_to(&mut self.work)?;
         Ok(())
     }
 
@@ -123,11 +125,11 @@ impl Graph {
 fn new_row(alloc: Global, variables: u32) -> Result<Vec<Vertex>, AllocError>
     ensures { IfOk result (λ row. IsNewRow variables row.items) }
 {
-    let mut row = Vec::new(alloc);
+    let mut row = Vec::with_capacity(alloc, variables as usize)?;
     for _ in 0..variables {
         row.push(Vertex {
             needed: false,
-            sources: Vec::new(alloc),
+            sources: SourceNodes::Nothing,
         })?;
     }
     Ok(row)

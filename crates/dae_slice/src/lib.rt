@@ -8,5 +8,6 @@ pub use tables::{classes, decider};
 
 mod graph;
 mod items;
+mod source_nodes;
 mod tables;
 mod walk;

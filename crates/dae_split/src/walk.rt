@@ -142,9 +142,10 @@ pub fn list(
         (λ steps. onto steps.items Done
         ≡ list_of zone task tables.now (form_of body.now)) }
 {
+    let steps = Vec::with_capacity(alloc, body.len())?;
     let mut x = Stretch {
         alloc,
-        steps: Vec::new(alloc),
+        steps,
         group: Vec::new(alloc),
         number: 0,
     };

@@ -40,8 +40,7 @@ pub fn numbers_in(names: &[Items<u8>]) -> Numbers
 fn copy_bytes(alloc: Global, bytes: &[u8]) -> Result<Items<u8>, AllocError>
     ensures { IfOk result (λ copy. copy ≡ bytes.now) }
 {
-    let mut copy = Vec::new(alloc);
-    copy.extend_from_slice(bytes)?;
+    let copy = Vec::from_slice(alloc, bytes)?;
     Ok(Items::from_vec(copy))
 }
 

@@ -17,6 +17,7 @@ use dae_types_tables::{Checker, broken, is_integer, is_scalar, is_void};
 use dae_types_values::is_null;
 
 /// `&&` between two values, at their places.
+#[inline(never)]
 #[tactic(auto, unfolding(dae_types_rules::specs::Plan::ask_all))]
 pub fn and(
     checker: &Checker,
@@ -39,6 +40,7 @@ pub fn and(
 }
 
 /// `||` between two values, at their places.
+#[inline(never)]
 #[tactic(auto, unfolding(dae_types_rules::specs::Plan::ask_all))]
 pub fn or(
     checker: &Checker,

@@ -126,6 +126,7 @@ pub fn lacks_size(checker: &Checker, type_id: Option<usize>) -> bool
 }
 
 /// A pointer and an index of elements of a type.
+#[inline(never)]
 fn indexed(
     checker: &Checker,
     place: Place,
@@ -151,6 +152,7 @@ fn indexed(
 ghost use Rattle.dae_types_kinds.specs.Values.{indexed_behind};
 
 /// An index of elements of a type, and a pointer.
+#[inline(never)]
 fn indexed_behind(
     checker: &Checker,
     place: Place,
@@ -174,6 +176,7 @@ fn indexed_behind(
 }
 
 /// A pointer less an index of elements of a type.
+#[inline(never)]
 fn indexed_back(
     checker: &Checker,
     place: Place,
@@ -197,6 +200,7 @@ fn indexed_back(
 }
 
 /// The distance of two pointers in elements of so many bytes.
+#[inline(never)]
 fn distance(alloc: Global, place: Place, size: u32, x: Value, y: Value) -> Result<Value, CheckError>
     ensures { MakesValue result (distance place size (view_value x) (view_value y)) }
 {

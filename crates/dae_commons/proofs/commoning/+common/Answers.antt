@@ -12,8 +12,8 @@ use Rattle.dae_commons.proofs.commoning.+common.Goals as goal
 
 pub common_list-loop-statement-init : goal.common_list-loop-statement-init
 common_list-loop-statement-init t c =
-    commoned_start (classes_in c.args.row.now) c.args.statements.now c.args.known.now (Some c.from_vec.result) c.new-out.result.items
-    (ap (λ (q : List Equation). Some q) (c.from_vec.ensures ∙ c.in_ok-start.ensures.items)) c.new-out.ensures.items
+    commoned_start (classes_in c.args.row.now) c.args.statements.now c.args.known.now (Some c.from_vec.result) c.in_ok-out.out.items
+    (ap (λ (q : List Equation). Some q) (c.from_vec.ensures ∙ c.in_ok-start.ensures.items)) c.in_ok-out.ensures.items
 
 pub common_list-loop-statement-preserved : goal.common_list-loop-statement-preserved
 common_list-loop-statement-preserved t c =

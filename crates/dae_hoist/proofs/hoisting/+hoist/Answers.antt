@@ -7,7 +7,7 @@ use Rattle.dae_hoist.proofs.Steps.{simple_hoisted, if_hoisted, loop_hoisted, hoi
 use Rattle.dae_hoist.proofs.hoisting.+hoist.Goals as goal
 
 pub hoist_list-loop-statement-init : goal.hoist_list-loop-statement-init
-hoist_list-loop-statement-init t c = hoisted_start (hoisting_of c.args.plan.now) c.args.statements.now (set_in c.args.before.now) c.new-out.result.items c.new-out.ensures.items
+hoist_list-loop-statement-init t c = hoisted_start (hoisting_of c.args.plan.now) c.args.statements.now (set_in c.args.before.now) c.in_ok-out.out.items c.in_ok-out.ensures.items
 
 pub hoist_list-loop-statement-preserved : goal.hoist_list-loop-statement-preserved
 hoist_list-loop-statement-preserved t c =

@@ -10,12 +10,12 @@ returns c =
     let rows = c.args.self.now.rows.items in
     let row = c.index_mut-row.result.now in
     let x : Vertex = c.index_mut-vertex.result.now in
-    let y : Vertex = record { needed = true; sources = c.append.new.other } in
+    let y : Vertex = record { needed = true; sources = c.hand_to.new.self } in
     let lt = row_there rows f v c.requires in
     let inside = vertex_there rows f v row c.index_mut-row.ensures.value c.requires in
     settled f v c.args.self.now _ x y
     (others_stay rows f v row y lt c.index_mut-row.ensures.value)
     (read rows f v row x lt c.index_mut-row.ensures.value inside c.index_mut-vertex.ensures.value)
     (written rows f v row y lt inside)
-    c.args.node refl refl refl c.in_ok-append.ensures.other_items c.in_ok-append.ensures.items
-    (links_moved rows f v row x y c.args.self.now.work.items c.append.new.self.items lt c.index_mut-row.ensures.value inside c.index_mut-vertex.ensures.value c.in_ok-append.ensures.other_items c.in_ok-append.ensures.items)
+    c.args.node refl refl refl c.in_ok-hand_to.ensures.taken c.in_ok-hand_to.ensures.given
+    (links_moved rows f v row x y c.args.self.now.work.items c.hand_to.new.work.items lt c.index_mut-row.ensures.value inside c.index_mut-vertex.ensures.value c.in_ok-hand_to.ensures.taken c.in_ok-hand_to.ensures.given)
