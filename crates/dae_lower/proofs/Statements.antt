@@ -14,7 +14,7 @@ use Rattle.dae_program.specs.Trees as tree
 use Rattle.dae_program.specs.Trees.{Expression, Expressions, Setting, Statements, Arms}
 use Rattle.dae_program.specs.Scope.{IsIn, AreIn, IsSomeIn, AreSettingsIn, AreStatementsIn, AreArmsIn}
 use Rattle.dae_program.specs.declared.statements.Piece.{Piece}
-use Rattle.dae_program.specs.Outcomes.{Outcome, Gives, Ends, ◌⊳◌}
+use Rattle.dae_program.specs.Outcomes.{Outcome, ◌⊳◌}
 use Rattle.dae_program.specs.Expressions.{Setup, evaluate as value, arguments as values}
 use Rattle.dae_program.specs.Statements.{loop as looped, test as tested, do_effects as evaluated, execute as does, execute_from as does_from}
 use Rattle.dae_program.specs.Switches.{leave_switch as left, first_arm, arm_with, count_arms, count_labels, with_work}
