@@ -73,25 +73,30 @@ fn debug_image<O: Sink, N: Sink>(
         Err(status) => return status,
     };
     match open_session(alloc, image, script, depths.depths()) {
-        Ok(opened) => serve_opened(opened, &mut line, out, note),
+        Ok(mut opened) => serve_opened(&mut opened, &mut line, out, note),
         Err(error) => tell_refusal(error, &mut line, note),
     }
 }
 
 // Does what the commands say, and notes how the machine stands then. It takes no memory.
-fn serve_opened<O: Sink, N: Sink>(opened: Opened, line: &mut Line, out: &mut O, note: &mut N) -> u8
-    requires opened { IsOpened opened.session }
-    ensures gives { GivesDue (DueOfCommands opened.session opened.commands.items) result
+fn serve_opened<O: Sink, N: Sink>(
+    opened: &mut Opened,
+    line: &mut Line,
+    out: &mut O,
+    note: &mut N,
+) -> u8
+    requires opened { IsOpened opened.old.session }
+    ensures gives { GivesDue (DueOfCommands opened.old.session opened.old.commands.items) result
         (sinks (O.seen out.old) (N.seen note.old)) (sinks (O.seen out.new) (N.seen note.new)) }
     ensures has_memory { result ≢ 7 }
 {
-    let Opened {
-        mut session,
-        mut reply,
-        commands,
-    } = opened;
-    match serve(&mut session, &mut reply, commands.as_slice(), out) {
-        Ok(driven) => tell_end(session.machine(), driven, None, line, note),
+    match serve(
+        &mut opened.session,
+        &mut opened.reply,
+        opened.commands.as_slice(),
+        out,
+    ) {
+        Ok(driven) => tell_end(opened.session.machine(), driven, None, line, note),
         Err(_) => 6,
     }
 }

@@ -11,7 +11,7 @@ use dae_debug::{Reply, Session};
 use dae_debug_commands::{Command, read_script};
 use dae_image::Image;
 use dae_machine::OpenError;
-use std::alloc::Global;
+use std::alloc::{AllocError, Global};
 
 /// A session, room for its replies, and its commands.
 #[derive(Drop)]
@@ -35,15 +35,24 @@ pub fn open_session(
     ensures err { IfErr result (λ e. Refuses e image.budget depths) }
 {
     let session = Session::open(alloc, image, depths)?;
-    let Ok(reply) = Reply::with_room(alloc) else {
-        return Err(OpenError::Memory);
-    };
-    let Ok(commands) = read_script(alloc, script) else {
-        return Err(OpenError::Memory);
-    };
-    Ok(Opened {
-        session,
-        reply,
-        commands,
-    })
+    match reply_and_commands(alloc, script) {
+        Ok((reply, commands)) => Ok(Opened {
+            session,
+            reply,
+            commands,
+        }),
+        Err(_) => Err(OpenError::Memory),
+    }
+}
+
+// Room for the replies, and the commands of a script.
+fn reply_and_commands(
+    alloc: Global,
+    script: &[u8],
+) -> Result<(Reply, Vec<Option<Command>>), AllocError>
+    ensures { IfOk result (λ both. AreRead (lines_of script.now) both.1.items) }
+{
+    let reply = Reply::with_room(alloc)?;
+    let commands = read_script(alloc, script)?;
+    Ok((reply, commands))
 }

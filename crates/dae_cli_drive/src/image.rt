@@ -39,7 +39,7 @@ pub fn run_image<O: Sink, N: Sink>(
         Err(status) => return status,
     };
     match Machine::open(alloc, image, options.values().depths) {
-        Ok(machine) => run_opened(machine, &mut line, options, out, note),
+        Ok(mut machine) => run_opened(&mut machine, &mut line, options, out, note),
         Err(error) => tell_refusal(error, &mut line, note),
     }
 }
@@ -89,24 +89,23 @@ pub fn tell_refusal<N: Sink>(error: OpenError, line: &mut Line, note: &mut N) ->
 
 // Lets an opened machine run as the options say, and notes how it came out. It takes no memory.
 fn run_opened<O: Sink, N: Sink>(
-    machine: Machine,
+    machine: &mut Machine,
     line: &mut Line,
     options: &RunOptions,
     out: &mut O,
     note: &mut N,
 ) -> u8
-    requires begun { machine.state.steps ≡ 0 }
-    requires counted { IsCounted machine.state }
-    requires unhalted { machine.state.e.halt ≡ None }
-    ensures gives { GivesDue (DueOfRun machine.setup machine.state options.now) result
+    requires begun { machine.old.state.steps ≡ 0 }
+    requires counted { IsCounted machine.old.state }
+    requires unhalted { machine.old.state.e.halt ≡ None }
+    ensures gives { GivesDue (DueOfRun machine.old.setup machine.old.state options.now) result
         (sinks (O.seen out.old) (N.seen note.old)) (sinks (O.seen out.new) (N.seen note.new)) }
     ensures has_memory { result ≢ 7 }
 {
-    let mut machine = machine;
     let values = options.values();
     let mut words = Words::of(values.schedule);
-    match drive(&mut machine, &mut words, options, out) {
+    match drive(machine, &mut words, options, out) {
         Driven::SinkFailed => 6,
-        driven => tell_end(&machine, driven, values.show, line, note),
+        driven => tell_end(machine, driven, values.show, line, note),
     }
 }

@@ -32,14 +32,6 @@ fn words_in(alloc: Global, line: &str) -> Result<Vec<String>, AllocError> {
     Ok(words)
 }
 
-/// The bytes that a text spells in hexadecimal.
-pub fn bytes_of(alloc: Global, hexadecimal: &str) -> Result<Vec<u8>, AllocError> {
-    match hex::decode(alloc, hexadecimal) {
-        Ok(bytes) => Ok(bytes),
-        Err(_) => Ok(Vec::new(alloc)),
-    }
-}
-
 /// The call with this number, from 1 on, which takes one byte and fails; 0 is none.
 fn failing_at(number: u64) -> FailingCall {
     FailingCall {

@@ -1,12 +1,13 @@
 //! Images and traces of which an end is cut off or a byte is changed.
 
-use crate::calls::{bytes_of, check_answer, shelf_of};
+use crate::calls::{check_answer, shelf_of};
 use crate::changed::CHANGED;
 use crate::held::image_named;
 use crate::others::TRACE;
-use crate::parts::{number_in, part, status_in, told};
+use crate::parts::{number_in, status_in, told};
 use crate::runs::STORES_BESIDE;
 use dae_io::MemShelf;
+use dae_rows::{bytes_of, part};
 use std::alloc::{AllocError, Global};
 use std::process::Abort;
 

@@ -1,9 +1,10 @@
 //! The run of images: worked images under every schedule, damaged ones, and random ones.
 
-use crate::calls::{bytes_of, check_answer, schedules, shelf_of};
+use crate::calls::{check_answer, schedules, shelf_of};
 use crate::images::IMAGES;
-use crate::parts::{number_in, part, status_in, told};
+use crate::parts::{number_in, status_in, told};
 use dae_io::MemShelf;
+use dae_rows::{bytes_of, part};
 use std::alloc::{AllocError, Global};
 use std::process::Abort;
 

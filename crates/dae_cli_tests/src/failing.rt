@@ -4,11 +4,12 @@ use crate::calls::answer_over;
 use crate::compilations::COMPILATIONS;
 use crate::held::{add_pieces, held_by, pieces_in};
 use crate::others::OTHERS;
-use crate::parts::{add, number_in, part, status_in, told};
+use crate::parts::{add, number_in, status_in, told};
 use crate::programs::PROGRAMS;
 use crate::runs::RUNS;
 use crate::traces::TRACES;
 use dae_io::MemShelf;
+use dae_rows::part;
 use std::alloc::{AllocError, Global};
 use std::process::Abort;
 

@@ -4,13 +4,14 @@
 //! tells. Between pieces and between lines stands ^. Where the last line is `steps ` without a number, how many steps there are is the
 //! compiler's.
 
-use crate::calls::{bytes_of, empty_shelf, hold_text};
+use crate::calls::{empty_shelf, hold_text};
 use crate::others::LOOPS;
-use crate::parts::{add, part};
+use crate::parts::add;
 use crate::runs::{
     MESSAGES_TO_A, MESSAGES_TO_E, PRINTS, PRODUCTS, STORES_BESIDE, STORES_THERE, TRAPS,
 };
 use dae_io::MemShelf;
+use dae_rows::{bytes_of, part};
 use std::alloc::{AllocError, Global};
 
 /// How many pieces a part has.

@@ -3,9 +3,10 @@
 use crate::calls::{
     answer_over, check_answer, check_lines, empty_shelf, hold_text, schedules, shelf_of,
 };
-use crate::parts::{add, part, status_in, told};
+use crate::parts::{add, status_in, told};
 use crate::rows::{FILES, LONG, ROWS, TWICE};
 use dae_io::MemShelf;
+use dae_rows::part;
 use std::alloc::{AllocError, Global};
 use std::process::Abort;
 

@@ -38,32 +38,31 @@ pub fn time_image<O: Sink, N: Sink>(
         Err(status) => return status,
     };
     match Timed::open(alloc, image, options.run.values().depths, options.costs) {
-        Ok(timed) => run_timed(timed, &mut line, options, out, note),
+        Ok(mut timed) => run_timed(&mut timed, &mut line, options, out, note),
         Err(error) => tell_refusal(error, &mut line, note),
     }
 }
 
 // Lets an opened machine make its ticks, and notes how it came out. It takes no memory.
 fn run_timed<O: Sink, N: Sink>(
-    timed: Timed,
+    timed: &mut Timed,
     line: &mut Line,
     options: &TimeOptions,
     out: &mut O,
     note: &mut N,
 ) -> u8
-    requires costs { timed.costs ≡ options.now.costs }
-    requires opened { IsOpened timed.clock }
+    requires costs { timed.old.costs ≡ options.now.costs }
+    requires opened { IsOpened timed.old.clock }
     requires few { options.now.ticks ≤ 100000000000 }
     ensures gives { GivesDue
-        (DueOfTicks timed.setup options.now.costs timed.clock options.now.ticks
+        (DueOfTicks timed.old.setup options.now.costs timed.old.clock options.now.ticks
         options.now.run.show) result
         (sinks (O.seen out.old) (N.seen note.old)) (sinks (O.seen out.new) (N.seen note.new)) }
     ensures has_memory { result ≢ 7 }
 {
-    let mut timed = timed;
-    match drive_ticks(&mut timed, options.ticks, out) {
+    match drive_ticks(timed, options.ticks, out) {
         Driven::SinkFailed => 6,
-        driven => tell_times(&timed, driven, options.run.values().show, line, note),
+        driven => tell_times(timed, driven, options.run.values().show, line, note),
     }
 }
 

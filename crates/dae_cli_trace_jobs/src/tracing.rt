@@ -58,30 +58,29 @@ fn trace_image<O: Sink, N: Sink>(
         Err(status) => return status,
     };
     match Machine::open(alloc, image, options.values().depths) {
-        Ok(machine) => trace_opened(machine, &mut line, options, out, note),
+        Ok(mut machine) => trace_opened(&mut machine, &mut line, options, out, note),
         Err(error) => tell_refusal(error, &mut line, note),
     }
 }
 
 // Traces an opened machine, and notes how it came out. It takes no memory.
 fn trace_opened<O: Sink, N: Sink>(
-    machine: Machine,
+    machine: &mut Machine,
     line: &mut Line,
     options: &RunOptions,
     out: &mut O,
     note: &mut N,
 ) -> u8
-    requires begun { machine.state.steps ≡ 0 }
-    requires counted { IsCounted machine.state }
-    requires unhalted { machine.state.e.halt ≡ None }
-    ensures gives { GivesDue (DueOfLines machine.setup machine.state options.now) result
+    requires begun { machine.old.state.steps ≡ 0 }
+    requires counted { IsCounted machine.old.state }
+    requires unhalted { machine.old.state.e.halt ≡ None }
+    ensures gives { GivesDue (DueOfLines machine.old.setup machine.old.state options.now) result
         (sinks (O.seen out.old) (N.seen note.old)) (sinks (O.seen out.new) (N.seen note.new)) }
     ensures has_memory { result ≢ 7 }
 {
-    let mut machine = machine;
-    match drive_trace(&mut machine, options, out) {
+    match drive_trace(machine, options, out) {
         Driven::SinkFailed => 6,
-        driven => tell_end(&machine, driven, None, line, note),
+        driven => tell_end(machine, driven, None, line, note),
     }
 }
 

@@ -1,5 +1,5 @@
 // A machine with its clock, and the five parts of a tick.
-ghost use Rattle.std.specs.Prelude.{◌≡◌, ◌<◌, ◌+◌, ◌^◌, ℕ, IfOk, IfSome, IsSome, length};
+ghost use Rattle.std.specs.Prelude.{◌≡◌, ◌<◌, ◌+◌, ◌^◌, ℕ, [], IfOk, IfSome, IsSome, length, map};
 ghost use Rattle.dae_base.specs.declared.Side.TheVariants.{A, E};
 ghost use Rattle.dae_core.specs.Held.{CanHold};
 ghost use Rattle.dae_machine.specs.Answers.{answer, processor};
@@ -7,7 +7,7 @@ ghost use Rattle.dae_machine.specs.Machine.{code, step};
 ghost use Rattle.dae_machine.specs.Opened.{opened, setup_of};
 ghost use Rattle.dae_machine.specs.Rests.{Rests};
 ghost use Rattle.dae_timing.specs.Clocks.{first_clock, issues_after, waits_for, waits_of};
-ghost use Rattle.dae_timing.specs.Costs.{cost_of, price_at};
+ghost use Rattle.dae_timing.specs.Costs.{cost_of, price_at, price_of_word};
 ghost use Rattle.dae_timing.specs.Runs.{with_print};
 ghost use Rattle.dae_timing.specs.Ticks.{after_drain, after_fill, after_side, after_side_by, after_wait, drain_of, fill_of, move_of, step_of};
 
@@ -68,14 +68,15 @@ impl Clockwork {
         ensures costs { IfOk result (λ w. w.costs ≡ costs) }
         ensures clock { IfOk result (λ w. w.clock ≡ first_clock machine.state) }
     {
+        let (prices_a, prices_e, ld, al) = before_first_tick(alloc, image, depths)?;
         Ok(Clockwork {
             machine,
             costs,
-            prices_a: prices_of(alloc, image.code_a.as_slice())?,
-            prices_e: prices_of(alloc, image.code_e.as_slice())?,
+            prices_a,
+            prices_e,
             ticks: 0,
-            ld: RingFifo::with_depth(alloc, depths.ld)?,
-            al: RingFifo::with_depth(alloc, depths.al)?,
+            ld,
+            al,
             free_a: 0,
             free_e: 0,
             waits_a: Waits::none(),
@@ -264,6 +265,26 @@ impl Clockwork {
     {
         self.ticks += 1;
     }
+}
+
+/// What stands beside a machine before its first tick: the price of each word of its codes, of A and of E, and no ticks of
+/// issue, of ld and of al.
+fn before_first_tick(
+    alloc: Global,
+    image: &Image,
+    depths: Depths,
+) -> Result<(Vec<Price>, Vec<Price>, RingFifo<u64>, RingFifo<u64>), AllocError>
+    requires { CanHold depths }
+    ensures prices_a { IfOk result (λ all. all.0.items ≡ map price_of_word image.now.code_a) }
+    ensures prices_e { IfOk result (λ all. all.1.items ≡ map price_of_word image.now.code_e) }
+    ensures ld { IfOk result (λ all. all.2 ≡ record { held = []; depth = depths.ld }) }
+    ensures al { IfOk result (λ all. all.3 ≡ record { held = []; depth = depths.al }) }
+{
+    let prices_a = prices_of(alloc, image.code_a.as_slice())?;
+    let prices_e = prices_of(alloc, image.code_e.as_slice())?;
+    let ld = RingFifo::with_depth(alloc, depths.ld)?;
+    let al = RingFifo::with_depth(alloc, depths.al)?;
+    Ok((prices_a, prices_e, ld, al))
 }
 
 /// Follows a load queue that went from so many slots to so many: notes the tick of issue of the slot that came, or drops that

@@ -21,20 +21,19 @@ pub fn check(alloc: Global, image: &Image, depths: Depths, trace: &[u8]) -> Trac
     ensures { Checks result image.now depths trace.now }
 {
     match Machine::open(alloc, image, depths) {
-        Ok(machine) => follow(machine, trace),
+        Ok(mut machine) => follow(&mut machine, trace),
         Err(OpenError::DepthBelow(queue, needs, has)) => TraceAnswer::Depth(queue, needs, has),
         Err(OpenError::Memory) => TraceAnswer::Memory,
     }
 }
 
 // What bytes are as a trace of a machine before its first step.
-fn follow(machine: Machine, trace: &[u8]) -> TraceAnswer
-    requires begun { machine.state.steps ≡ 0 }
-    requires numbered { Numbered machine.state }
+fn follow(machine: &mut Machine, trace: &[u8]) -> TraceAnswer
+    requires begun { machine.old.state.steps ≡ 0 }
+    requires numbered { Numbered machine.old.state }
     requires short { length trace.now ≤ 268435456 }
-    ensures { Follows result machine.setup machine.state trace.now }
+    ensures { Follows result machine.old.setup machine.old.state trace.now }
 {
-    let mut machine = machine;
     let mut rest = trace;
     let mut number: u32 = 0;
     while !rest.is_empty() {
@@ -43,7 +42,7 @@ fn follow(machine: Machine, trace: &[u8]) -> TraceAnswer
         let Some(pick) = read_line(text) else {
             return TraceAnswer::BadLine(number);
         };
-        if !step_by(&mut machine, pick, text) {
+        if !step_by(machine, pick, text) {
             return TraceAnswer::NotARun(number);
         }
         rest = later;

@@ -241,6 +241,13 @@ fn push_functions(
     Ok(())
 }
 
+/// The functions of a file, whose other parts go.
+fn functions_of_file(file: TypedFile) -> Items<TypedFunction>
+    ensures { result ≡ file.functions }
+{
+    file.into_parts().functions
+}
+
 /// The functions of the program, in the order of the files and of the text.
 pub fn functions_of(alloc: Global, files: Vec<TypedFile>) -> Result<Vec<Function>, AllocError>
     requires { length files.items < 2 ^ 32 }
@@ -249,7 +256,7 @@ pub fn functions_of(alloc: Global, files: Vec<TypedFile>) -> Result<Vec<Function
     let mut functions = Vec::new(alloc);
     let mut number: u32 = 0;
     for file in files {
-        push_functions(&mut functions, number, file.into_parts().functions)?;
+        push_functions(&mut functions, number, functions_of_file(file))?;
         number = number.saturating_add(1);
     }
     Ok(functions)

@@ -47,8 +47,8 @@ returns-in-Some-Stuck c =
     let rests = rests_so c.rest.result (Some Stuck) _ _ (cc) c.rest.ensures in
     ends_stuck _ _ _ _ _ way none rests
 
-pub returns : goal.returns
-returns c =
+pub returns-in-None : goal.returns-in-None
+returns-in-None c =
     let way = c.loop-rest.invariant in
     let none : c.loop-rest.rest.now ≡ [] = empty c.loop-rest.rest.now c.is_empty.result c.is_empty.ensures (search rules) in
     let rests = rests_so c.rest.result None _ _ (cc) c.rest.ensures in
