@@ -1,6 +1,6 @@
 // What is known along a list of steps, and how much of their blocks is needed.
 
-ghost use Rattle.std.specs.Prelude.{◌≡◌, ◌≤◌, ◌<◌, ℕ, false, if◌then◌else◌, length, nat_eq, slice_index_or, IfOk};
+ghost use Rattle.std.specs.Prelude.{◌≡◌, ◌≤◌, ◌<◌, ℕ, false, if◌then◌else◌, length, nat_eq, nat_lt, slice_index_or, IfOk};
 ghost use Rattle.dae_ir.specs.Streams.{actions_of};
 ghost use Rattle.dae_select_walks.specs.Facts.{needed, tells_within};
 ghost use Rattle.dae_select_walks.specs.declared.Need.TheVariants.{All, Nothing};
@@ -166,6 +166,32 @@ fn count_asked(steps: &[Step]) -> usize
     asked
 }
 
+/// Whether there are further steps behind the next ones, up to the last that asks.
+fn more_ask(next: usize, asked: usize) -> bool
+    ensures { result ≡ nat_lt next asked }
+{
+    next < asked
+}
+
+/// What is known behind a step, where one of the further steps asks for it: up to it there are so many, and up to the last that asks.
+fn facts_up_to(
+    alloc: Global,
+    memory: u32,
+    known: Known,
+    step: &Step,
+    next: usize,
+    asked: usize,
+) -> Result<Known, AllocError>
+    ensures { IfOk result (λ new. next < asked
+        → facts_by new ≡ facts_after memory step.now (facts_by known)) }
+{
+    if more_ask(next, asked) {
+        facts_after(alloc, memory, known, step)
+    } else {
+        Ok(known)
+    }
+}
+
 /// The same of each step of a list. What is known is followed up to the last step that asks for it.
 pub fn all_before(
     alloc: Global,
@@ -181,7 +207,7 @@ pub fn all_before(
     for index in 0..asked {
         let step = &steps[index];
         all.push(told_before(alloc, memory, &known, step, &steps[index + 1..])?)?;
-        known = facts_after(alloc, memory, known, step)?;
+        known = facts_up_to(alloc, memory, known, step, index + 1, asked)?;
     }
     for place in asked..steps.len() {
         let step = &steps[place];

@@ -12,7 +12,7 @@ use Rattle.dae_select_facts.proofs.along.all_before.Goals as goal
 pub loop-index-init : goal.loop-index-init
 loop-index-init c = record {
   all = none_before c.args.memory (facts_by c.args.known) c.args.steps.now c.new-all.result.items c.new-all.ensures.items;
-  known = refl;
+  known = λ lt. refl;
 }
 
 pub loop-index-preserved : goal.loop-index-preserved
@@ -23,12 +23,12 @@ loop-index-preserved c =
     let lt : i < length steps = omega arith in
     let b = c.in_ok-told_before.field-0 in
     let told : IsBefore m (facts_at m begin steps i) s (actions_of (drop (i + 1) steps)) b.need (facts_by b.known) =
-    subst (λ (f : Facts). IsBefore m f s (actions_of (drop (i + 1) steps)) b.need (facts_by b.known)) l.invariant.known
+    subst (λ (f : Facts). IsBefore m f s (actions_of (drop (i + 1) steps)) b.need (facts_by b.known)) (l.invariant.known before)
     (subst (λ (z : List Step). IsBefore m (facts_by l.known) s (actions_of z) b.need (facts_by b.known)) (rest_is (i + 1) steps) c.in_ok-told_before.ensures) in
     let next : suc i ≡ i + 1 = omega arith in
     record {
       all = one_before m begin steps l.all.items c.push.new.self.items i s b (drop (i + 1) steps) lt c.index-steps-index.is c.in_ok-push.ensures.items refl told l.invariant.all;
-      known = c.in_ok-known.ensures ∙ ap (λ (f : Facts). facts_after m s f) l.invariant.known ∙ sym (facts_next m begin steps i s lt c.index-steps-index.is) ∙ ap (λ (n : ℕ). facts_at m begin steps n) next;
+      known = λ more. c.in_ok-known.ensures more ∙ ap (λ (f : Facts). facts_after m s f) (l.invariant.known before) ∙ sym (facts_next m begin steps i s lt c.index-steps-index.is) ∙ ap (λ (n : ℕ). facts_at m begin steps n) next;
     }
 
 pub loop-place-init : goal.loop-place-init
