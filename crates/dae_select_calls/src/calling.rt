@@ -2,9 +2,10 @@
 
 ghost use Rattle.std.specs.Prelude.{if◌then◌else◌, ◌≡◌, ◌+◌, ◌*◌, ◌++◌, ◌∷◌, [], pos, ◌^◌, ◌%◌, ◌&&◌, nat_lt, IfOk, OnOk};
 ghost use Rattle.dae_encode.specs.declared.Inst.TheVariants.{Jalr};
-ghost use Rattle.dae_select_blocks.specs.Blocks.{is_register, save_code, parameters_code, restore_code, more_code, less_code, deeper_code, back_code, result_code, count_code, prologue_code, epilogue_code, leave_code};
+ghost use Rattle.dae_select_blocks.specs.Blocks.{is_register, save_code, restore_code, more_code, less_code, deeper_code, back_code, result_code, count_code, prologue_code, epilogue_code, leave_code};
 ghost use Rattle.dae_select_blocks.specs.Code.{some_below, filtered, registers_in, call_code};
 ghost use Rattle.dae_select_calls.specs.Makings.{plan_by, variables_by, IsSound};
+ghost use Rattle.dae_select_calls.specs.Passing.{pass_code, resume_code};
 ghost use Rattle.dae_select_walks.specs.Live.{with_all};
 ghost use Rattle.dae_select_values.specs.Sides.{is_a};
 ghost use Rattle.dae_select_values.specs.Tables.{AreNear, home_by};
@@ -230,9 +231,8 @@ fn pass_code(
     registers: &[u8],
 ) -> Result<(), AllocError>
     requires { IsSound making.now }
-    ensures { OnOk result (code.new.items ≡ code.old.items ++ (save_code registers.now
-        ++ (parameters_code (plan_by making.now) making.now.function callee arguments.now
-        ++ deeper_code (plan_by making.now) making.now.function callee))) }
+    ensures { OnOk result (code.new.items ≡ code.old.items ++ pass_code (plan_by making.now)
+        making.now.function callee arguments.now registers.now) }
 {
     save_code(code, registers)?;
     parameters_code(code, making, callee, arguments)?;
@@ -247,10 +247,8 @@ fn resume_code(
     registers: &[u8],
 ) -> Result<(), AllocError>
     requires { IsSound making.now }
-    ensures { OnOk result (code.new.items ≡ code.old.items
-        ++ (back_code (plan_by making.now) making.now.function callee.function
-        ++ (restore_code registers.now
-        ++ result_code (home_by making.now.homes.entry) callee.result))) }
+    ensures { OnOk result (code.new.items ≡ code.old.items ++ resume_code (plan_by making.now)
+        making.now.function callee.function callee.result registers.now) }
 {
     back_code(code, making, callee.function)?;
     restore_code(code, registers)?;
