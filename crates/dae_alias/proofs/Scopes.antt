@@ -1,6 +1,6 @@
 -- A form whose loads are reused is as well made as before, and sets each variable before it reads it.
 use Rattle.std.proofs.Common.{◌≡◌, ◌⊎◌, ℕ, suc, ◌+◌, ◌<◌, ◌≤◌, Bool, true, false, ◌&&◌, ◌||◌, nat_eq, if◌then◌else◌, List, [], ◌∷◌, length, Option, Some, None, inl, inr, refl, sym, ◌∙◌, subst, arith}
-use Rattle.std.proofs.lemmas.Bool.{and_parts, or_right}
+use Rattle.std.proofs.lemmas.Bool.{or_right}
 use Rattle.std.specs.Prelude.{not}
 use Rattle.std.specs.List.{AllByRecursion}
 use Rattle.dae_base.specs.declared.Place.{Place}
@@ -10,20 +10,20 @@ use Rattle.dae_base.specs.Words.{width_of}
 use Rattle.dae_meaning.specs.Variables.{VariableSet, with_set, all_set}
 use Rattle.dae_ir.specs.Code.{Done, Do, If, Loop, Each, every}
 use Rattle.dae_ir.specs.Form.{Form}
-use Rattle.dae_ir.specs.Classes.{has, has_test, has_value, has_check}
+use Rattle.dae_ir.specs.Classes.{has}
 use Rattle.dae_ir.specs.Rounds.{stays}
-use Rattle.dae_ir.specs.SetFirst.{form_flow, IsSetFirst, assured, AllRead}
+use Rattle.dae_ir.specs.SetFirst.{form_flow, IsSetFirst, assured}
 use Rattle.dae_ir.specs.Scope.{IsIn, IsTarget, ValueIn, TestIn, ItemIn, closes, is_return, never_returns}
 use Rattle.dae_ir.specs.declared.form.Operand.{Operand}
 use Rattle.dae_ir.specs.declared.form.Operand.TheVariants.{Variable, Number}
 use Rattle.dae_ir.specs.declared.form.Value.{Value}
 use Rattle.dae_ir.specs.declared.form.Value.TheVariants as val
 use Rattle.dae_ir.specs.declared.form.Test.{Test}
-use Rattle.dae_ir.specs.declared.form.Check.{Check}
 use Rattle.dae_ir.specs.declared.form.Check.TheVariants.{Place as Good, Zero, Room, Frame, Abort}
 use Rattle.dae_ir.specs.declared.form.Function.{Function}
 use Rattle.dae_ir.specs.declared.form.Item.{Item}
 use Rattle.dae_ir.specs.declared.form.Item.TheVariants.{Assign, Load, Store, Print, Expect, Break, Continue, Call, Return, Halt}
+use Rattle.dae_ir.proofs.Laws.{and_more, set_more, has_more, test_more, value_more, check_more, operands_more}
 use Rattle.dae_alias.specs.declared.addresses.SymAddr.{SymAddr}
 use Rattle.dae_alias.specs.Addresses.{same_place, same_kind, are_apart}
 use Rattle.dae_alias.specs.Stretches.{Known, nothing, symbol, after}
@@ -185,44 +185,8 @@ reuse_keeps_scope fs gs h own n same some few within' code names =
 abbrev Sub : VariableSet → VariableSet → Type 0
 Sub d e = (v : ℕ) → d v ≡ true → e v ≡ true
 
-or_more : (b c d : Bool) → (c ≡ true → d ≡ true) → (b || c) ≡ true → (b || d) ≡ true
-or_more true c d h k = refl
-or_more false c d h k = h k
-
-and_more : (b c b' c' : Bool) → (b ≡ true → b' ≡ true) → (c ≡ true → c' ≡ true) → (b && c) ≡ true → (b' && c') ≡ true
-and_more b c b' c' h k both = let p = and_parts b c both in rw (h p.0, k p.1) refl
-
-set_more : (v : ℕ) (d e : VariableSet) → Sub d e → Sub (with_set v d) (with_set v e)
-set_more v d e h u k = or_more (nat_eq u v) (d u) (e u) (h u) k
-
 set_grows : (v : ℕ) (d : VariableSet) → Sub d (with_set v d)
 set_grows v d u k = or_right (nat_eq u v) (d u) k
-
-module _ (d e : VariableSet) (sub : Sub d e) where
-  has_more : (x : Operand) → has d x ≡ true → has e x ≡ true
-  has_more (Variable v) h = sub v h
-  has_more (Number k) h = refl
-
-  test_more : (t : Test) → has_test d t ≡ true → has_test e t ≡ true
-  test_more t h = and_more _ _ _ _ (has_more t.left) (has_more t.right) h
-
-  value_more : (x : Value) → has_value d x ≡ true → has_value e x ≡ true
-  value_more (val.Same x) h = has_more x h
-  value_more (val.Extended kind x) h = has_more x h
-  value_more (val.Binary operator x y) h = and_more _ _ _ _ (has_more x) (has_more y) h
-  value_more (val.Holds t) h = test_more t h
-  value_more (val.FrameAddress offset) h = refl
-
-  check_more : (check : Check) → has_check d check ≡ true → has_check e check ≡ true
-  check_more (Good width x) h = has_more x h
-  check_more (Zero x) h = has_more x h
-  check_more (Room g) h = refl
-  check_more Frame h = refl
-  check_more Abort h = refl
-
-  all_more : (xs : List Operand) → AllRead d xs → AllRead e xs
-  all_more [] h = tt
-  all_more (x ∷ xs) h = (has_more x h.0, all_more xs h.1)
 
 module _ (h : Holders) where
   -- the variables of what is held are set
@@ -319,7 +283,7 @@ module _ (h : Holders) where
   code_first (Do place (Print spelling x) k) s held l d e sub a f = (has_more d e sub x f.0, code_first k nothing [] l d e sub tt f.1)
   code_first (Do place Break k) s held l d e sub a f = (tt, code_first k nothing [] l all_set all_set (λ v is. is) tt f.1)
   code_first (Do place Continue k) s held l d e sub a f = (tt, code_first k nothing [] l all_set all_set (λ v is. is) tt f.1)
-  code_first (Do place (Call v g xs) k) s held l d e sub a f = (all_more d e sub xs f.0, code_first k nothing [] l (with_set v d) (with_set v e) (set_more v d e sub) tt f.1)
+  code_first (Do place (Call v g xs) k) s held l d e sub a f = (operands_more d e sub xs f.0, code_first k nothing [] l (with_set v d) (with_set v e) (set_more v d e sub) tt f.1)
   code_first (Do place (Return x) k) s held l d e sub a f = (has_more d e sub x f.0, code_first k nothing [] l all_set all_set (λ v is. is) tt f.1)
   code_first (Do place (Halt x) k) s held l d e sub a f = (has_more d e sub x f.0, code_first k nothing [] l all_set all_set (λ v is. is) tt f.1)
   code_first (If place t p q k) s held l d e sub a f = (

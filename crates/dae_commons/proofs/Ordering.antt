@@ -16,6 +16,7 @@ use Rattle.dae_ir.specs.declared.form.Check.{Check}
 use Rattle.dae_ir.specs.declared.form.Check.TheVariants.{Place as Good, Zero, Room, Frame, Abort}
 use Rattle.dae_ir.specs.declared.form.Item.{Item}
 use Rattle.dae_ir.specs.declared.form.Item.TheVariants.{Assign, Load, Store, Print, Expect, Break, Continue, Call, Return, Halt}
+use Rattle.dae_ir.proofs.Laws.{meet as both}
 use Rattle.dae_commons.specs.declared.equations.Equation.{Equation}
 use Rattle.dae_commons.specs.Equations.{equations_in, both_known, met, with_equation, without_variable, known_in_loop}
 use Rattle.dae_commons.specs.Copies.{source_in, propagated_operand, propagated_operands, propagated_test, propagated_value, propagated_check, is_operand}
@@ -36,9 +37,6 @@ AreSet d (Some q) = AreNamed (IsSet d) q
 set_in : (d : VariableSet) (k : Option (List Equation)) → AreSet d k → AreNamed (IsSet d) (equations_in k)
 set_in d None all = tt
 set_in d (Some q) all = all
-
-abbrev both : VariableSet → VariableSet → VariableSet
-both a b v = a v && b v
 
 met_set : (a b : VariableSet) (j k : Option (List Equation)) → AreSet a j → AreSet b k → AreSet (both a b) (met j k)
 met_set a b None None h g = λ v. and_from (a v) (b v) (h v) (g v)

@@ -1,5 +1,5 @@
 -- What passes from form to form keep, one behind another. Each pass has its link here, by its law, from a form to one behind it.
-use Rattle.std.proofs.Common.{◌≡◌, ℕ, zero, suc, ◌≤◌, List, [], ◌∷◌, length, Some, None, refl, sym, ◌∙◌, subst, arith}
+use Rattle.std.proofs.Common.{◌≡◌, ℕ, zero, suc, ◌^◌, ◌≤◌, List, [], ◌∷◌, length, Some, None, refl, ap, sym, ◌∙◌, subst, arith}
 use Rattle.std.specs.Prelude.{slice_get}
 use Rattle.std.specs.List.{AllByRecursion}
 use Rattle.dae_meaning.specs.Alike.{Alike, Same, BothAt, BothOver}
@@ -9,6 +9,7 @@ use Rattle.dae_meaning.specs.Worlds.{World}
 use Rattle.dae_meaning.proofs.Laws.{alike_then, alike_weaker}
 use Rattle.dae_ir.specs.Form.{Form, form_of}
 use Rattle.dae_ir.specs.Classes.{Classes, AreAddressesClosed, IsWithin, classes_of, is_by_a}
+use Rattle.dae_ir.specs.Laws.{SameVariables}
 use Rattle.dae_ir.specs.Programs.{AreClassesOf, outcome, program_of}
 use Rattle.dae_ir.specs.Scope.{IsScoped}
 use Rattle.dae_ir.specs.SetFirst.{IsFunctionSetFirst}
@@ -17,39 +18,57 @@ use Rattle.dae_ir.specs.declared.form.Function.{Function}
 use Rattle.dae_ir.specs.declared.form.Ir.{Ir}
 use Rattle.dae_ir.specs.declared.stream.Class.{Class}
 use Rattle.dae_alias.specs.Forms.{KeepsForm, IsReuseOf}
-use Rattle.dae_alias.specs.Laws.{Cheaper, SameResult}
+use Rattle.dae_alias.specs.Laws.{counted, Cheaper, Costs, SameResult}
 use Rattle.dae_alias.proofs.Slices.{bit_within, load_within, tally_within, test_within}
 use Rattle.dae_commons.specs.Forms.{rows_behind, AreCommonedFunctions, FormsAreCommoned, KeepsOutcomes}
 use Rattle.dae_hoist.specs.Forms.{further_rows, AreHoistedFunctions, IsHoistOf, KeepsWithRows, FormsAreHoisted}
 use Rattle.dae_elide.specs.Forms.{AreElidedFunctions, IsElisionOf, ChecksAreElided}
+use Rattle.dae_threads.specs.Forms.{AreThreadedFunctions, IsThreadingOf, HasNoMoreItems, FormsAreThreaded}
+use Rattle.dae_threads.proofs.Items.{no_more, items_then}
 use Rattle.dae_webs.specs.Forms.{AreRenamedFunctions, FormsAreRenamed, IsRenamingOf, HaveSameResult}
 use Rattle.dae_compile_promise.specs.Promises.{KeepsLowered, IsLaterForm}
 use Rattle.dae_compile.specs.Passes.{HasSumsAtAccesses, IsWithoutCommons}
 
 -- ---- ends
 
--- what ends with the same result as something does, and in the same world, ends alike with what that ends alike with
+-- what ends with the same result as something does, and in the same world but for items that are no more, ends alike with what that
+-- ends alike with
 results_on : (e g : Env) → (f : Env) × HaveSameResult e f × SameResult f g → SameResult e g
 results_on e g h = h.1 ∙ h.2
 
-worlds_on : (w v : World) → (u : World) × Same w u × Cheaper u v → Cheaper w v
-worlds_on w v h = subst (λ (u : World). Cheaper u v) (sym h.1) h.2
+cheaper_on : (w u v : World) → HasNoMoreItems w u → Cheaper u v → Cheaper w v
+cheaper_on w u v h (Costs x i l j k fits loads items) =
+    let few : i ≤ w.items = h.items in
+    let same : counted j k x ≡ counted j k w = ap (λ (z : World). counted j k z) h.rest in
+    let loaded : l ≡ w.loads = ap (λ (z : World). z.loads) h.rest in
+    let sized : length x.memory ≡ length w.memory = ap (λ (z : World). length z.memory) h.rest in
+    subst (λ (z : World). Cheaper w z) (sym same)
+    (Costs w w.items w.loads j k (subst (λ (n : ℕ). n ≤ 2 ^ 32) sized fits) (subst (λ (n : ℕ). k ≤ n) loaded loads) (omega (arith, items, few, loaded)))
 
-ends_on : (r s t : Result Env) → Alike HaveSameResult Same r s → Alike SameResult Cheaper s t → Alike SameResult Cheaper r t
-ends_on r s t h k = alike_weaker _ _ SameResult Cheaper results_on worlds_on r t (alike_then HaveSameResult Same SameResult Cheaper r s t h k)
+worlds_on : (w v : World) → (u : World) × HasNoMoreItems w u × Cheaper u v → Cheaper w v
+worlds_on w v h = cheaper_on w h.0 v h.1 h.2
 
-same_worlds : (w v : World) → (u : World) × Same w u × Same u v → Same w v
-same_worlds w v h = h.1 ∙ h.2
+ends_on : (r s t : Result Env) → Alike HaveSameResult HasNoMoreItems r s → Alike SameResult Cheaper s t → Alike SameResult Cheaper r t
+ends_on r s t h k = alike_weaker _ _ SameResult Cheaper results_on worlds_on r t (alike_then HaveSameResult HasNoMoreItems SameResult Cheaper r s t h k)
 
-same_ends : (r s t : Result Env) → Alike HaveSameResult Same r s → Alike HaveSameResult Same s t → Alike HaveSameResult Same r t
-same_ends r s t h k = alike_weaker _ _ HaveSameResult Same results_on same_worlds r t (alike_then HaveSameResult Same HaveSameResult Same r s t h k)
+ends_then : (r s t : Result Env) → Alike HaveSameResult HasNoMoreItems r s → Alike HaveSameResult HasNoMoreItems s t → Alike HaveSameResult HasNoMoreItems r t
+ends_then r s t h k = alike_weaker _ _ HaveSameResult HasNoMoreItems results_on items_then r t (alike_then HaveSameResult HasNoMoreItems HaveSameResult HasNoMoreItems r s t h k)
 
-ends_itself : (r : Result Env) → Alike HaveSameResult Same r r
-ends_itself (At way e w) = BothAt way e e w w refl refl
-ends_itself (Over end w) = BothOver end w w refl
+in_itself : (w : World) → HasNoMoreItems w w
+in_itself w = (let same : w.items ≤ w.items = omega arith in no_more w w.items w.items same)
 
-equally : (r s : Result Env) → s ≡ r → Alike HaveSameResult Same r s
-equally r s same = subst (λ (t : Result Env). Alike HaveSameResult Same r t) (sym same) (ends_itself r)
+one_world : (w u : World) → Same w u → HasNoMoreItems w u
+one_world w u same = subst (λ (z : World). HasNoMoreItems w z) same (in_itself w)
+
+in_one_world : (r s : Result Env) → Alike HaveSameResult Same r s → Alike HaveSameResult HasNoMoreItems r s
+in_one_world r s h = alike_weaker HaveSameResult Same HaveSameResult HasNoMoreItems (λ e f same. same) one_world r s h
+
+ends_itself : (r : Result Env) → Alike HaveSameResult HasNoMoreItems r r
+ends_itself (At way e w) = BothAt way e e w w refl (in_itself w)
+ends_itself (Over end w) = BothOver end w w (in_itself w)
+
+equally : (r s : Result Env) → s ≡ r → Alike HaveSameResult HasNoMoreItems r s
+equally r s same = subst (λ (t : Result Env). Alike HaveSameResult HasNoMoreItems r t) (sym same) (ends_itself r)
 
 -- ---- numbers
 
@@ -69,15 +88,15 @@ pub record HasNoMoreAccess (ir new : Ir) (of : ℕ → Classes) : Type 0 where
   pub most : (k : ℕ) (f g : Function) → slice_get ir.functions k ≡ Some f → slice_get new.functions k ≡ Some g
       → (own_loads (sets k) (form_of g.body) ≤ own_loads (of k) (form_of f.body)) × (conditions_a (sets k) (form_of g.body) ≤ conditions_a (of k) (form_of f.body))
 
--- In a memory as large as the form's the new one ends as the form does, under each bound on turns, in the same world and with the
--- same result. It is as well made, and sets each variable before it reads it. What keeps what leads to addresses in the form has its
+-- In a memory as large as the form's the new one ends as the form does, under each bound on turns, with the same result, and in the same
+-- world but for items that are no more. It is as well made, and sets each variable before it reads it. What keeps what leads to addresses in the form has its
 -- like in it.
 pub record IsBehind (ir new : Ir) : Type 0 where
   pub memory : new.memory ≡ ir.memory
   pub frames : new.frames ≡ ir.frames
   pub calls : new.calls ≡ ir.calls
   pub there : (k : ℕ) (f : Function) → slice_get ir.functions k ≡ Some f → (g : Function) × (slice_get new.functions k ≡ Some g)
-  pub meaning : (n : ℕ) (words : List ℕ) → length words ≡ ir.memory → Alike HaveSameResult Same (outcome ir n words) (outcome new n words)
+  pub meaning : (n : ℕ) (words : List ℕ) → length words ≡ ir.memory → Alike HaveSameResult HasNoMoreItems (outcome ir n words) (outcome new n words)
   pub scoped : IsScoped new
   pub first : AllByRecursion IsFunctionSetFirst ir.functions → AllByRecursion IsFunctionSetFirst new.functions
   pub access : (of : ℕ → Classes) → AreAddressesClosed (program_of ir) (λ k. (of k).s) → HasNoMoreAccess ir new of
@@ -102,7 +121,7 @@ module _ (ir mid new : Ir) (one : IsBehind ir mid) (other : IsBehind mid new) wh
     frames = other.frames ∙ one.frames;
     calls = other.calls ∙ one.calls;
     there = λ k f at. (let g = one.there k f at in other.there k g.0 g.1);
-    meaning = λ n words size. same_ends (outcome ir n words) (outcome mid n words) (outcome new n words) (one.meaning n words size) (other.meaning n words (size ∙ sym one.memory));
+    meaning = λ n words size. ends_then (outcome ir n words) (outcome mid n words) (outcome new n words) (one.meaning n words size) (other.meaning n words (size ∙ sym one.memory));
     scoped = other.scoped;
     first = λ h. other.first (one.first h);
     access = access_then;
@@ -124,7 +143,7 @@ renamed_behind law ir new scoped is =
       frames = is.frames;
       calls = is.calls;
       there = renamed_there ir.functions new.functions is.functions;
-      meaning = λ n words size. keeps.meaning n words;
+      meaning = λ n words size. in_one_world (outcome ir n words) (outcome new n words) (keeps.meaning n words);
       scoped = keeps.scoped;
       first = keeps.first;
       access = λ of closed. (let s = keeps.access of closed in record {
@@ -189,7 +208,7 @@ commoned_behind hoisting law ir new scoped is =
       frames = made.frames ∙ hoist.frames;
       calls = made.calls ∙ hoist.calls;
       there = λ k f at. (let g = hoisted_there is.tables is.rows ir.functions mid.functions hoist.functions k f at in commoned_there is.rows mid.functions new.functions made.functions k g.0 g.1);
-      meaning = λ n words size. same_ends (outcome ir n words) (outcome mid n words) (outcome new n words) (one.meaning n words) (equally (outcome mid n words) (outcome new n words) (keeps.outcomes n words));
+      meaning = λ n words size. ends_then (outcome ir n words) (outcome mid n words) (outcome new n words) (in_one_world (outcome ir n words) (outcome mid n words) (one.meaning n words)) (equally (outcome mid n words) (outcome new n words) (keeps.outcomes n words));
       scoped = keeps.scoped one.scoped;
       first = λ h. keeps.first (one.first h);
       access = commoned_access is.tables is.rows ir mid new is.least hoist one keeps;
@@ -251,6 +270,33 @@ summed_behind law ir new scoped is =
       access = summed_access is.tables ir new is.least keeps;
     }
 
+-- ---- with conditions threaded
+
+threaded_there : (fs gs : List Function) → AreThreadedFunctions fs gs → (k : ℕ) (f : Function) → slice_get fs k ≡ Some f → (g : Function) × (slice_get gs k ≡ Some g)
+threaded_there [] gs a k f at = absurd (let c : None ≡ Some f = at in cc)
+threaded_there (f ∷ fs) [] a k h at = absurd a
+threaded_there (f ∷ fs) (g ∷ gs) a zero h at = (g, refl)
+threaded_there (f ∷ fs) (g ∷ gs) a (suc k) h at = threaded_there fs gs a.1 k h at
+
+pub threaded_behind : FormsAreThreaded → (ir new : Ir) → IsScoped ir → IsThreadingOf ir new → IsBehind ir new
+threaded_behind law ir new scoped is =
+    let keeps = law ir new scoped is in
+    record {
+      memory = is.memory;
+      frames = is.frames;
+      calls = is.calls;
+      there = threaded_there ir.functions new.functions is.functions;
+      meaning = λ n words size.
+          alike_weaker SameVariables HasNoMoreItems HaveSameResult HasNoMoreItems (λ e f same. ap (λ (x : Env). x 0) same) (λ w u l. l) (outcome ir n words) (outcome new n words) (keeps.meaning n words);
+      scoped = keeps.scoped;
+      first = keeps.first;
+      access = λ of closed. record {
+        sets = of;
+        closed = keeps.access of closed;
+        most = λ k f g at at'. keeps.counts (of k) k f g at at';
+      };
+    }
+
 -- ---- all passes
 
 -- before loads are reused
@@ -270,6 +316,13 @@ module _ (lowered named common bare near : Ir) where
   passes_before webs hoisting commons checks scoped renamed without elided summed =
       let one = up_to_checks webs hoisting commons checks scoped renamed without elided in
       behind_both lowered bare near one (summed_behind commons bare near one.scoped summed)
+
+-- and with conditions threaded
+pub all_passes_before : (lowered named common bare near threaded : Ir) → FormsAreRenamed → FormsAreHoisted → FormsAreCommoned → ChecksAreElided → FormsAreThreaded → IsScoped lowered
+    → IsRenamingOf lowered named → IsWithoutCommons named common → IsElisionOf common bare → HasSumsAtAccesses bare near → IsThreadingOf near threaded → IsBehind lowered threaded
+all_passes_before lowered named common bare near threaded webs hoisting commons checks threading scoped renamed without elided summed is =
+    let one = passes_before lowered named common bare near webs hoisting commons checks scoped renamed without elided summed in
+    behind_both lowered near threaded one (threaded_behind threading near threaded one.scoped is)
 
 -- and then they are
 module _ (lowered bare ir : Ir) (before : IsBehind lowered bare) (reused : IsReuseOf bare ir) (keeps : KeepsForm bare ir) where

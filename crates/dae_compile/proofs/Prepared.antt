@@ -1,6 +1,6 @@
 -- How large the code is that passes from form to form make, beside the lowered form's. Each pass before the reuse of loads has its
 -- link here, by its law.
-use Rattle.std.proofs.Common.{◌≡◌, ℕ, ◌+◌, ◌-◌, ◌*◌, ◌^◌, ◌<◌, ◌≤◌, true, List, [], ◌∷◌, inl, inr, refl, ap, sym, ◌∙◌, subst, arith}
+use Rattle.std.proofs.Common.{◌≡◌, ℕ, ◌+◌, ◌-◌, ◌*◌, ◌^◌, ◌<◌, ◌≤◌, true, false, List, [], ◌∷◌, inl, inr, refl, ap, sym, subst, arith}
 use Rattle.std.proofs.lemmas.Bool.{lt-ltb}
 use Rattle.std.specs.List.{AllByRecursion, list_all}
 use Rattle.dae_ir.specs.Code.{Done, Do, If, Loop}
@@ -23,6 +23,8 @@ use Rattle.dae_commons.specs.Laws.{CommoningKeepsCounts, CountsAlike}
 use Rattle.dae_hoist.specs.Forms.{IsHoistedOrSame, further_rows, addresses_in, first_addresses, AreHoistedFunctions}
 use Rattle.dae_hoist.specs.Laws.{HoistingKeepsSizes}
 use Rattle.dae_elide.specs.Forms.{IsElidedFunction, AreElidedFunctions, IsElisionOf, ElisionKeepsSizes}
+use Rattle.dae_threads.specs.Forms.{IsThreadedFunction, AreThreadedFunctions, IsThreadingOf}
+use Rattle.dae_threads.specs.Laws.{CountsHeavy, ThreadingAddsNothing}
 use Rattle.dae_webs.specs.Current.{own_webs}
 use Rattle.dae_webs.specs.Renamed.{renamed_code}
 use Rattle.dae_webs.specs.Forms.{IsRenamedOrSame, AreRenamedFunctions, IsRenamingOf}
@@ -59,11 +61,11 @@ same_weight c d size calls loads = let w = weighs c in let z = weighs d in omega
 
 -- ---- before loads are reused
 
--- a function that passes made of the lowered one: it weighs the same, has as many loads, and at most one variable more for every
+-- a function that passes made of the lowered one: it weighs no more, has no more loads, and at most one variable more for every
 -- second one beyond 9
 pub record IsPrepared (f g : Function) : Type 0 where
-  pub burden : loaded_burden (form_of g.body) ≡ loaded_burden (form_of f.body)
-  pub loads : loads_in (form_of g.body) ≡ loads_in (form_of f.body)
+  pub burden : loaded_burden (form_of g.body) ≤ loaded_burden (form_of f.body)
+  pub loads : loads_in (form_of g.body) ≤ loads_in (form_of f.body)
   pub variables : 2 * g.variables ≤ 2 * f.variables + (f.variables - 9)
 
 abbrev pub ArePrepared : List Function → List Function → Type 0
@@ -72,11 +74,25 @@ ArePrepared [] (g ∷ gs) = ⊥
 ArePrepared (f ∷ fs) [] = ⊥
 ArePrepared (f ∷ fs) (g ∷ gs) = IsPrepared f g × ArePrepared fs gs
 
--- what is as large as a prepared function, and has as many variables, is prepared too
+abbrev pub WeighsNoMore : Function → Function → Type 0
+WeighsNoMore f g = (loaded_burden (form_of g.body) ≤ loaded_burden (form_of f.body)) × (loads_in (form_of g.body) ≤ loads_in (form_of f.body))
+
+no_heavier : (a b c d : ℕ) → (b ≡ a) × (d ≡ c) → (b ≤ a) × (d ≤ c)
+no_heavier a b c d h = (let same = h.0 in let alike = h.1 in (omega (arith, same), omega (arith, alike)))
+
+-- what is no larger than a prepared function, and has as many variables, is prepared too
+prepared_by : (f g h : Function) → IsPrepared f g → WeighsNoMore g h → h.variables ≡ g.variables → IsPrepared f h
+prepared_by f g h made weight same =
+    let more = made.variables in
+    let burden = made.burden in
+    let loads = made.loads in
+    let lighter = weight.0 in
+    let fewer = weight.1 in
+    record { burden = omega (arith, burden, lighter); loads = omega (arith, loads, fewer); variables = omega (arith, more, same) }
+
 prepared_on : (f g h : Function) → IsPrepared f g → (loaded_burden (form_of h.body) ≡ loaded_burden (form_of g.body)) × (loads_in (form_of h.body) ≡ loads_in (form_of g.body)) → h.variables ≡ g.variables → IsPrepared f h
 prepared_on f g h made weight same =
-    let more = made.variables in
-    record { burden = weight.0 ∙ made.burden; loads = weight.1 ∙ made.loads; variables = omega (arith, more, same) }
+    prepared_by f g h made (no_heavier (loaded_burden (form_of g.body)) (loaded_burden (form_of h.body)) (loads_in (form_of g.body)) (loads_in (form_of h.body)) weight) same
 
 -- ---- variables renamed by webs
 
@@ -125,7 +141,7 @@ renamed_prepared sizes [] [] named = tt
 renamed_prepared sizes [] (g ∷ gs) named = absurd named
 renamed_prepared sizes (f ∷ fs) [] named = absurd named
 renamed_prepared sizes (f ∷ fs) (g ∷ gs) named =
-    let weight = renamed_weighs sizes f g named.0 in
+    let weight = no_heavier (loaded_burden (form_of f.body)) (loaded_burden (form_of g.body)) (loads_in (form_of f.body)) (loads_in (form_of g.body)) (renamed_weighs sizes f g named.0) in
     (record { burden = weight.0; loads = weight.1; variables = renamed_variables f g named.0 }, renamed_prepared sizes fs gs named.1)
 
 -- ---- what doesn't change in loops before them
@@ -217,11 +233,58 @@ elided_prepared sizes memory (f ∷ fs) (g ∷ gs) (h ∷ hs) made is =
     let one = is.0 in
     (prepared_on f g h made.0 (elided_weighs sizes memory g h one) one.variables, elided_prepared sizes memory fs gs hs made.1 is.1)
 
+-- ---- with conditions threaded
+
+-- code that is no larger, and has no more calls and loads, weighs no more
+less_weight : (c d : Form) → form_size c ≤ form_size d → calls_of_form c ≤ calls_of_form d → loads_in c ≤ loads_in d → loaded_burden c ≤ loaded_burden d
+less_weight c d size calls loads = let w = weighs c in let z = weighs d in omega (arith, size, calls, loads, w, z)
+
+calls_heavy : CountsHeavy (λ item. bit (is_call item))
+calls_heavy (Assign v x) h = refl
+calls_heavy (Load v kind x) h = refl
+calls_heavy (Store width x y) h = refl
+calls_heavy (Print spelling x) h = refl
+calls_heavy (Expect check) h = refl
+calls_heavy Break h = refl
+calls_heavy Continue h = refl
+calls_heavy (Call v g xs) h = absurd (let c : false ≡ true = h in cc)
+calls_heavy (Return x) h = refl
+calls_heavy (Halt x) h = refl
+
+loads_heavy : CountsHeavy (λ item. bit (is_load_into (λ v. true) item))
+loads_heavy (Assign v x) h = refl
+loads_heavy (Load v kind x) h = absurd (let c : false ≡ true = h in cc)
+loads_heavy (Store width x y) h = refl
+loads_heavy (Print spelling x) h = refl
+loads_heavy (Expect check) h = refl
+loads_heavy Break h = refl
+loads_heavy Continue h = refl
+loads_heavy (Call v g xs) h = refl
+loads_heavy (Return x) h = refl
+loads_heavy (Halt x) h = refl
+
+threaded_weighs : ThreadingAddsNothing → (f g : Function) → IsThreadedFunction f g → WeighsNoMore f g
+threaded_weighs sizes f g is =
+    let s = sizes f g is in
+    let calls = s.tallies (λ item. bit (is_call item)) (λ t. 0) calls_heavy in
+    let loads = s.tallies (λ item. bit (is_load_into (λ v. true) item)) (λ t. 0) loads_heavy in
+    (less_weight (form_of g.body) (form_of f.body) s.size calls loads, loads)
+
+pub threaded_prepared : ThreadingAddsNothing → (fs gs hs : List Function) → ArePrepared fs gs → AreThreadedFunctions gs hs → ArePrepared fs hs
+threaded_prepared sizes [] [] [] made is = tt
+threaded_prepared sizes [] [] (h ∷ hs) made is = absurd is
+threaded_prepared sizes [] (g ∷ gs) hs made is = absurd made
+threaded_prepared sizes (f ∷ fs) [] hs made is = absurd made
+threaded_prepared sizes (f ∷ fs) (g ∷ gs) [] made is = absurd is
+threaded_prepared sizes (f ∷ fs) (g ∷ gs) (h ∷ hs) made is =
+    let one = is.0 in
+    (prepared_by f g h made.0 (threaded_weighs sizes g h one) one.variables, threaded_prepared sizes fs gs hs made.1 is.1)
+
 -- ---- all passes before loads are reused
 
-pub passes_prepared : (lowered named common bare near : Ir) → RenamingKeepsSizes → HoistingKeepsSizes → CommoningKeepsCounts → ElisionKeepsSizes
-    → IsRenamingOf lowered named → IsWithoutCommons named common → IsElisionOf common bare → HasSumsAtAccesses bare near → ArePrepared lowered.functions near.functions
-passes_prepared lowered named common bare near webs hoists commons checks renamed without elided summed =
+pub passes_prepared : (lowered named common bare near threaded : Ir) → RenamingKeepsSizes → HoistingKeepsSizes → CommoningKeepsCounts → ElisionKeepsSizes → ThreadingAddsNothing
+    → IsRenamingOf lowered named → IsWithoutCommons named common → IsElisionOf common bare → HasSumsAtAccesses bare near → IsThreadingOf near threaded → ArePrepared lowered.functions threaded.functions
+passes_prepared lowered named common bare near threaded webs hoists commons checks threads renamed without elided summed is =
     let mid = without.hoisted in
     let hoist = without.hoist in
     let made = without.commoning in
@@ -230,7 +293,8 @@ passes_prepared lowered named common bare near webs hoists commons checks rename
     let two = hoisted_prepared hoists without.tables without.rows lowered.functions named.functions mid.functions one hoist.functions in
     let three = commoned_prepared commons without.rows lowered.functions mid.functions common.functions two made.functions in
     let four = elided_prepared checks common.memory lowered.functions common.functions bare.functions three elided.functions in
-    commoned_prepared commons summed.tables lowered.functions bare.functions near.functions four last.functions
+    let five = commoned_prepared commons summed.tables lowered.functions bare.functions near.functions four last.functions in
+    threaded_prepared threads lowered.functions near.functions threaded.functions five is.functions
 
 -- ---- loads reused
 

@@ -24,6 +24,7 @@ use dae_ir::Ir;
 use dae_link::CodeError;
 use dae_lower_programs::lower;
 use dae_program::Program;
+use dae_threads::{forms_are_threaded, thread_conditions, threading_adds_nothing};
 use dae_webs::{forms_are_renamed, rename_webs, renaming_keeps_sizes};
 use std::alloc::{AllocError, Global};
 
@@ -34,7 +35,7 @@ fn see_bytes(bytes: &[u8])
 
 /// A final form of a program, with at most so many calls inside one another: the lowered form with its variables renamed by webs,
 /// then with what doesn't change in loops before them and without its common subexpressions, then without the checks that are known to
-/// pass, then with sums computed where they are accessed, and then with its loads reused. It is well made, sets each variable before it
+/// pass, then with sums computed where they are accessed, then with its conditions threaded, and then with its loads reused. It is well made, sets each variable before it
 /// reads it, and has room in its memory. An error is want of memory.
 fn final_form(alloc: Global, program: &Program, calls: u16) -> Result<Ir, AllocError>
     requires functions { length program.now.functions < 2 ^ 32 }
@@ -53,6 +54,8 @@ fn final_form(alloc: Global, program: &Program, calls: u16) -> Result<Ir, AllocE
     commoning_keeps_counts();
     checks_are_elided();
     elision_keeps_sizes();
+    forms_are_threaded();
+    threading_adds_nothing();
     forms_are_reused();
     reuse_stays_small();
     let lowered = lower(alloc, program, calls)?;
@@ -60,7 +63,8 @@ fn final_form(alloc: Global, program: &Program, calls: u16) -> Result<Ir, AllocE
     let common = without_commons(alloc, renamed)?;
     let bare = without_known_checks(alloc, common)?;
     let near = with_sums_at_accesses(alloc, bare)?;
-    let ir = reuse_loads(alloc, near)?;
+    let threaded = thread_conditions(alloc, near)?;
+    let ir = reuse_loads(alloc, threaded)?;
     Ok(ir)
 }
 

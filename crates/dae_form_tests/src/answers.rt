@@ -3,7 +3,7 @@
 use crate::images::{going_told, marks_told, registers_told, runs_told};
 use crate::passes::{
     commons_told, hoist_told, line_told, lowering_told, relation_told, report_told, reuse_told,
-    store_told, webs_told,
+    store_told, threads_told, webs_told,
 };
 use crate::rows::{IMAGES, PASSES, REPORTS, SPLITS};
 use crate::splits::{budget_told, classes_told, scope_told, single_steps_told, steps_told};
@@ -24,6 +24,7 @@ fn answer_to(alloc: Global, row: &str) -> Result<String, AllocError> {
         "commons" => commons_told(alloc, row),
         "hoisted" => hoist_told(alloc, row),
         "stored" => store_told(alloc, row),
+        "threads" => threads_told(alloc, row),
         "budget" => budget_told(alloc, row),
         "classes" => classes_told(alloc, row),
         "scoped" => scope_told(alloc, row),

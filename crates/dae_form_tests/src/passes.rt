@@ -11,6 +11,7 @@ use dae_lower_expressions::Lowerer;
 use dae_program::{Expression, Links};
 use dae_report::{FunctionReport, Report, can_count, count, report_line};
 use dae_rows::{number, part, word_in};
+use dae_threads::thread_conditions;
 use dae_webs::rename_webs;
 use std::alloc::{AllocError, Global};
 
@@ -85,6 +86,12 @@ pub fn store_told(alloc: Global, row: &str) -> Result<String, AllocError> {
     let held = hoist_invariants(alloc, form, tables.as_slice())?;
     let new = eliminate_commons(alloc, held.ir, held.tables.as_slice())?;
     statement_told(alloc, &new, row)
+}
+
+/// A row's form with its conditions threaded.
+pub fn threads_told(alloc: Global, row: &str) -> Result<String, AllocError> {
+    let new = thread_conditions(alloc, form_of(alloc, part(row, 2))?)?;
+    form_text(alloc, &new)
 }
 
 /// The report of a row's form; none where there is too much to count.

@@ -1,8 +1,8 @@
 //! Rows, each with its kind, what is due, and the form that it is asked of.
 
 /// Small expressions and their code; forms with their loads reused, as an independent implementation has them; the variables that occur where
-/// they are renamed by webs, and where common subexpressions are eliminated; and a statement where invariants of loops are held before
-/// them.
+/// they are renamed by webs, and where common subexpressions are eliminated; a statement where invariants of loops are held before
+/// them; and forms with conditions threaded.
 pub const PASSES: &str = r#"lower|1;print c 10;halt 7|
 reuse|main 0 5 0;store 4 16 3;v4 = load 4 16;v0 = v4;v1 = v4;v2 = v0 * v1;store 4 20 v2;v3 = load 4 20;print d v3;print c 10;halt 0|main 0 4 0;store 4 16 3;v0 = load 4 16;v1 = load 4 16;v2 = v0 * v1;store 4 20 v2;v3 = load 4 20;print d v3;print c 10;halt 0
 reuse|main 0 10 0;v0 = 16;v1 = v0 + 4;good 4 v1;v8 = load 4 v1;v2 = v8;good 4 v2;v9 = load 4 v2;v3 = v9;v4 = v0 + 4;good 4 v4;v5 = v8;good 4 v5;v6 = v9;v7 = v3 + v6;halt v7|main 0 8 0;v0 = 16;v1 = v0 + 4;good 4 v1;v2 = load 4 v1;good 4 v2;v3 = load 4 v2;v4 = v0 + 4;good 4 v4;v5 = load 4 v4;good 4 v5;v6 = load 4 v5;v7 = v3 + v6;halt v7
@@ -35,7 +35,16 @@ stored|store 4 v3 7|main 0 6 0;v1 = load 4 64;v2 = 0;v3 = 0;loop;v4 = v1 + 4;v5 
 hoisted|v2 = 0|main 0 6 0;v1 = load 4 64;v2 = 0;v3 = 0;loop;v4 = v1 + 4;v5 = v4 + 8;store 4 v5 7;step;v1 = v1 + 1;end;halt 0|nannaa|2
 stored|store 4 v5 7|main 0 6 0;v1 = load 4 64;v2 = 0;v3 = 0;loop;v4 = v1 + 4;v5 = v4 + 8;store 4 v5 7;step;v1 = v1 + 1;end;halt 0|nannaa|7
 hoisted|v2 = 0|main 0 6 0;v1 = load 4 64;v2 = 0;v3 = 0;loop;store 4 v2 7;v4 = v1 + 4;store 4 v4 7;step;end;halt 0|nannaa|2
-hoisted|v3 = v1 + 4|main 0 6 0;v1 = load 4 64;v2 = 0;v3 = 0;loop;store 4 v2 7;v4 = v1 + 4;store 4 v4 7;step;end;halt 0|nannaa|3"#;
+hoisted|v3 = v1 + 4|main 0 6 0;v1 = load 4 64;v2 = 0;v3 = 0;loop;store 4 v2 7;v4 = v1 + 4;store 4 v4 7;step;end;halt 0|nannaa|3
+threads|main 0 6 0;v1 = load 4 64;v2 = load 4 68;if v1 != 0;if v2 != 0;v3 = 1;v4 = load 4 72;store 4 64 v4;else;v3 = 0;end;else;v3 = 0;end;halt 0|main 0 6 0;v1 = load 4 64;v2 = load 4 68;if v1 != 0;if v2 != 0;v3 = 1;else;v3 = 0;end;else;v3 = 0;end;if v3 != 0;v4 = load 4 72;store 4 64 v4;else;end;halt 0
+threads|main 0 6 0;v1 = load 4 64;v2 = load 4 68;loop;if v1 != 0;if v2 != 0;v3 = 1;else;v3 = 0;break;end;else;v3 = 0;break;end;store 4 64 7;step;end;halt 0|main 0 6 0;v1 = load 4 64;v2 = load 4 68;loop;if v1 != 0;if v2 != 0;v3 = 1;else;v3 = 0;end;else;v3 = 0;end;if v3 != 0;else;break;end;store 4 64 7;step;end;halt 0
+threads|main 0 6 0;v1 = load 4 64;v2 = load 4 68;if v1 != 0;v3 = 1;print d 1;else;if v2 != 0;v3 = 1;print d 1;else;v3 = 0;end;end;halt 0|main 0 6 0;v1 = load 4 64;v2 = load 4 68;if v1 != 0;v3 = 1;else;if v2 != 0;v3 = 1;else;v3 = 0;end;end;if v3 != 0;print d 1;else;end;halt 0
+threads|main 0 6 0;v1 = load 4 64;v2 = load 4 68;v4 = load 4 72;if v1 != 0;if v2 != 0;v3 = 1;if v4 != 0;v5 = 1;print d 1;print d 2;else;v5 = 0;end;else;v3 = 0;v5 = 0;end;else;v3 = 0;v5 = 0;end;halt 0|main 0 6 0;v1 = load 4 64;v2 = load 4 68;v4 = load 4 72;if v1 != 0;if v2 != 0;v3 = 1;else;v3 = 0;end;else;v3 = 0;end;if v3 != 0;if v4 != 0;v5 = 1;else;v5 = 0;end;else;v5 = 0;end;if v5 != 0;print d 1;print d 2;else;end;halt 0
+threads|main 0 6 0;v1 = load 4 64;v2 = load 4 68;if v1 != 0;v3 = 1;else;if v2 != 0;v3 = 1;else;v3 = 0;end;end;if v3 != 0;print d 1;print d 2;else;end;halt 0|main 0 6 0;v1 = load 4 64;v2 = load 4 68;if v1 != 0;v3 = 1;else;if v2 != 0;v3 = 1;else;v3 = 0;end;end;if v3 != 0;print d 1;print d 2;else;end;halt 0
+threads|main 0 6 0;v1 = load 4 64;v2 = load 4 68;if v1 != 0;v3 = 1;else;if v2 != 0;v3 = 1;else;v3 = 0;end;end;if v3 != 0;v4 = load 4 72;else;end;halt 0|main 0 6 0;v1 = load 4 64;v2 = load 4 68;if v1 != 0;v3 = 1;else;if v2 != 0;v3 = 1;else;v3 = 0;end;end;if v3 != 0;v4 = load 4 72;else;end;halt 0
+threads|main 0 6 0;v1 = load 4 64;v2 = load 4 68;if v1 != 0;if v2 != 0;v3 = 1;else;v3 = 0;end;else;v3 = 0;end;if v1 != 0;print d 1;else;end;halt 0|main 0 6 0;v1 = load 4 64;v2 = load 4 68;if v1 != 0;if v2 != 0;v3 = 1;else;v3 = 0;end;else;v3 = 0;end;if v1 != 0;print d 1;else;end;halt 0
+threads|main 0 6 0;v1 = load 4 64;v2 = load 4 68;if v1 != 0;if v2 != 0;v3 = 1;else;v3 = 0;end;else;v3 = 0;end;if v3 < 1;print d 1;else;end;halt 0|main 0 6 0;v1 = load 4 64;v2 = load 4 68;if v1 != 0;if v2 != 0;v3 = 1;else;v3 = 0;end;else;v3 = 0;end;if v3 < 1;print d 1;else;end;halt 0
+threads|main 0 6 0;v1 = load 4 64;v2 = load 4 68;if v1 != 0;if v2 != 0;v3 = 1;else;v3 = 0;end;else;v3 = 0;end;store 4 64 7;if v3 != 0;print d 1;else;end;halt 0|main 0 6 0;v1 = load 4 64;v2 = load 4 68;if v1 != 0;if v2 != 0;v3 = 1;else;v3 = 0;end;else;v3 = 0;end;store 4 64 7;if v3 != 0;print d 1;else;end;halt 0"#;
 
 /// What reports count; and what two accesses have in common, asked both ways.
 pub const REPORTS: &str =

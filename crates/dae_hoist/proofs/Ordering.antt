@@ -9,9 +9,9 @@ use Rattle.dae_ir.specs.SetFirst.{form_flow, IsSetFirst, assured, ItemReads, aft
 use Rattle.dae_ir.specs.declared.form.Item.{Item}
 use Rattle.dae_ir.specs.declared.form.Item.TheVariants.{Assign, Load, Store, Print, Expect, Break, Continue, Call, Return, Halt}
 use Rattle.dae_ir.specs.declared.form.Value.{Value}
+use Rattle.dae_ir.proofs.Laws.{value_more}
 use Rattle.dae_hoist.specs.Hoisted.{Holding, found_or, hoisted_item, hoisted_code}
 use Rattle.dae_hoist.specs.Kept.{Hoisting, Fits, ItemKept, IsKept, is_listed, is_set, set_behind}
-use Rattle.dae_hoist.proofs.Reading.{value_more}
 
 -- ---- what is set stays so
 

@@ -1,11 +1,11 @@
 -- Variables that are kept: what they hold, and whether they lead to addresses.
-use Rattle.std.proofs.Common.{◌≡◌, ℕ, true, ◌&&◌, List, [], ◌∷◌, Option, Some, None, refl, sym}
-use Rattle.std.proofs.lemmas.Bool.{and_parts, and_from}
+use Rattle.std.proofs.Common.{◌≡◌, ℕ, true, List, [], ◌∷◌, Option, Some, None, refl, sym}
+use Rattle.std.proofs.lemmas.Bool.{and_parts}
 use Rattle.std.specs.Bool.{beq}
 use Rattle.dae_base.proofs.Laws.{beq_same, no_true}
-use Rattle.dae_meaning.specs.Variables.{Env, VariableSet}
+use Rattle.dae_meaning.specs.Variables.{Env}
 use Rattle.dae_ir.specs.Form.{value, values, holds, computed}
-use Rattle.dae_ir.specs.Classes.{IsWithin, has, has_test, has_value}
+use Rattle.dae_ir.specs.Classes.{has, has_test, has_value}
 use Rattle.dae_ir.specs.SetFirst.{AllRead}
 use Rattle.dae_ir.specs.declared.form.Operand.{Operand}
 use Rattle.dae_ir.specs.declared.form.Operand.TheVariants.{Variable, Number}
@@ -71,20 +71,3 @@ module _ (t : Hoisting) where
       rw (has_same x p.0, has_same y p.1) refl
   has_value_same (val.Holds x) h = has_test_same x h
   has_value_same (val.FrameAddress offset) h = refl
-
--- ---- larger sets
-
-module _ (c d : VariableSet) (more : IsWithin c d) where
-  has_more : (x : Operand) → has c x ≡ true → has d x ≡ true
-  has_more (Variable v) h = more v h
-  has_more (Number k) h = refl
-
-  both_more : (x y : Operand) → (has c x && has c y) ≡ true → (has d x && has d y) ≡ true
-  both_more x y h = let p = and_parts (has c x) (has c y) h in and_from (has d x) (has d y) (has_more x p.0) (has_more y p.1)
-
-  pub value_more : (x : Value) → has_value c x ≡ true → has_value d x ≡ true
-  value_more (val.Same x) h = has_more x h
-  value_more (val.Extended kind x) h = has_more x h
-  value_more (val.Binary operator x y) h = both_more x y h
-  value_more (val.Holds x) h = both_more x.left x.right h
-  value_more (val.FrameAddress offset) h = refl

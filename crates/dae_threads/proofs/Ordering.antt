@@ -1,0 +1,97 @@
+-- In code in which conditions are threaded each variable is set before it is read.
+use Rattle.std.proofs.Common.{ℕ, Bool, true, false, nat_eq, if◌then◌else◌}
+use Rattle.std.proofs.lemmas.Bool.{and_from, and_parts}
+use Rattle.dae_meaning.specs.Variables.{VariableSet}
+use Rattle.dae_ir.specs.Form.{Form}
+use Rattle.dae_ir.specs.Classes.{IsWithin}
+use Rattle.dae_ir.specs.SetFirst.{form_flow, IsSetFirst, assured, after_item}
+use Rattle.dae_ir.proofs.Laws.{meet, and_more, assured_more, first_more}
+use Rattle.dae_threads.specs.Threaded.{gives_number, list_for, IsLed, LedTo, LedInBoth, BehindItem, BehindIf, BehindLoop, IsThreaded, Unchanged, InTurn, InRest, InLists, InLoop, Threads}
+
+-- ---- sets
+
+meet_more : (a b a' b' : VariableSet) → IsWithin a a' → IsWithin b b' → IsWithin (meet a b) (meet a' b')
+meet_more a b a' b' f g v = and_more (a v) (b v) (a' v) (b' v) (f v) (g v)
+
+meet_first : (a b : VariableSet) → IsWithin (meet a b) a
+meet_first a b v h = (and_parts (a v) (b v) h).0
+
+meet_second : (a b : VariableSet) → IsWithin (meet a b) b
+meet_second a b v h = (and_parts (a v) (b v) h).1
+
+meet_from : (c a b : VariableSet) → IsWithin c a → IsWithin c b → IsWithin c (meet a b)
+meet_from c a b f g v h = and_from (a v) (b v) (f v h) (g v h)
+
+within_then : (a b c : VariableSet) → IsWithin a b → IsWithin b c → IsWithin a c
+within_then a b c f g v h = g v (f v h)
+
+-- ---- code with the lists of a condition at its ends
+
+-- what is read was set before, and what is set behind in any case
+abbrev IsFirst : VariableSet → VariableSet → Form → Type 0
+IsFirst set behind code = IsSetFirst form_flow set code × IsWithin behind (assured form_flow set code)
+
+first_behind : (code : Form) (a b behind : VariableSet) → IsWithin a b → IsFirst a behind code → IsFirst b behind code
+first_behind code a b behind more h = (first_more code a b more h.0, within_then behind (assured form_flow a code) (assured form_flow b code) h.1 (assured_more code a b more))
+
+module _ (v : ℕ) (x y : Form) (before behind : VariableSet) (one : IsFirst before behind x) (other : IsFirst before behind y) where
+  either_first : (c : Bool) → IsFirst before behind (if c then y else x)
+  either_first true = other
+  either_first false = one
+
+  led_first : (i j : ℕ) (c d : Form) (set : VariableSet) → IsLed v x y i j c d → IsSetFirst form_flow set c → IsWithin before (assured form_flow set c) → IsFirst set behind d
+  led_first i j c d set (LedTo place n) h less =
+      let rest = first_behind (list_for n x y) before (after_item set (gives_number v n)) behind less (either_first (nat_eq n 0)) in
+      ((h.0, rest.0), rest.1)
+  led_first i j c d set (LedInBoth place t i1 j1 i2 j2 p p' q q' f g) h less =
+      let a = assured form_flow set p in
+      let b = assured form_flow set q in
+      let first = led_first i1 j1 p p' set f h.1 (within_then before (meet a b) a less (meet_first a b)) in
+      let second = led_first i2 j2 q q' set g h.2 (within_then before (meet a b) b less (meet_second a b)) in
+      ((h.0, first.0, second.0, tt), meet_from behind (assured form_flow set p') (assured form_flow set q') first.1 second.1)
+  led_first i j c d set (BehindItem place item i1 j1 k k' f) h less =
+      let rest = led_first i1 j1 k k' (after_item set item) f h.1 less in
+      ((h.0, rest.0), rest.1)
+  led_first i j c d set (BehindIf place t p q i1 j1 k k' f) h less =
+      let rest = led_first i1 j1 k k' (meet (assured form_flow set p) (assured form_flow set q)) f h.3 less in
+      ((h.0, h.1, h.2, rest.0), rest.1)
+  led_first i j c d set (BehindLoop place p q i1 j1 k k' f) h less =
+      let rest = led_first i1 j1 k k' set f h.2 less in
+      ((h.0, h.1, rest.0), rest.1)
+
+-- ---- code
+
+pub threaded_first : (c d : Form) (set : VariableSet) → IsThreaded c d → IsSetFirst form_flow set c → IsFirst set (assured form_flow set c) d
+threaded_first c d set (Unchanged c1) h = (h, λ u m. m)
+threaded_first c d set (InTurn c1 d1 e1 f g) h =
+    let one = threaded_first c1 d1 set f h in
+    let other = threaded_first d1 e1 set g one.0 in
+    (other.0, within_then (assured form_flow set c1) (assured form_flow set d1) (assured form_flow set e1) one.1 other.1)
+threaded_first c d set (InRest place item k k' f) h = (let rest = threaded_first k k' (after_item set item) f h.1 in ((h.0, rest.0), rest.1))
+threaded_first c d set (InLists place t p p' q q' k k' f g r) h =
+    let one = threaded_first p p' set f h.1 in
+    let other = threaded_first q q' set g h.2 in
+    let old = meet (assured form_flow set p) (assured form_flow set q) in
+    let new = meet (assured form_flow set p') (assured form_flow set q') in
+    let more : IsWithin old new = meet_more (assured form_flow set p) (assured form_flow set q) (assured form_flow set p') (assured form_flow set q') one.1 other.1 in
+    let rest = first_behind k' old new (assured form_flow old k) more (threaded_first k k' old r h.3) in
+    ((h.0, one.0, other.0, rest.0), rest.1)
+threaded_first c d set (InLoop place p p' q q' k k' f g r) h =
+    let one = threaded_first p p' set f h.0 in
+    let other = threaded_first q q' set g h.1 in
+    let rest = threaded_first k k' set r h.2 in
+    ((one.0, other.0, rest.0), rest.1)
+threaded_first c d set (Threads place place' t v i j i' j' more more' x y p p' q q' k f g spread spread' small) h =
+    let a = assured form_flow set p in
+    let b = assured form_flow set q in
+    let before = meet a b in
+    let behind = meet (assured form_flow before x) (assured form_flow before y) in
+    let condition = h.3 in
+    let first : IsFirst before behind x = (condition.1, meet_first (assured form_flow before x) (assured form_flow before y)) in
+    let second : IsFirst before behind y = (condition.2, meet_second (assured form_flow before x) (assured form_flow before y)) in
+    let one = led_first v x y before behind first second i j p p' set f h.1 (meet_first a b) in
+    let other = led_first v x y before behind first second i' j' q q' set g h.2 (meet_second a b) in
+    let new = meet (assured form_flow set p') (assured form_flow set q') in
+    let wider : IsWithin behind new = meet_from behind (assured form_flow set p') (assured form_flow set q') one.1 other.1 in
+    let rest : IsFirst new (assured form_flow behind k) k = first_behind k behind new (assured form_flow behind k) wider (condition.3, λ u m. m) in
+    ((h.0, one.0, other.0, rest.0), rest.1)

@@ -1,0 +1,4 @@
+pub mod Threaded
+pub mod Forms
+pub mod Laws
+pub mod Walked

@@ -1,0 +1,41 @@
+// Whole forms in which conditions are threaded.
+
+ghost use Rattle.std.specs.Prelude.{IfOk};
+ghost use Rattle.dae_threads.specs.Forms.{AreThreadedFunctions, IsThreadedFunction, IsThreadingOf};
+
+use crate::threading::thread_list;
+use dae_base::Items;
+use dae_ir::{Function, Ir};
+use std::alloc::{AllocError, Global};
+
+fn thread_function(alloc: Global, function: Function) -> Result<Function, AllocError>
+    ensures { IfOk result (IsThreadedFunction function) }
+{
+    let body = thread_list(alloc, function.body.as_slice())?;
+    Ok(Function {
+        name: function.name,
+        parameters: function.parameters,
+        variables: function.variables,
+        frame: function.frame,
+        body: Items::from_vec(body),
+    })
+}
+
+/// The form in which an If that tests what the If before it gave a variable goes, where each end of that one gave a number, and the
+/// code doesn't grow: the lists of the condition stand at those ends. The form is given up, also where memory is wanting.
+#[tactic(auto, using(crate::proofs::Wholes::threaded_push))]
+pub fn thread_conditions(alloc: Global, ir: Ir) -> Result<Ir, AllocError>
+    ensures { IfOk result (IsThreadingOf ir) }
+{
+    let mut functions = Vec::new(alloc);
+    for function in ir.functions.into_vec() {
+        functions.push(thread_function(alloc, function)?)?;
+    }
+    Ok(Ir {
+        memory: ir.memory,
+        frames: ir.frames,
+        calls: ir.calls,
+        main: ir.main,
+        functions: Items::from_vec(functions),
+    })
+}
