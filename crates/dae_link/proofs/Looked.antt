@@ -3,13 +3,13 @@ use Rattle.std.proofs.Common.{◌≡◌, ℕ, zero, suc, ◌≤◌, ◌<◌, ◌
 use Rattle.std.specs.Prelude.{Option, Some, None, slice_get, nat_lt}
 use Rattle.std.specs.List.{AllByRecursion, AllZip}
 use Rattle.std.proofs.lemmas.Bool.Decides.{nat_tests}
-use Rattle.std.proofs.lemmas.Bool.{or_left, or_right}
+use Rattle.std.proofs.lemmas.Bool.{or_right}
 use Rattle.dae_ir.specs.Classes.{VariableSet}
 use Rattle.dae_ir.specs.SetFirst.{parameters_set}
 use Rattle.dae_ir.specs.Streams.{actions_of}
 use Rattle.dae_ir.specs.declared.stream.StreamFunction.{StreamFunction}
 use Rattle.dae_select_walks.specs.Homes.{IsHome, AreApart, frame_words, home_in, home_among}
-use Rattle.dae_select_walks.specs.Live.{live, lives, nowhere}
+use Rattle.dae_select_walks.specs.Live.{lives, nowhere}
 use Rattle.dae_select_walks.specs.declared.Home.{Home}
 use Rattle.dae_select_walks.specs.declared.Home.TheVariants.{Register, Slot}
 use Rattle.dae_select_blocks.specs.Sizes.{calls_in}
@@ -117,11 +117,11 @@ calls_at None (Some l) is e = absurd is
 calls_at (Some f) None is e = absurd is
 calls_at (Some f) (Some l) is e = none_below_one (calls_in (actions_of f.body)) (sym is.leaf ∙ e)
 
-pub reads_at : (f : Option StreamFunction) (l : Option FunctionLayout) → IsLayoutAt f l → (u : ℕ) → live (body_in f) nowhere u ≡ true → u < variables_at l
-reads_at None None is u h = absurd cc
-reads_at None (Some l) is u h = absurd is
-reads_at (Some f) None is u h = absurd is
-reads_at (Some f) (Some l) is u h = is.inside.0 u (or_left _ _ h)
+pub parameters_at : (f : Option StreamFunction) (l : Option FunctionLayout) → IsLayoutAt f l → (u : ℕ) → parameters_set (parameters_in f) u ≡ true → u < variables_at l
+parameters_at None None is u h = absurd (grind (arith, nat_tests))
+parameters_at None (Some l) is u h = absurd is
+parameters_at (Some f) None is u h = absurd is
+parameters_at (Some f) (Some l) is u h = is.inside.0 u (or_right _ _ h)
 
 pub apart_at : (numbers : List ℕ) (f : Option StreamFunction) (l : Option FunctionLayout) → IsLayoutAt f l → AreApart (home_among (homes_at l) numbers) (parameters_set (parameters_in f))
 apart_at numbers None None is u v hu hv other = absurd (grind (arith, nat_tests))

@@ -14,8 +14,10 @@ use Rattle.dae_select_walks.specs.Live.{Ways, behind, live, nowhere, step_ways, 
 use Rattle.dae_select_walks.specs.Facts.{Facts, unknown, facts_behind, facts_in_first, facts_in_second, facts_past_if, facts_at_turn, facts_at_step, facts_past_loop, need_of}
 use Rattle.dae_select_walks.specs.declared.Need.{Need}
 use Rattle.dae_select_walks.specs.declared.Need.TheVariants.{All, Ends, Nothing}
+use Rattle.dae_select_walks.specs.declared.Home.{Home}
+use Rattle.dae_select_walks.specs.declared.Home.TheVariants.{Register, Slot}
 use Rattle.dae_select_walks.specs.Agrees.{Plan}
-use Rattle.dae_select_blocks.specs.Blocks.{arguments_code, argument_code, save_code, deeper_code, check_code, enter_code, jump_words, jump_over, jump_back}
+use Rattle.dae_select_blocks.specs.Blocks.{arguments_code, argument_code, save_code, deeper_code, check_code, enter_code, jump_words, jump_over, jump_back, argument_to, parameter_to, parameter_code, parameters_code}
 use Rattle.dae_select_blocks.specs.Sizes.{is_short}
 use Rattle.dae_select_walks.specs.declared.Standing.{Standing}
 use Rattle.dae_select_walks.specs.declared.Standing.TheVariants.{Settled, Early, Late}
@@ -61,9 +63,29 @@ module _ (p : Plan) (entry start : ℕ → ℕ) (finish : ℕ) (variables : ℕ 
   abbrev q : Plan
   q = at_words p entry start finish
 
+  argument_same : (g : ℕ) (xs : List Argument) (x : Argument) → argument_code q f g xs x ≡ argument_code p f g xs x
+  argument_same g xs x = by (p.home g x.parameter)
+    where
+      by : (home : Home) → argument_to q f g xs home x.operand ≡ argument_to p f g xs home x.operand
+      by (Register r) = refl
+      by (Slot i) = refl
+
   arguments_same : (g : ℕ) (xs : List Argument) → arguments_code q f g xs ≡ arguments_code p f g xs
   arguments_same g [] = refl
-  arguments_same g (x ∷ xs) = ap (λ (is : List Inst). is ++ argument_code p f g x) (arguments_same g xs)
+  arguments_same g (x ∷ xs) =
+      ap (λ (is : List Inst). is ++ argument_code q f g xs x) (arguments_same g xs) ∙ ap (λ (is : List Inst). arguments_code p f g xs ++ is) (argument_same g xs x)
+
+  parameter_same : (g : ℕ) (xs : List Argument) (x : Argument) → parameter_code q f g xs x ≡ parameter_code p f g xs x
+  parameter_same g xs x = by (p.home g x.parameter)
+    where
+      by : (home : Home) → parameter_to q f g xs home x.operand ≡ parameter_to p f g xs home x.operand
+      by (Register r) = refl
+      by (Slot i) = refl
+
+  parameters_same : (g : ℕ) (xs : List Argument) → parameters_code q f g xs ≡ parameters_code p f g xs
+  parameters_same g [] = refl
+  parameters_same g (x ∷ xs) =
+      ap (λ (is : List Inst). is ++ parameter_code q f g xs x) (parameters_same g xs) ∙ ap (λ (is : List Inst). parameters_code p f g xs ++ is) (parameter_same g xs x)
 
   check_same : (check : Check) → check_code q f check ≡ check_code p f check
   check_same (Place width x) = refl
@@ -76,7 +98,8 @@ module _ (p : Plan) (entry start : ℕ → ℕ) (finish : ℕ) (variables : ℕ 
   call_long v g xs k =
       both_long (arguments_code q f g xs) (arguments_code p f g xs) _ _ (ap length (arguments_same g xs))
       (both_long (save_code (registers_in (p.home f) (variables f) k)) (save_code (registers_in (p.home f) (variables f) k)) _ _ refl
-      (both_long (deeper_code q f) (deeper_code p f) _ _ refl (both_long (enter_code p.near (entry g)) (enter_code p.near (p.entry g)) _ _ (enter_same p.near (entry g) (p.entry g)) refl)))
+      (both_long (parameters_code q f g xs) (parameters_code p f g xs) _ _ (ap length (parameters_same g xs))
+      (both_long (deeper_code q f) (deeper_code p f) _ _ refl (both_long (enter_code p.near (entry g)) (enter_code p.near (p.entry g)) _ _ (enter_same p.near (entry g) (p.entry g)) refl))))
 
   module _ (short : Bool) where
     -- nor on how far jumps lead
@@ -186,4 +209,4 @@ module _ (p : Plan) (entry start : ℕ → ℕ) (finish : ℕ) (variables : ℕ 
         (code_long Settled (facts_at_turn p.memory (If mark' b y n u) step known) (If mark' b y n u) ways') (code_long Settled (facts_at_step p.memory (If mark' b y n u) step known) step ways'' (jump_words short) 0 (jump_words short) 0) more)
 
   pub function_long : (code : Actions) → length (function_code q variables f code) ≡ length (function_code p variables f code)
-  function_long code = both_long (entry_code p variables f (live code nowhere)) (entry_code p variables f (live code nowhere)) _ _ refl (code_long (is_short code) Settled unknown code nowhere 0 0 0 0)
+  function_long code = both_long (entry_code p f) (entry_code p f) _ _ refl (code_long (is_short code) Settled unknown code nowhere 0 0 0 0)

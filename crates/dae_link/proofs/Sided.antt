@@ -16,7 +16,7 @@ use Rattle.dae_ir.specs.declared.stream.Stream.{Stream}
 use Rattle.dae_ir.specs.declared.stream.StreamFunction.{StreamFunction}
 use Rattle.dae_select_walks.specs.Homes.{IsHome, frame_words, home_among}
 use Rattle.dae_select_walks.specs.Layout.{CodeAt}
-use Rattle.dae_select_walks.specs.Live.{live, nowhere}
+use Rattle.dae_select_walks.specs.Live.{nowhere}
 use Rattle.dae_select_walks.specs.Facts.{unknown}
 use Rattle.dae_select_walks.specs.Agrees.{Plan}
 use Rattle.dae_select_walks.proofs.LawsOfWalks.{number_home}
@@ -43,7 +43,7 @@ use Rattle.dae_link.proofs.Same.{both_long, enter_same, at_words, function_long}
 use Rattle.dae_link.proofs.Standing.{placed_long, placed_same, start_behind, functions_long, ends_within, entries_within, stands_there}
 use Rattle.dae_link.proofs.Sizes.{functions_length}
 use Rattle.dae_link.proofs.Residing.{residents_few, residents_within, residents_apart, among_is_home}
-use Rattle.dae_link.proofs.Looked.{zip_long, layout_at, IsLayoutAt, each_home, is_near, is_few, is_first, same_frame, frame_within, right_at, reads_at, apart_at, calls_at}
+use Rattle.dae_link.proofs.Looked.{zip_long, layout_at, IsLayoutAt, each_home, is_near, is_few, is_first, same_frame, frame_within, right_at, parameters_at, apart_at, calls_at}
 
 pub same_side : (s : Side) → side (is_a s) ≡ s
 same_side A = refl
@@ -243,7 +243,7 @@ module _ (stream : Stream) (old : Layouts) (unplaced : AreUnplaced stream old) w
           subst (λ (ws : List ℕ). CodeAt ws (Q.entry g) (function_code Q variables g (body g))) (sym is_code)
           (stands_there P variables Q same fit fs old.functions (opening_code Q stream.main stream.frames) first 0 g g long opening_same lt (omega arith))
 
-      starts : (g : ℕ) → g < length fs → Q.start g ≡ Q.entry g + length (entry_code Q variables g (live (body g) nowhere))
+      starts : (g : ℕ) → g < length fs → Q.start g ≡ Q.entry g + length (entry_code Q g)
       starts g lt = start_behind P variables fs old.functions first 0 g g long lt (omega arith)
 
       abbrev own_code : ℕ → List Inst
@@ -252,7 +252,7 @@ module _ (stream : Stream) (old : Layouts) (unplaced : AreUnplaced stream old) w
       end_low : (g : ℕ) → g < length fs → Q.start g + length (own_code g) ≤ 2 ^ 25
       end_low g lt =
           let s = starts g lt in
-          let l = length-append (entry_code Q variables g (live (body g) nowhere)) (own_code g) in
+          let l = length-append (entry_code Q g) (own_code g) in
           let e : Q.entry g + length (function_code Q variables g (body g)) ≤ first + length (functions_code P variables 0 fs) = ends_within P variables Q same fs old.functions first 0 g g long lt (omega arith) in
           omega (arith, ends)
 
@@ -273,13 +273,12 @@ module _ (stream : Stream) (old : Layouts) (unplaced : AreUnplaced stream old) w
           subst (λ (ws : List ℕ). CodeAt ws 0 start_words) (sym opens_so)
           (words_are_code start_words [] (map encoded (finish_code Q.by_a) ++ map encoded rest) (start_fits Q stream.main stream.frames))
 
-      linked : IsLinked (setting_of setup Q.by_a) Q variables (λ f. live (body f) nowhere)
+      linked : IsLinked (setting_of setup Q.by_a) Q
       linked = record {
-        entry = (λ g lt. code_take words (Q.entry g) (entry_code Q variables g (live (body g) nowhere)) (own_code g) (there g (subst (λ (n : ℕ). g < n) long lt)));
+        entry = (λ g lt. code_take words (Q.entry g) (entry_code Q g) (own_code g) (there g (subst (λ (n : ℕ). g < n) long lt)));
         start = (λ g lt. starts g (subst (λ (n : ℕ). g < n) long lt));
         near = (λ g lt. let e = end_low g (subst (λ (n : ℕ). g < n) long lt) in omega arith);
         close = (λ g lt is. let e = entries_within P variables fs old.functions first 0 g in let r = reached is in omega (arith, e, r));
-        reads = (λ g u h. reads_at (slice_get fs g) (slice_get old.functions g) (at g) u h);
         finish = finish_there;
         low = (let s = opening_short P stream.main stream.frames in let b = unplaced.residents.brief in omega arith);
       }
@@ -290,7 +289,7 @@ module _ (stream : Stream) (old : Layouts) (unplaced : AreUnplaced stream old) w
           record {
             right = right_at old.residents (slice_get fs f) (slice_get old.functions f) (at f);
             leaf = calls_at (slice_get fs f) (slice_get old.functions f) (at f);
-            there = subst (λ (n : ℕ). CodeAt words n (own_code f)) (sym (starts f inside)) (code_drop words (Q.entry f) (entry_code Q variables f (live (body f) nowhere)) (own_code f) (there f inside));
+            there = subst (λ (n : ℕ). CodeAt words n (own_code f)) (sym (starts f inside)) (code_drop words (Q.entry f) (entry_code Q f) (own_code f) (there f inside));
             small = (let e = end_low f inside in omega arith);
           }
 
@@ -313,7 +312,10 @@ module _ (stream : Stream) (old : Layouts) (unplaced : AreUnplaced stream old) w
         is_plan = is_plan;
         linked = linked;
         codes = has_code;
-        apart = (λ f lt. apart_at old.residents (slice_get fs f) (slice_get old.functions f) (at f));
+        homes = (λ f lt. record {
+          apart = apart_at old.residents (slice_get fs f) (slice_get old.functions f) (at f);
+          free = (λ u n r h e. fits.apart f u n r (parameters_at (slice_get fs f) (slice_get old.functions f) (at f) u h) e);
+        });
         start = has_start;
         opens = refl;
       }

@@ -11,7 +11,7 @@ use Rattle.dae_ir.specs.declared.stream.Stream.{Stream}
 use Rattle.dae_ir.specs.declared.stream.StreamFunction.{StreamFunction}
 use Rattle.dae_regalloc.specs.Seen.{count_places}
 use Rattle.dae_select_walks.specs.Facts.{unknown}
-use Rattle.dae_select_walks.specs.Live.{live, nowhere}
+use Rattle.dae_select_walks.specs.Live.{nowhere}
 use Rattle.dae_select_walks.specs.Agrees.{Plan}
 use Rattle.dae_select_blocks.specs.Blocks.{residents_code}
 use Rattle.dae_select_walks.specs.declared.Standing.TheVariants.{Settled}
@@ -32,8 +32,8 @@ start_low plan main frames brief = let s = opening_low plan main frames brief in
 module _ (plan : Plan) (variables : ℕ → ℕ) (f : ℕ) where
   function_length : (code : Actions) → length (function_code plan variables f code) ≤ most_words_in code + 22
   function_length code =
-      let h : length (function_code plan variables f code) ≤ 20 + most_words_in code
-      = append_short (entry_code plan variables f (live code nowhere)) (code_of (is_short code) plan variables f Settled unknown code nowhere 0 0) 20 (most_words_in code) (entry_short plan variables f (live code nowhere))
+      let h : length (function_code plan variables f code) ≤ 2 + most_words_in code
+      = append_short (entry_code plan f) (code_of (is_short code) plan variables f Settled unknown code nowhere 0 0) 2 (most_words_in code) (entry_short plan f)
       (code_length (is_short code) plan variables f Settled unknown code nowhere 0 0) in omega arith
 
 -- with three words less a function

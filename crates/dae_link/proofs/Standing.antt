@@ -8,7 +8,6 @@ use Rattle.dae_encode.specs.Spelling.{InRange, encoded}
 use Rattle.dae_ir.specs.Streams.{Actions, actions_of}
 use Rattle.dae_ir.specs.declared.stream.StreamFunction.{StreamFunction}
 use Rattle.dae_select_walks.specs.Layout.{CodeAt}
-use Rattle.dae_select_walks.specs.Live.{live, nowhere}
 use Rattle.dae_select_walks.specs.Agrees.{Plan}
 use Rattle.dae_select_blocks.specs.Code.{entry_code, function_code}
 use Rattle.dae_select_blocks.proofs.LawsOfBlocks.{words_are_code}
@@ -36,11 +35,11 @@ module _ (p : Plan) (variables : ℕ → ℕ) where
   placed_same what same (f ∷ fs) (l ∷ ls) word k (suc g) e = placed_same what same fs ls (word + length (function_code p variables k (actions_of f.body))) (k + 1) g (omega arith)
 
   pub start_behind : (fs : List StreamFunction) (ls : List FunctionLayout) (word k g i : ℕ) → length ls ≡ length fs → g < length fs → k + g ≡ i
-      → start_at (slice_get (placed p variables word k fs ls) g) ≡ entry_at (slice_get (placed p variables word k fs ls) g) + length (entry_code p variables i (live (body_in (slice_get fs g)) nowhere))
+      → start_at (slice_get (placed p variables word k fs ls) g) ≡ entry_at (slice_get (placed p variables word k fs ls) g) + length (entry_code p i)
   start_behind [] ls word k g i e lt at = absurd (omega arith)
   start_behind (f ∷ fs) [] word k g i e lt at = absurd (omega arith)
   start_behind (f ∷ fs) (l ∷ ls) word k zero i e lt at =
-      let same : k ≡ i = omega arith in ap (λ (n : ℕ). word + length (entry_code p variables n (live (actions_of f.body) nowhere))) same
+      let same : k ≡ i = omega arith in ap (λ (n : ℕ). word + length (entry_code p n)) same
   start_behind (f ∷ fs) (l ∷ ls) word k (suc g) i e lt at =
       start_behind fs ls (word + length (function_code p variables k (actions_of f.body))) (k + 1) g i (omega arith) (omega arith) (omega arith)
 

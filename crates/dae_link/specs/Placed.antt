@@ -4,7 +4,6 @@ use Rattle.std.specs.Prelude.{ℕ, ◌+◌, List, [], ◌∷◌, ◌++◌, lengt
 use Rattle.dae_encode.specs.declared.Inst.{Inst}
 use Rattle.dae_ir.specs.Streams.{actions_of}
 use Rattle.dae_ir.specs.declared.stream.StreamFunction.{StreamFunction}
-use Rattle.dae_select_walks.specs.Live.{live, nowhere}
 use Rattle.dae_select_walks.specs.Agrees.{Plan}
 use Rattle.dae_select_blocks.specs.Code.{entry_code, function_code, start_code, finish_code}
 use Rattle.dae_select.specs.Grown.{advance}
@@ -32,7 +31,7 @@ abbrev pub placed : Plan → (ℕ → ℕ) → ℕ → ℕ → List StreamFuncti
 placed plan variables word k [] ls = []
 placed plan variables word k (f ∷ fs) [] = []
 placed plan variables word k (f ∷ fs) (l ∷ ls) =
-    moved l word (length (entry_code plan variables k (live (actions_of f.body) nowhere)))
+    moved l word (length (entry_code plan k))
     ∷ placed plan variables (word + length (function_code plan variables k (actions_of f.body))) (k + 1) fs ls
 
 -- the words at which the actions of the functions from the k-th on begin, where the first of them is entered at a word

@@ -13,10 +13,9 @@ use Rattle.dae_ir.specs.declared.form.Operand.{Operand}
 use Rattle.dae_ir.specs.declared.stream.Class.{Class}
 use Rattle.dae_ir_pair.proofs.Laws.{streams_set_first}
 use Rattle.dae_select_walks.specs.Live.{live, nowhere}
-use Rattle.dae_select_walks.specs.Homes.{AreApart}
+use Rattle.dae_select_walks.specs.Agrees.{Plan}
 use Rattle.dae_select_walks.proofs.LawsOfWalks.{live_set}
-use Rattle.dae_select_walks.specs.declared.Home.{Home}
-use Rattle.dae_select_blocks.specs.Wanted.{gives}
+use Rattle.dae_select_blocks.specs.Wanted.{gives, HaveHomes}
 use Rattle.dae_link_faithful.specs.Made.{stream}
 
 -- arguments for the parameters from k on that are in the set
@@ -68,9 +67,10 @@ module _ (ir : Ir) (tables : List (List Class)) (cap : ℕ) (closed : AreClosed 
           let low = s.0 in let high = s.1 in
           absurd (grind (arith, nat_tests))
 
--- where the parameters' homes are apart, so are those of the arguments
-pub arguments_apart : (home : ℕ → Home) (callee : VariableSet) (xs : List Operand) (count : ℕ) → length xs ≡ count → AreApart home (parameters_set count) → AreApart home (gives (arguments_in callee 1 xs))
-arguments_apart home callee xs count same apart u v hu hv other = apart u v (inside u hu) (inside v hv) other
+-- what the parameters' homes are, so are those of the arguments
+pub arguments_homes : (plan : Plan) (g : ℕ) (callee : VariableSet) (xs : List Operand) (count : ℕ) → length xs ≡ count → HaveHomes plan g (parameters_set count) → HaveHomes plan g (gives (arguments_in callee 1 xs))
+arguments_homes plan g callee xs count same homes =
+    record { apart = λ u v hu hv other. homes.apart u v (inside u hu) (inside v hv) other; free = λ u n r hu. homes.free u n r (inside u hu) }
   where
     inside : (u : ℕ) → gives (arguments_in callee 1 xs) u ≡ true → parameters_set count u ≡ true
     inside u h =

@@ -118,10 +118,10 @@ module _ (ir : Ir) (tables : List (List Class)) (cap : ℕ) (image : Image) (rea
   wants : (b : Bool) (first : Processor) (c : Side b first) → (f : ℕ) → f < c.plan.functions → Each (IsWanted c.plan setup.copies (λ g. live (stream ir tables cap b g) nowhere) (c.plan.leaf f)) IsWantedBranch (stream ir tables cap b f)
   wants b first c f small =
       leaf_wanted c.plan setup.copies (λ g. live (stream ir tables cap b g) nowhere) (c.plan.leaf f) (stream ir tables cap b f) (c.codes f small).leaf
-      (stream_is_wanted ir tables cap least.closed b ready c.plan c.count c.apart setup.copies image.budget.cq (allowed image.budget.cq) c.side f (budget_covers ir tables cap pair image.budget is_pair is_budget f).copies small)
+      (stream_is_wanted ir tables cap least.closed b ready c.plan c.count c.homes setup.copies image.budget.cq (allowed image.budget.cq) c.side f (budget_covers ir tables cap pair image.budget is_pair is_budget f).copies small)
 
   alone : (b : Bool) (first : Processor) (c : Side b first) → (u : ℕ) → live (stream ir tables cap b ir.main) nowhere u ≡ false
-  alone b first c = main_is_alone ir tables cap least.closed b ready c.plan c.count c.apart
+  alone b first c = main_is_alone ir tables cap least.closed b ready c.plan c.count c.homes
 
   abbrev At_of : (b : Bool) (first : Processor) → Side b first → Spot → Processor → Type 0
   At_of b first c = Agreed b (program_of ir) (stream ir tables cap b) counts (length ir.functions) ir.main ir.frames setup first c (has b) (is_whole b) (wants b first c) (alone b first c) ready.main

@@ -26,8 +26,8 @@ use Rattle.dae_select_walks.specs.Homes.{IsHome, is_home_register, slot_at, kept
 use Rattle.dae_select_walks.specs.Agrees.{Plan}
 use Rattle.dae_select_walks.specs.declared.Home.{Home}
 use Rattle.dae_select_walks.specs.declared.Home.TheVariants.{Register, Slot}
-use Rattle.dae_select_blocks.specs.Blocks.{upper, lower, is_immediate, more_code, less_code, number_code, load_code, store_code, register_or, source, fetch_home, fetch, move_code, keep, operation_code, exponent, power_code, immediate_code, commutes, exchanged_code, behind_or, combine_registers, binary_code, extend_code, compare_code, compare_number_code, tell_number_code, compare_registers, compare_operands, test_code, value_code, system_code, stop_code, jump_by, enter_code, arguments_code, waits_at, save_code, restore_code, deeper_code, back_code, result_code, leave_code, jump_words, jump_over, jump_back, branch_inst, opposite, goes_by, goes_code, number_or, fetch_number, as_immediate, residents_code, prologue_code, epilogue_code}
-use Rattle.dae_select_blocks.specs.Code.{registers_in, call_code, entry_code, start_code, finish_code, past_code}
+use Rattle.dae_select_blocks.specs.Blocks.{upper, lower, is_immediate, more_code, less_code, number_code, load_code, store_code, register_or, source, fetch_home, fetch, move_code, keep, operation_code, exponent, power_code, immediate_code, commutes, exchanged_code, behind_or, combine_registers, binary_code, extend_code, compare_code, compare_number_code, tell_number_code, compare_registers, compare_operands, test_code, value_code, system_code, stop_code, jump_by, enter_code, arguments_code, save_code, restore_code, deeper_code, back_code, result_code, leave_code, jump_words, jump_over, jump_back, branch_inst, opposite, goes_by, goes_code, number_or, fetch_number, as_immediate, residents_code, prologue_code, epilogue_code, is_overwritten, argument_to, copy_code, parameter_to, parameters_code}
+use Rattle.dae_select_blocks.specs.Code.{call_code, entry_code, start_code, finish_code, past_code}
 use Rattle.dae_select_blocks.proofs.LawsOfBlocks.{AreBelowQueues, live_registers, number_below}
 use Rattle.dae_link_faithful.proofs.Access.{IsPlain}
 
@@ -350,8 +350,30 @@ module _ (plan : Plan) (variables : ℕ → ℕ) (good : (f v : ℕ) → IsHome 
   arguments_plain : (f g : ℕ) (xs : List Argument) → AllPlain (arguments_code plan f g xs)
   arguments_plain f g [] = tt
   arguments_plain f g (x ∷ xs) =
-      plain_append _ _ (arguments_plain f g xs) (plain_append _ _ (fetch_plain (variables f) (plan.home f) (good f) 5 x.operand (omega arith))
-      (store_plain (source (plan.home f) 5 x.operand) (plan.words f + waits_at (plan.home g x.parameter)) (source_low (variables f) (plan.home f) (good f) 5 x.operand (omega arith))))
+      plain_append _ _ (arguments_plain f g xs) (by (plan.home g x.parameter))
+    where
+      by : (home : Home) → AllPlain (argument_to plan f g xs home x.operand)
+      by (Register t) =
+          let q : ℕ = source (plan.home f) 5 x.operand in
+          plain_either (is_overwritten plan f g xs x.operand) (store_code q (kept_at q)) [] (store_plain q (kept_at q) (source_low (variables f) (plan.home f) (good f) 5 x.operand (omega arith))) tt
+      by (Slot i) =
+          plain_append _ _ (fetch_plain (variables f) (plan.home f) (good f) 5 x.operand (omega arith))
+          (store_plain (source (plan.home f) 5 x.operand) (plan.words f + slot_at i) (source_low (variables f) (plan.home f) (good f) 5 x.operand (omega arith)))
+
+  copy_plain : (t r : ℕ) → t < 28 → r < 28 → AllPlain (copy_code t r)
+  copy_plain t r a b = plain_either (nat_eq t r) [] (Addi t r (pos 0) ∷ []) tt ((a, b, omega arith), tt)
+
+  parameters_plain : (f g : ℕ) (xs : List Argument) → AllPlain (parameters_code plan f g xs)
+  parameters_plain f g [] = tt
+  parameters_plain f g (x ∷ xs) = plain_append _ _ (parameters_plain f g xs) (by (plan.home g x.parameter) (good g x.parameter))
+    where
+      by : (home : Home) → IsHome (variables g) home → AllPlain (parameter_to plan f g xs home x.operand)
+      by (Register t) is =
+          let low = home_low t is in
+          let q : ℕ = source (plan.home f) 5 x.operand in let r : ℕ = source (plan.home f) t x.operand in
+          plain_either (is_overwritten plan f g xs x.operand) (load_code t (kept_at q)) (fetch (plan.home f) t x.operand ++ copy_code t r) (load_plain t (kept_at q) low)
+          (plain_append _ _ (fetch_plain (variables f) (plan.home f) (good f) t x.operand low) (copy_plain t r low (source_low (variables f) (plan.home f) (good f) t x.operand low)))
+      by (Slot i) is = tt
 
   more_plain : (r n : ℕ) → r < 28 → AllPlain (more_code r n)
   more_plain r n h =
@@ -374,17 +396,16 @@ module _ (plan : Plan) (variables : ℕ → ℕ) (good : (f v : ℕ) → IsHome 
   pub call_plain : (f : ℕ) (v : Option ℕ) (g : ℕ) (xs : List Argument) (live : VariableSet) → AllPlain (call_code plan variables f v g xs live)
   call_plain f v g xs live =
       let rs = live_registers plan (variables f) f live in
-      plain_append _ _ (arguments_plain f g xs) (plain_append _ _ (save_plain _ rs) (plain_append (deeper_code plan f) _ (deeper_plain f) (plain_append (enter_code plan.near (plan.entry g)) _ (enter_plain plan.near (plan.entry g))
-      (plain_append (back_code plan f) _ (back_plain f) (plain_append _ _ (restore_plain _ rs) (result_plain (variables f) (plan.home f) (good f) v))))))
+      plain_append _ _ (arguments_plain f g xs) (plain_append _ _ (save_plain _ rs) (plain_append _ _ (parameters_plain f g xs) (plain_append (deeper_code plan f) _ (deeper_plain f) (plain_append (enter_code plan.near (plan.entry g)) _ (enter_plain plan.near (plan.entry g))
+      (plain_append (back_code plan f) _ (back_plain f) (plain_append _ _ (restore_plain _ rs) (result_plain (variables f) (plan.home f) (good f) v)))))))
 
   prologue_plain : (by_a leaf : Bool) → AllPlain (prologue_code by_a leaf)
   prologue_plain by_a true = tt
   prologue_plain true false = ((omega arith, omega arith), ((omega arith, omega arith, omega arith), tt))
   prologue_plain false false = ((omega arith, omega arith), tt)
 
-  pub entry_plain : (f : ℕ) (live : VariableSet) → AllPlain (entry_code plan variables f live)
-  entry_plain f live =
-      plain_append (prologue_code plan.by_a (plan.leaf f)) (restore_code (registers_in (plan.home f) (variables f) live)) (prologue_plain plan.by_a (plan.leaf f)) (restore_plain (registers_in (plan.home f) (variables f) live) (live_registers plan (variables f) f live))
+  pub entry_plain : (f : ℕ) → AllPlain (entry_code plan f)
+  entry_plain f = prologue_plain plan.by_a (plan.leaf f)
 
 pub finish_plain : (by_a : Bool) → AllPlain (finish_code by_a)
 finish_plain true = (tt, tt)

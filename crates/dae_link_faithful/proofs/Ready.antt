@@ -17,9 +17,8 @@ use Rattle.dae_ir.specs.declared.form.Item.TheVariants.{Assign, Load, Store, Pri
 use Rattle.dae_ir.specs.declared.form.Check.TheVariants.{Place, Zero, Room, Frame, Abort}
 use Rattle.dae_ir.specs.declared.stream.Class.{Class}
 use Rattle.dae_select_walks.specs.Live.{live, nowhere}
-use Rattle.dae_select_walks.specs.Homes.{AreApart}
 use Rattle.dae_select_walks.specs.Agrees.{Plan}
-use Rattle.dae_select_blocks.specs.Wanted.{IsWanted, IsWantedBranch}
+use Rattle.dae_select_blocks.specs.Wanted.{IsWanted, IsWantedBranch, HaveHomes}
 use Rattle.dae_link_faithful.specs.Made.{parameters_in, stream}
 use Rattle.dae_link_faithful.proofs.Usable.{IsUsable, ItemNumbers, TestNumbers, HasNumbers}
 use Rattle.dae_link_faithful.proofs.Streams.{found}
@@ -28,10 +27,10 @@ use Rattle.dae_link_faithful.proofs.Copied.{each_zip, rounds_copied}
 use Rattle.dae_machine_rounds.proofs.LawsOfRuns.{rounds_ok}
 use Rattle.dae_ir_pair.specs.Budget.{AtMost}
 use Rattle.dae_ir.specs.Rounds.{Decision, Rounds, rounds, is_copied}
-use Rattle.dae_link_faithful.proofs.Entries.{entry_given, arguments_apart, main_reads}
+use Rattle.dae_link_faithful.proofs.Entries.{entry_given, arguments_homes, main_reads}
 
 module _ (ir : Ir) (tables : List (List Class)) (cap : ℕ) (closed : AreClosed (program_of ir) (classes_of tables)) (b : Bool) (ready : IsUsable ir) (plan : Plan) (count : plan.functions ≡ length ir.functions)
-    (apart : (f : ℕ) → f < plan.functions → AreApart (plan.home f) (parameters_set (parameters_in (slice_get ir.functions f)))) where
+    (homes : (f : ℕ) → f < plan.functions → HaveHomes plan f (parameters_set (parameters_in (slice_get ir.functions f)))) where
   abbrev of : ℕ → Classes
   of = classes_of tables
 
@@ -49,7 +48,7 @@ module _ (ir : Ir) (tables : List (List Class)) (cap : ℕ) (closed : AreClosed 
         numbers,
         small,
         entry_given ir tables cap closed b g function e first xs takes,
-        arguments_apart (plan.home g) (set_of b (of g)) xs function.parameters takes (subst (λ (o : Option Function). AreApart (plan.home g) (parameters_set (parameters_in o))) e (apart g small)),
+        arguments_homes plan g (set_of b (of g)) xs function.parameters takes (subst (λ (o : Option Function). HaveHomes plan g (parameters_set (parameters_in o))) e (homes g small)),
       )
 
   item_wanted : (f n : ℕ) (item : Item) → AddressesKept (λ g. (of g).s) (of f).s item → ItemIn ir.functions n item × ItemNumbers item → Wants f item

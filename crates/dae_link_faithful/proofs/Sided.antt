@@ -710,11 +710,11 @@ module _ (plan : Plan) (variables : ℕ → ℕ) (good : (f v : ℕ) → IsHome 
 
       function_both : (code : Actions) → AreOfSide by_a' code → Both code (function_code plan variables f code)
       function_both code is =
-          let enters = entry_code plan variables f (live code nowhere) in
+          let enters = entry_code plan f in
           let does = code_of (is_short code) plan variables f Settled unknown code nowhere 0 0 in
           let both = code_both (is_short code) Settled unknown code nowhere 0 0 tt is in (
             (λ alone. both.0 (alone_split by_a' q enters does alone).1),
-            (λ free. alone_append by_a' q enters does (silent enters (entry_plain plan variables good f (live code nowhere))) (both.1 free)),
+            (λ free. alone_append by_a' q enters does (silent enters (entry_plain plan variables good f)) (both.1 free)),
           )
 
 pub function_uses : (plan : Plan) (variables : ℕ → ℕ) → ((f v : ℕ) → IsHome (variables f) (plan.home f v)) → (f : ℕ) (code : Actions) → AreOfSide plan.by_a code → (q : Queue) → LeavesAlone plan.by_a q (function_code plan variables f code) ↔ IsUntouched plan.by_a q code

@@ -20,11 +20,10 @@ use Rattle.dae_ir.specs.declared.stream.Last.TheVariants.{Nothing, Stores, Print
 use Rattle.dae_ir.specs.declared.stream.Mark.{Mark}
 use Rattle.dae_ir.specs.declared.stream.Action.{Action}
 use Rattle.dae_ir.specs.declared.stream.Action.TheVariants.{Tell, Hear, Call}
-use Rattle.dae_select_walks.specs.Homes.{AreApart}
 use Rattle.dae_link_faithful.proofs.Usable.{AllNumbers}
 use Rattle.dae_select_walks.specs.Agrees.{Plan}
 use Rattle.dae_select_blocks.specs.Sizes.{one_call, calls_in}
-use Rattle.dae_select_blocks.specs.Wanted.{IsNumber, AreNumbers, IsWantedCheck, IsWantedStop, IsWantedResult, AreGiven, gives, IsWanted, IsWantedBranch}
+use Rattle.dae_select_blocks.specs.Wanted.{IsNumber, AreNumbers, IsWantedCheck, IsWantedStop, IsWantedResult, AreGiven, gives, HaveHomes, IsWanted, IsWantedBranch}
 
 numbers_given : (callee : VariableSet) (k : ℕ) (xs : List Operand) → AllNumbers xs → AreGiven (arguments_in callee k xs)
 numbers_given callee k [] h = tt
@@ -82,7 +81,7 @@ module _ (plan : Plan) (copies : Bool) (entries : ℕ → VariableSet) (of : ℕ
   LastWanted (Decides place check) = IsWantedCheck false check
 
   abbrev pub CallWanted : Bool → ℕ → List Operand → Type 0
-  CallWanted b g xs = AllNumbers xs × (g < plan.functions) × ((u : ℕ) → entries g u ≡ true → gives (arguments_in (set_of b (of g)) 1 xs) u ≡ true) × AreApart (plan.home g) (gives (arguments_in (set_of b (of g)) 1 xs))
+  CallWanted b g xs = AllNumbers xs × (g < plan.functions) × ((u : ℕ) → entries g u ≡ true → gives (arguments_in (set_of b (of g)) 1 xs) u ≡ true) × HaveHomes plan g (gives (arguments_in (set_of b (of g)) 1 xs))
 
   abbrev pub ItemWanted : Bool → Item → Type 0
   ItemWanted b (Assign v x) = AreNumbers x × Copied v

@@ -28,15 +28,14 @@ use Rattle.dae_ir.specs.declared.stream.Action.TheVariants.{Break, Continue, Cal
 use Rattle.dae_ir.specs.declared.stream.Branch.{Branch}
 use Rattle.dae_select_walks.specs.Walks.{Setting}
 use Rattle.dae_select_walks.specs.Layout.{CodeAt}
-use Rattle.dae_select_walks.specs.Homes.{AreApart}
-use Rattle.dae_select_walks.specs.Live.{live, lives, nowhere}
+use Rattle.dae_select_walks.specs.Live.{lives, nowhere}
 use Rattle.dae_select_walks.specs.Facts.{unknown}
 use Rattle.dae_select_walks.specs.Agrees.{Plan}
 use Rattle.dae_select_walks.specs.declared.Standing.TheVariants.{Settled}
 use Rattle.dae_select_blocks.specs.Code.{code_of, start_code}
 use Rattle.dae_select_blocks.specs.Sizes.{calls_in, is_short}
 use Rattle.dae_select_blocks.specs.Fits.{Fits}
-use Rattle.dae_select_blocks.specs.Wanted.{IsNumber, AreNumbers, IsPlanOf, IsLinked, IsRight}
+use Rattle.dae_select_blocks.specs.Wanted.{IsNumber, AreNumbers, IsPlanOf, IsLinked, HaveHomes, IsRight}
 use Rattle.dae_select_blocks.specs.Laws.{opened_with}
 
 -- ---- what a stream must be, that the meaning of single actions doesn't say
@@ -103,9 +102,9 @@ pub record IsSide (by_a : Bool) (p : Program) (body : ℕ → Actions) (paramete
   pub count : plan.functions ≡ functions
   pub fits : Fits (setting_of setup plan.by_a) plan variables
   pub is_plan : IsPlanOf p plan
-  pub linked : IsLinked (setting_of setup plan.by_a) plan variables (λ f. live (body f) nowhere)
+  pub linked : IsLinked (setting_of setup plan.by_a) plan
   pub codes : (f : ℕ) → f < plan.functions → HasCode (setting_of setup plan.by_a) plan variables f (body f)
-  pub apart : (f : ℕ) → f < plan.functions → AreApart (plan.home f) (parameters_set (parameters f))
+  pub homes : (f : ℕ) → f < plan.functions → HaveHomes plan f (parameters_set (parameters f))
   pub start : HasStart (setting_of setup plan.by_a) plan main frames
   pub opens : first ≡ opened_with plan.private
 

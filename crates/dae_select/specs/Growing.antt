@@ -87,7 +87,7 @@ abbrev mutual
 abbrev pub function_places : Plan → (ℕ → ℕ) → ℕ → Actions → List PlacedWord
 function_places plan variables f code =
     let actions = marked_code (is_short code) plan variables f Settled unknown code nowhere 0 0 in
-    from_front (length (entry_code plan variables f (live code nowhere)) + length actions.code) actions.places
+    from_front (length (entry_code plan f) + length actions.code) actions.places
 
 -- in front of this code stands the code of a function's actions, before which things stand so and this is known,
 -- and these variables are live before it. A Break's way from its end is so much longer than what stands there, and a Continue's

@@ -1,9 +1,8 @@
 // The code of a whole function.
 
 ghost use Rattle.std.specs.Prelude.{◌≡◌, length, IfOk, OnOk};
-ghost use Rattle.dae_select_walks.specs.Live.{live, nowhere};
+ghost use Rattle.dae_select_walks.specs.Live.{nowhere};
 ghost use Rattle.dae_select_walks.specs.Facts.{unknown};
-ghost use Rattle.dae_select_live.specs.Members.{member};
 ghost use Rattle.dae_select_walks.specs.declared.Standing.TheVariants.{Settled as IsSettled};
 ghost use Rattle.dae_ir.specs.Streams.{actions_of};
 ghost use Rattle.dae_select_blocks.specs.Code.{entry_code, function_code};
@@ -18,19 +17,18 @@ use crate::making::Exits;
 use crate::walking::list_code;
 use dae_encode::Inst;
 use dae_ir::Step;
-use dae_select_calls::{Layouts, Making, entry_code};
+use dae_select_calls::{Layouts, Making, prologue_code};
 use dae_select_facts::unknown;
 use dae_select_live::LiveSet;
 use std::alloc::{AllocError, Global};
 
-/// The code of a function's actions; and what is live before them.
-fn body_code(code: &mut GrowingCode, making: &Making, body: &[Step]) -> Result<LiveSet, AllocError>
+/// The code of a function's actions.
+fn body_code(code: &mut GrowingCode, making: &Making, body: &[Step]) -> Result<(), AllocError>
     requires sound { IsSound making.now }
     requires empty { code.old ≡ no_code }
-    ensures code { OnOk result (code.new
+    ensures { OnOk result (code.new
         ≡ marked_code (by_jal making.now) (plan_by making.now) (variables_by making.now)
         making.now.function IsSettled unknown (actions_of body.now) nowhere 0 0) }
-    ensures live { IfOk result (λ set. member set ≡ live (actions_of body.now) nowhere) }
 {
     let leaves = LiveSet::new(making.alloc);
     let skips = LiveSet::new(making.alloc);
@@ -41,7 +39,8 @@ fn body_code(code: &mut GrowingCode, making: &Making, body: &[Step]) -> Result<L
         skips: 0,
     };
     let next = LiveSet::new(making.alloc);
-    list_code(code, making, unknown(making.alloc), body, next, &exits)
+    list_code(code, making, unknown(making.alloc), body, next, &exits)?;
+    Ok(())
 }
 
 /// The code of a function, how many of its words come before its actions, and the words at which actions begin.
@@ -64,8 +63,7 @@ pub fn function_code(
         ≡ function_code (plan_of layouts.now) (variables_of layouts.now) function
         (actions_of body.now)) }
     ensures entry { IfOk result (λ made. made.entry
-        ≡ length (entry_code (plan_of layouts.now) (variables_of layouts.now) function (live
-        (actions_of body.now) nowhere))) }
+        ≡ length (entry_code (plan_of layouts.now) function)) }
     ensures places { IfOk result (λ made. made.places.items
         ≡ function_places (plan_of layouts.now) (variables_of layouts.now) function
         (actions_of body.now)) }
@@ -81,9 +79,9 @@ pub fn function_code(
         jumps: jumps_in(body),
     };
     let mut actions = GrowingCode::new(alloc);
-    let live = body_code(&mut actions, &making, body)?;
+    body_code(&mut actions, &making, body)?;
     let mut code = Vec::new(alloc);
-    entry_code(&mut code, &making, &live)?;
+    prologue_code(&mut code, &making)?;
     let entry = code.len();
     let places = actions.places(alloc, entry)?;
     code.extend_from_slice(actions.into_vec().as_slice())?;

@@ -21,18 +21,17 @@ use Rattle.dae_select_walks.specs.Homes.{Contents, resident_home, resident_regis
 use Rattle.dae_select_walks.specs.Agrees.{Plan, Moment, AreResident, Shows, Stands, counted_depth}
 use Rattle.dae_select_walks.proofs.LawsOfWalks.{comes_map, comes_then}
 use Rattle.dae_select_walks.proofs.LawsOfWalks.{put}
-use Rattle.dae_select_blocks.specs.Blocks.{number_code, residents_code, enter_code, restore_code, enter_words}
-use Rattle.dae_select_blocks.specs.Code.{registers_in, entry_code, start_code}
+use Rattle.dae_select_blocks.specs.Blocks.{number_code, residents_code, enter_code, enter_words, prologue_code}
+use Rattle.dae_select_blocks.specs.Code.{entry_code, start_code}
 use Rattle.dae_select_blocks.specs.Fits.{Fits}
 use Rattle.dae_select_blocks.specs.Laws.{opened_with, CodeBegins}
-use Rattle.dae_select_blocks.proofs.Lengths.{entry_alone, opening_short, residents_short, finish_some, enter_long}
+use Rattle.dae_select_blocks.proofs.Lengths.{opening_short, residents_short, finish_some, enter_long, entry_short}
 use Rattle.dae_select_blocks.specs.Wanted.{IsLinked}
 use Rattle.dae_select_blocks.proofs.Plain.{put_same, put_other}
 use Rattle.dae_select_blocks.proofs.Frames.{runs_number}
-use Rattle.dae_select_blocks.proofs.Runs.{Runs, runs_nothing, code_take, code_drop}
-use Rattle.dae_select_blocks.proofs.Agreement.{resident_high, address_same}
+use Rattle.dae_select_blocks.proofs.Runs.{Runs, runs_nothing, code_take, code_drop, runs_alone}
+use Rattle.dae_select_blocks.proofs.Agreement.{resident_high}
 use Rattle.dae_select_blocks.proofs.Operands.{like_put}
-use Rattle.dae_select_blocks.proofs.Calls.{register_kept, runs_restore, among_not, among_other}
 use Rattle.dae_select_blocks.proofs.Entering.{jumps_in, runs_prologue}
 
 abbrev pub nothing : Contents
@@ -111,7 +110,7 @@ record Begun (plan : Plan) (first k : ℕ) (p : Processor) : Type 0 where
   pub ten : plan.by_a ≡ true → contents.register 10 ≡ 0
   pub residents : AreResident plan contents
 
-module _ (s : Setting) (plan : Plan) (variables : ℕ → ℕ) (fine : Fits s plan variables) (entries : ℕ → VariableSet) (linked : IsLinked s plan variables entries) where
+module _ (s : Setting) (plan : Plan) (variables : ℕ → ℕ) (fine : Fits s plan variables) (entries : ℕ → VariableSet) (linked : IsLinked s plan) where
   abbrev before_main : ℕ → List Inst
   before_main first = number_code 3 first ++ (residents_code 27 plan.residents ++ (if plan.by_a then number_code 4 (plan.memory - 16) else []))
 
@@ -151,7 +150,7 @@ module _ (s : Setting) (plan : Plan) (variables : ℕ → ℕ) (fine : Fits s pl
 
   -- main reads nothing at its entry
   pub begins : (main first : ℕ) → main < plan.functions → ((u : ℕ) → entries main u ≡ false) → first ≤ plan.memory → 1 ≤ plan.limit → plan.limit * plan.largest ≤ plan.private → plan.finish ≡ length (start_code plan main first) →
-      CodeAt s.code 0 (start_code plan main first) → Comes s (length (start_code plan main first) + length (entry_code plan variables main (entries main))) (opened_with plan.private) (Stands plan (entries main) (record { function = main; env = (λ _. 0); frame = first; waiting = [] }) (plan.start main))
+      CodeAt s.code 0 (start_code plan main first) → Comes s (length (start_code plan main first) + length (entry_code plan main)) (opened_with plan.private) (Stands plan (entries main) (record { function = main; env = (λ _. 0); frame = first; waiting = [] }) (plan.start main))
   begins main first there reads fits deep room ends at =
       let m : Moment = record { function = main; env = (λ _. 0); frame = first; waiting = [] } in
       let most = fine.common in let low = linked.low in
@@ -169,42 +168,35 @@ module _ (s : Setting) (plan : Plan) (variables : ℕ → ℕ) (fine : Fits s pl
       let l1 = j.1 in
       let l2 = like_put 1 (4 * (0 + length (before_main first) + enter_words plan.near)) j.0 (omega arith) l1.fits in
       let pointer : c1.register 2 ≡ 0 = l1.registers 2 (omega arith) ∙ b.two in
-      let rs : List ℕ = registers_in (plan.home main) (variables main) (entries main) in
-      let run : Runs s plan.private to (entry_code plan variables main (entries main)) c1 (Went (λ _. 0)) =
-      runs_prologue s plan variables fine entries linked to main 0 (restore_code rs) pointer (omega arith) l2.fits (λ i. subst (λ (x : ℕ). x < 2 ^ 32) (sym (l1.words i)) (b.shows.holds i)) (λ e. subst (λ (x : ℕ). x < 2 ^ 20) (sym (l1.registers 10 (omega arith) ∙ b.ten e)) (omega arith)) (λ c2 kept'.
-      let last : Runs s plan.private to (restore_code rs ++ []) c2 (Went (λ _. 0)) = runs_restore s plan variables fine to 0 rs [] (λ q e. register_kept (plan.home main) (variables main) q (entries main) e) (kept'.registers 2 (omega arith) ∙ pointer) (omega arith) kept'.fits kept'.small (λ c3 restored.
+      let last : Runs s plan.private to (prologue_code plan.by_a (plan.leaf main) ++ []) c1 (Went (λ _. 0)) =
+      runs_prologue s plan variables fine entries linked to main 0 [] pointer (omega arith) l2.fits (λ i. subst (λ (x : ℕ). x < 2 ^ 32) (sym (l1.words i)) (b.shows.holds i)) (λ e. subst (λ (x : ℕ). x < 2 ^ 20) (sym (l1.registers 10 (omega arith) ∙ b.ten e)) (omega arith)) (λ c2 opened.
       runs_nothing s plan.private to (λ k o shows. record {
-        contents = c3;
+        contents = c2;
         shows = shows;
         agrees = record {
           base = 0;
           variables = (λ u e. absurd (contradicts u e));
-          pointer = restored.others 2 (among_not (plan.home main) (variables main) 2 (entries main) refl) ∙ (kept'.registers 2 (omega arith) ∙ pointer);
-          frame = restored.others 3 (among_not (plan.home main) (variables main) 3 (entries main) refl) ∙ (kept'.registers 3 (omega arith) ∙ (l1.registers 3 (omega arith) ∙ b.three));
-          depth = (λ e. restored.others 10 (among_not (plan.home main) (variables main) 10 (entries main) refl) ∙ (kept'.ten e ∙ ap (λ (n : ℕ). counted_depth plan main (n + 1)) (l1.registers 10 (omega arith) ∙ b.ten e)));
-          addresses = (λ e. restored.others 4 (among_not (plan.home main) (variables main) 4 (entries main) refl) ∙ (kept'.registers 4 (omega arith) ∙ (l1.registers 4 (omega arith) ∙ b.four e)));
+          pointer = opened.registers 2 (omega arith) ∙ pointer;
+          frame = opened.registers 3 (omega arith) ∙ (l1.registers 3 (omega arith) ∙ b.three);
+          depth = (λ e. opened.ten e ∙ ap (λ (n : ℕ). counted_depth plan main (n + 1)) (l1.registers 10 (omega arith) ∙ b.ten e));
+          addresses = (λ e. opened.registers 4 (omega arith) ∙ (l1.registers 4 (omega arith) ∙ b.four e));
           residents = (λ n o e.
               let high = resident_high (resident_home 27 plan.residents n) o e in
-              restored.others o (among_other (plan.home main) (variables main) o (entries main) (λ v l. fine.apart main v n o l e))
-              ∙ (kept'.registers o (omega arith) ∙ (l2.registers o (omega arith) ∙ (l1.registers o (omega arith) ∙ b.residents n o e))));
-          waiting = (
-            refl,
-            (omega arith),
-            address_same s plan variables fine main 0 c2 c3 (restored.others 1 (among_not (plan.home main) (variables main) 1 (entries main) refl)) (restored.words 0) ∙ (kept'.address ∙ ap (λ n. 4 * n) back),
-          );
+              opened.registers o (omega arith) ∙ (l2.registers o (omega arith) ∙ (l1.registers o (omega arith) ∙ b.residents n o e)));
+          waiting = (refl, (omega arith), opened.address ∙ ap (λ n. 4 * n) back);
           room = (let same : plan.limit + 1 - 1 ≡ plan.limit = omega arith in rw same (omega arith));
           within = record { depth = deep; frame = fits };
         };
       })) in
-      rw append-nil at last) in
-      subst (λ (n : ℕ). Comes s (length (entry_code plan variables main (entries main))) r (Stands plan (entries main) m n)) (sym start) (run.from (plan.entry main) (omega arith) entry r j.2))) in
-      comes_map s (length (start_code plan main first) + length (entry_code plan variables main (entries main))) (omega arith) (λ q g. g) two
+      let run : Runs s plan.private to (entry_code plan main) c1 (Went (λ _. 0)) = runs_alone s plan.private to (entry_code plan main) last in
+      subst (λ (n : ℕ). Comes s (length (entry_code plan main)) r (Stands plan (entries main) m n)) (sym start) (run.from (plan.entry main) (omega arith) entry r j.2))) in
+      comes_map s (length (start_code plan main first) + length (entry_code plan main)) (omega arith) (λ q g. g) two
     where
       contradicts : (u : ℕ) → entries main u ≡ true → ⊥
       contradicts u e = let no' = reads u in absurd cc
 
 pub code_begins : CodeBegins
 code_begins s plan variables entries main frames fine linked b =
-    let l1 = entry_alone plan variables main (entries main) b.reads in let l2 = opening_short plan main frames in let l3 = finish_some plan.by_a in
+    let l1 = entry_short plan main in let l2 = opening_short plan main frames in let l3 = finish_some plan.by_a in
     let l4 = residents_short 27 plan.residents in let few = fine.few in
     comes_map s 14 (omega arith) (λ q g. g) (begins s plan variables fine entries linked main frames b.there b.reads b.first b.deep b.room b.finish b.code)

@@ -1,5 +1,5 @@
--- A call keeps what is live behind it, and gives its arguments; a return brings back.
-use Rattle.std.proofs.Common.{◌≡◌, ◌≢◌, ℕ, zero, suc, ◌+◌, ◌*◌, ◌^◌, ◌<◌, ◌≤◌, ◌⊎◌, inl, inr, Bool, true, false, ◌&&◌, ◌||◌, List, [], ◌∷◌, ◌++◌, refl, sym, ap, ◌∙◌, arith, append_assoc}
+-- A call keeps what is live behind it; arguments go to slots, or wait; a return brings back.
+use Rattle.std.proofs.Common.{◌≡◌, ◌≢◌, ℕ, zero, suc, ◌+◌, ◌*◌, ◌^◌, ◌<◌, ◌≤◌, ◌⊎◌, inl, inr, Bool, true, false, ◌&&◌, ◌||◌, List, [], ◌∷◌, ◌++◌, refl, sym, ap, ◌∙◌, subst, arith, append_assoc}
 use Rattle.std.specs.Prelude.{nat_eq, if◌then◌else◌}
 use Rattle.std.proofs.lemmas.Bool.Decides.{nat_tests}
 use Rattle.dae_base.proofs.Laws.{or_true}
@@ -18,14 +18,14 @@ use Rattle.dae_select_walks.specs.Homes.{Contents, held, IsHome, AreApart, is_ho
 use Rattle.dae_select_walks.specs.Agrees.{Plan, Moment}
 use Rattle.dae_select_walks.specs.Compiled.{given}
 use Rattle.dae_select_walks.proofs.LawsOfWalks.{put, store}
-use Rattle.dae_select_blocks.specs.Blocks.{source, fetch, store_code, waits_at, arguments_code, is_register, save_code, restore_code}
+use Rattle.dae_select_blocks.specs.Blocks.{source, store_code, is_register, gives_register, is_overwritten, argument_to, argument_code, arguments_code, save_code, restore_code}
 use Rattle.dae_select_blocks.specs.Code.{some_below, filtered, home_registers, registers_in}
 use Rattle.dae_select_blocks.specs.Fits.{Fits}
-use Rattle.dae_select_blocks.specs.Wanted.{AreGiven, gives}
+use Rattle.dae_select_blocks.specs.Wanted.{IsNumber, AreGiven, gives}
 use Rattle.dae_select_blocks.proofs.Plain.{put_same, put_other}
 use Rattle.dae_select_blocks.proofs.Frames.{runs_load, runs_store}
 use Rattle.dae_select_blocks.proofs.Runs.{Runs}
-use Rattle.dae_select_blocks.proofs.Agreement.{Ready, Like, ready_like, home_register, resident_high, kept_small, waiting_stays}
+use Rattle.dae_select_blocks.proofs.Agreement.{Ready, ready_like, home_register, resident_high, kept_small, waiting_stays}
 use Rattle.dae_select_blocks.proofs.Operands.{like_put, runs_fetch}
 use Rattle.dae_select_blocks.proofs.Computing.{is_scratch, is_work, source_plain, source_apart}
 
@@ -119,16 +119,20 @@ kept_apart q r a b ne e = grind (arith, nat_tests)
 pub kept_low : (r : ℕ) → is_home_register r ≡ true → 0 < kept_at r
 kept_low r a = grind (arith, nat_tests)
 
--- where an argument waits tells its home
-waits_apart : (n k : ℕ) (h g : Home) → IsHome n h → IsHome k g → h ≢ g → waits_at h ≢ waits_at g
-waits_apart n k (Register q) (Register r) a b ne e = kept_apart q r a b (λ same. ne (ap Register same)) e
-waits_apart n k (Register q) (Slot i) a b ne e = let l = kept_small q a in omega arith
-waits_apart n k (Slot i) (Register r) a b ne e = let l = kept_small r b in omega arith
-waits_apart n k (Slot i) (Slot j) a b ne e = ne (ap Slot (omega arith))
+-- what holds of an argument's variable and its value, and of those behind it, holds of them all
+pub given_more : (env : Env) (x : Argument) (xs : List Argument) (P : ℕ → ℕ → Type 0) → P x.parameter (value x.operand env) → ((u : ℕ) → u ≢ x.parameter → gives xs u ≡ true → P u (given xs env u)) → (u : ℕ) → gives (x ∷ xs) u ≡ true → P u (given (x ∷ xs) env u)
+given_more env x xs P here others u e = by (nat_eq u x.parameter) refl e
+  where
+    by : (t : Bool) → nat_eq u x.parameter ≡ t → (t || gives xs u) ≡ true → P u (if t then value x.operand env else given xs env u)
+    by true s k = let same : x.parameter ≡ u = grind (arith, nat_tests) in subst (λ (v : ℕ). P v (value x.operand env)) same here
+    by false s k = others u (grind (arith, nat_tests)) k
 
-waits_inside : (n : ℕ) (h : Home) → IsHome n h → waits_at h < 19 + n
-waits_inside n (Register r) a = let l = kept_small r a in omega arith
-waits_inside n (Slot i) a = omega arith
+-- the operands that are overwritten wait in the words in which their registers are kept
+abbrev pub Wait : Plan → ℕ → ℕ → ℕ → Contents → List Argument → Type 0
+Wait plan f g base c [] = Unit {0}
+Wait plan f g base c (x ∷ xs) =
+    ((t : ℕ) → plan.home g x.parameter ≡ Register t → is_overwritten plan f g xs x.operand ≡ true → c.word (base + kept_at (source (plan.home f) 5 x.operand)) ≡ c.register (source (plan.home f) 5 x.operand))
+    × Wait plan f g base c xs
 
 -- the kept registers are in the frame, and all else is as it was
 pub record Saved (rs : List ℕ) (base : ℕ) (c c' : Contents) : Type 0 where
@@ -235,8 +239,8 @@ module _ (s : Setting) (plan : Plan) (variables : ℕ → ℕ) (fine : Fits s pl
       none c2 rest j true e h = absurd cc
       none c2 rest j false e h = let ne : j ≢ r = grind (arith, nat_tests) in rest.others j h ∙ put_other r (c.word (base + kept_at r)) j c ne
 
-  -- stores behind the running function's frame leave the agreement
-  pub ready_far : {live : VariableSet} {m : Moment} {c c' : Contents} (h : Ready plan live m c) → ((i : ℕ) → i < h.agrees.base + plan.words m.function → c'.word i ≡ c.word i) → ((j : ℕ) → j ≢ 7 → c'.register j ≡ c.register j) → ((j : ℕ) → c'.register j < 2 ^ 32) → ((i : ℕ) → c'.word i < 2 ^ 32) → Ready plan live m c'
+  -- stores behind the running function's frame, and where it keeps registers, leave the agreement
+  pub ready_far : {live : VariableSet} {m : Moment} {c c' : Contents} (h : Ready plan live m c) → ((i : ℕ) → (i ≤ h.agrees.base) ⊎ (h.agrees.base + 19 ≤ i) → i < h.agrees.base + plan.words m.function → c'.word i ≡ c.word i) → ((j : ℕ) → j ≢ 7 → c'.register j ≡ c.register j) → ((j : ℕ) → c'.register j < 2 ^ 32) → ((i : ℕ) → c'.word i < 2 ^ 32) → Ready plan live m c'
   ready_far {live} {m} {c} {c'} h words registers fits small =
       let a = h.agrees in let long = fine.words m.function in
       record {
@@ -245,57 +249,131 @@ module _ (s : Setting) (plan : Plan) (variables : ℕ → ℕ) (fine : Fits s pl
         small = small;
         agrees = record {
           base = a.base;
-          variables = λ v l. one a.base (variables m.function) (plan.home m.function v) (fine.homes m.function v) (λ i l. words i (omega arith)) ∙ a.variables v l;
+          variables = λ v l. one a.base (variables m.function) (plan.home m.function v) (fine.homes m.function v) (λ i o l. words i o (omega arith)) ∙ a.variables v l;
           pointer = registers 2 (omega arith) ∙ a.pointer;
           frame = registers 3 (omega arith) ∙ a.frame;
           depth = λ by_a. registers 10 (omega arith) ∙ a.depth by_a;
           addresses = λ by_a. registers 4 (omega arith) ∙ a.addresses by_a;
           residents = λ n q e. registers q (let high = resident_high (resident_home 27 plan.residents n) q e in omega arith) ∙ a.residents n q e;
-          waiting = waiting_stays s plan variables fine m.function c c' a.base m.frame m.waiting (registers 1 (omega arith)) (λ i l. words i (omega arith)) a.waiting;
+          waiting = waiting_stays s plan variables fine m.function c c' a.base m.frame m.waiting (registers 1 (omega arith)) (λ i l. words i (inl l) (omega arith)) a.waiting;
           room = a.room;
           within = a.within;
         };
       }
     where
-      one : (base n : ℕ) (home : Home) → IsHome n home → ((i : ℕ) → i < base + (19 + n) → c'.word i ≡ c.word i) → held c' base home ≡ held c base home
+      one : (base n : ℕ) (home : Home) → IsHome n home → ((i : ℕ) → (i ≤ base) ⊎ (base + 19 ≤ i) → i < base + (19 + n) → c'.word i ≡ c.word i) → held c' base home ≡ held c base home
       one base n (Register r) good same = registers r (let low = home_register r good in omega arith)
-      one base n (Slot i) good same = same (base + slot_at i) (omega arith)
+      one base n (Slot i) good same = same (base + slot_at i) (inr (omega arith)) (omega arith)
 
   -- the private frame begins where x2 says
   pub base_is : {live : VariableSet} {m : Moment} {c : Contents} (h : Ready plan live m c) (base : ℕ) → c.register 2 ≡ 4 * base → h.agrees.base ≡ base
   base_is h base e = let p = h.agrees.pointer in omega arith
 
-  -- the arguments wait in the frame of the function that is called
+  -- ---- arguments
+
+  -- arguments go into registers that variables may have
+  pub given_good : (g r : ℕ) (xs : List Argument) → gives_register (plan.home g) xs r ≡ true → is_home_register r ≡ true
+  given_good g r [] e = absurd cc
+  given_good g r (x ∷ xs) e = by (is_register r (plan.home g x.parameter)) refl e (given_good g r xs)
+    where
+      in_home : (home : Home) → IsHome (variables g) home → is_register r home ≡ true → is_home_register r ≡ true
+      in_home (Register h) good same = let is : r ≡ h = grind (arith, nat_tests) in rw is good
+      in_home (Slot i) good same = absurd (let no : false ≡ true = same in cc)
+
+      by : (b : Bool) → is_register r (plan.home g x.parameter) ≡ b → (b || gives_register (plan.home g) xs r) ≡ true → (gives_register (plan.home g) xs r ≡ true → is_home_register r ≡ true) → is_home_register r ≡ true
+      by true same e later = in_home (plan.home g x.parameter) (fine.homes g x.parameter) same
+      by false same e later = later e
+
+  pub wait_on : (f g base : ℕ) (c c' : Contents) (xs : List Argument) → ((q : ℕ) → is_home_register q ≡ true → c.word (base + kept_at q) ≡ c.register q → c'.word (base + kept_at q) ≡ c'.register q) → Wait plan f g base c xs → Wait plan f g base c' xs
+  wait_on f g base c c' [] step w = tt
+  wait_on f g base c c' (x ∷ xs) step w =
+      (λ t is o. step (source (plan.home f) 5 x.operand) (given_good g (source (plan.home f) 5 x.operand) xs o) (w.0 t is o), wait_on f g base c c' xs step w.1)
+
+  -- arguments are in their slots in the frame of the function that is called, and those that are overwritten wait
   pub record Gave (live : VariableSet) (m : Moment) (base g : ℕ) (xs : List Argument) (c' : Contents) : Type 0 where
     pub ready : Ready plan live m c'
     pub based : ready.agrees.base ≡ base
-    pub given : (u : ℕ) → gives xs u ≡ true → c'.word (base + (plan.words m.function + waits_at (plan.home g u))) ≡ given xs m.env u
+    pub slots : (u : ℕ) → gives xs u ≡ true → (i : ℕ) → plan.home g u ≡ Slot i → c'.word (base + (plan.words m.function + slot_at i)) ≡ given xs m.env u
+    pub waits : Wait plan m.function g base c' xs
+
+  runs_argument : {live : VariableSet} {m : Moment} {c : Contents} {d : Deed} (base g : ℕ) (xs : List Argument) (x : Argument) (is : List Inst) → ((u : ℕ) → in_operand x.operand u ≡ true → live u ≡ true) → IsNumber x.operand →
+      ((u : ℕ) → u ≢ x.parameter → gives xs u ≡ true → plan.home g u ≢ plan.home g x.parameter) → base + plan.words m.function + plan.words g ≤ plan.private → Gave live m base g xs c →
+      ((c' : Contents) → Gave live m base g (x ∷ xs) c' → Runs s plan.private to is c' d) → Runs s plan.private to (argument_code plan m.function g xs x ++ is) c d
+  runs_argument {live} {m} {c} {d} base g xs x is reads number apart inside gave run = by (plan.home g x.parameter) refl
+    where
+      -- a word in which a register is kept is none of the others
+      outside : (b i k : ℕ) → b ≡ base → (i ≤ b) ⊎ (b + 19 ≤ i) → 0 < k → k < 19 → i ≢ base + k
+      outside b i k same (inl h) low high e = omega arith
+      outside b i k same (inr h) low high e = omega arith
+
+      -- the operand's register waits; what waits in the same word is the same register
+      kept_too : (q : ℕ) (c' : Contents) → is_home_register q ≡ true → Stored (base + kept_at q) (c.register q) c c' → (r : ℕ) → is_home_register r ≡ true → c.word (base + kept_at r) ≡ c.register r → (t : Bool) → nat_eq r q ≡ t → c'.word (base + kept_at r) ≡ c'.register r
+      kept_too q c' home one r good same true e =
+          let is : r ≡ q = grind (arith, nat_tests) in let low = home_register q home in
+          rw is (one.here ∙ sym (one.registers q (omega arith)))
+      kept_too q c' home one r good same false e =
+          let ne : r ≢ q = grind (arith, nat_tests) in let low = home_register r good in
+          let far = kept_apart r q good home ne in
+          one.others (base + kept_at r) (λ there. far (omega arith)) ∙ (same ∙ sym (one.registers r (omega arith)))
+
+      waiting : (t : ℕ) → plan.home g x.parameter ≡ Register t → (b : Bool) → is_overwritten plan m.function g xs x.operand ≡ b →
+          Runs s plan.private to ((if b then store_code (source (plan.home m.function) 5 x.operand) (kept_at (source (plan.home m.function) 5 x.operand)) else []) ++ is) c d
+      waiting t e true o =
+          let q : ℕ = source (plan.home m.function) 5 x.operand in
+          let home : is_home_register q ≡ true = given_good g q xs o in
+          let low = home_register q home in let l = kept_small q home in let k = kept_low q home in
+          let long = fine.words m.function in let long' = fine.words g in
+          let pointer : c.register 2 ≡ 4 * base = gave.ready.agrees.pointer ∙ ap (λ n. 4 * n) gave.based in
+          runs_word base q (kept_at q) is pointer (omega arith) low.1 (omega arith) gave.ready.fits gave.ready.small (λ c1 one.
+          run c1 (record {
+            ready = ready_far gave.ready (λ i far near. one.others i (outside gave.ready.agrees.base i (kept_at q) gave.based far k l)) one.registers one.fits one.small;
+            based = base_is (ready_far gave.ready (λ i far near. one.others i (outside gave.ready.agrees.base i (kept_at q) gave.based far k l)) one.registers one.fits one.small) base (one.registers 2 (omega arith) ∙ pointer);
+            slots = given_more m.env x xs (λ (u v : ℕ). (i : ℕ) → plan.home g u ≡ Slot i → c1.word (base + (plan.words m.function + slot_at i)) ≡ v)
+                (λ i which. absurd (let no : Register t ≡ Slot i = sym e ∙ which in cc))
+                (λ u ne some i which. one.others (base + (plan.words m.function + slot_at i)) (omega arith) ∙ gave.slots u some i which);
+            waits = (λ r which o'. one.here ∙ sym (one.registers q (omega arith)), wait_on m.function g base c c1 xs (λ r good same. kept_too q c1 home one r good same (nat_eq r q) refl) gave.waits);
+          }))
+      waiting t e false o =
+          run c (record {
+            ready = gave.ready;
+            based = gave.based;
+            slots = given_more m.env x xs (λ (u v : ℕ). (i : ℕ) → plan.home g u ≡ Slot i → c.word (base + (plan.words m.function + slot_at i)) ≡ v)
+                (λ i which. absurd (let no : Register t ≡ Slot i = sym e ∙ which in cc)) (λ u ne some i which. gave.slots u some i which);
+            waits = (λ r which o'. absurd (let no : true ≡ false = sym o' ∙ o in cc), gave.waits);
+          })
+
+      by : (home : Home) → plan.home g x.parameter ≡ home → Runs s plan.private to (argument_to plan m.function g xs home x.operand ++ is) c d
+      by (Register t) e = waiting t e (is_overwritten plan m.function g xs x.operand) refl
+      by (Slot j) e =
+          let r : ℕ = source (plan.home m.function) 5 x.operand in
+          let w : ℕ = plan.words m.function + slot_at j in
+          let good = fine.homes g x.parameter in
+          let low : j < variables g = rw e at good in
+          let long = fine.words m.function in let long' = fine.words g in
+          let at_base = gave.based in
+          rw append_assoc (runs_fetch s plan variables fine to 5 x.operand (store_code r w ++ is) (is_work 5 (omega arith) (omega arith)) gave.ready reads number (λ c1 like got.
+          let h1 = ready_like s plan variables fine 5 (is_scratch plan 5 (omega arith) (omega arith)) like gave.ready in
+          let pointer : c1.register 2 ≡ 4 * base = like.registers 2 (omega arith) ∙ (gave.ready.agrees.pointer ∙ ap (λ n. 4 * n) at_base) in
+          let based = base_is h1 base pointer in
+          runs_word base r w is pointer (source_apart s plan variables fine to m.function 5 7 x.operand (omega arith) (omega arith) (omega arith)) (source_plain s plan variables fine to m.function 5 x.operand (omega arith)) (omega arith) h1.fits h1.small (λ c2 one.
+          run c2 (record {
+            ready = ready_far h1 (λ i far near. one.others i (omega arith)) one.registers one.fits one.small;
+            based = base_is (ready_far h1 (λ i far near. one.others i (omega arith)) one.registers one.fits one.small) base (one.registers 2 (omega arith) ∙ pointer);
+            slots = given_more m.env x xs (λ (u v : ℕ). (i : ℕ) → plan.home g u ≡ Slot i → c2.word (base + (plan.words m.function + slot_at i)) ≡ v)
+                (λ i which. (let both : Slot j ≡ Slot i = sym e ∙ which in let same : j ≡ i = cc in subst (λ (k : ℕ). c2.word (base + (plan.words m.function + slot_at k)) ≡ value x.operand m.env) same (one.here ∙ got)))
+                (λ u ne some i which. one.others (base + (plan.words m.function + slot_at i)) (λ there. apart u ne some (let same : i ≡ j = omega arith in which ∙ (ap Slot same ∙ sym e)))
+                ∙ (like.words (base + (plan.words m.function + slot_at i)) ∙ gave.slots u some i which));
+            waits = (
+              λ t which o. absurd (let no : Slot j ≡ Register t = sym e ∙ which in cc),
+              wait_on m.function g base c c2 xs (λ q home same.
+                  (let small = kept_small q home in let high = home_register q home in
+                  one.others (base + kept_at q) (omega arith) ∙ (like.words (base + kept_at q) ∙ (same ∙ sym (one.registers q (omega arith) ∙ like.registers q (omega arith)))))) gave.waits,
+            );
+          }))))
 
   pub runs_arguments : {live : VariableSet} {m : Moment} {c : Contents} {d : Deed} (g : ℕ) (xs : List Argument) (is : List Inst) (h : Ready plan live m c) → ((u : ℕ) → in_arguments xs u ≡ true → live u ≡ true) → AreGiven xs → AreApart (plan.home g) (gives xs) → h.agrees.base + plan.words m.function + plan.words g ≤ plan.private →
       ((c' : Contents) → Gave live m h.agrees.base g xs c' → Runs s plan.private to is c' d) → Runs s plan.private to (arguments_code plan m.function g xs ++ is) c d
-  runs_arguments {live} {m} {c} g [] is h reads numbers apart inside run = run c (record { ready = h; based = refl; given = λ u e. absurd cc })
+  runs_arguments {live} {m} {c} g [] is h reads numbers apart inside run = run c (record { ready = h; based = refl; slots = λ u e. absurd cc; waits = tt })
   runs_arguments {live} {m} {c} g (x ∷ xs) is h reads numbers apart inside run =
-      let base : ℕ = h.agrees.base in
-      let w : ℕ = plan.words m.function + waits_at (plan.home g x.parameter) in
-      let long = fine.words g in let in' = waits_inside (variables g) (plan.home g x.parameter) (fine.homes g x.parameter) in
-      let r : ℕ = source (plan.home m.function) 5 x.operand in
-      rw (append_assoc, append_assoc) (runs_arguments g xs (fetch (plan.home m.function) 5 x.operand ++ (store_code r w ++ is)) h (λ u e. reads u (rw e (or_true (in_operand x.operand u)))) numbers.1 (λ u v a b. apart u v (rw a (or_true (nat_eq u x.parameter))) (rw b (or_true (nat_eq v x.parameter)))) inside (λ c1 gave.
-      let h1 = gave.ready in let at_base = gave.based in
-      runs_fetch s plan variables fine to 5 x.operand (store_code r w ++ is) (is_work 5 (omega arith) (omega arith)) h1 (λ u e. reads u (rw e refl)) numbers.0 (λ c2 like got.
-      let h2 = ready_like s plan variables fine 5 (is_scratch plan 5 (omega arith) (omega arith)) like h1 in
-      let pointer : c2.register 2 ≡ 4 * base = like.registers 2 (omega arith) ∙ (h1.agrees.pointer ∙ ap (λ n. 4 * n) at_base) in
-      let based = base_is h2 base pointer in
-      runs_word base r w is pointer (source_apart s plan variables fine to m.function 5 7 x.operand (omega arith) (omega arith) (omega arith)) (source_plain s plan variables fine to m.function 5 x.operand (omega arith)) (omega arith) h2.fits h2.small (λ c3 one.
-      run c3 (record {
-        ready = ready_far h2 (λ i l. one.others i (omega arith)) one.registers one.fits one.small;
-        based = base_is (ready_far h2 (λ i l. one.others i (omega arith)) one.registers one.fits one.small) base (one.registers 2 (omega arith) ∙ pointer);
-        given = λ u e. by c1 c2 c3 gave like got one u (nat_eq u x.parameter) refl e;
-      })))))
-    where
-      by : (c1 c2 c3 : Contents) → Gave live m h.agrees.base g xs c1 → Like 5 c1 c2 → c2.register (source (plan.home m.function) 5 x.operand) ≡ value x.operand m.env → Stored (h.agrees.base + (plan.words m.function + waits_at (plan.home g x.parameter))) (c2.register (source (plan.home m.function) 5 x.operand)) c2 c3 →
-          (u : ℕ) (t : Bool) → nat_eq u x.parameter ≡ t → (t || gives xs u) ≡ true → c3.word (h.agrees.base + (plan.words m.function + waits_at (plan.home g u))) ≡ (if t then value x.operand m.env else given xs m.env u)
-      by c1 c2 c3 gave like got one u true e k = let same : u ≡ x.parameter = grind (arith, nat_tests) in rw same (one.here ∙ got)
-      by c1 c2 c3 gave like got one u false e k =
-          let ne : u ≢ x.parameter = grind (arith, nat_tests) in
-          let far = waits_apart (variables g) (variables g) (plan.home g u) (plan.home g x.parameter) (fine.homes g u) (fine.homes g x.parameter) (apart u x.parameter (rw k (or_true (nat_eq u x.parameter))) (grind (arith, nat_tests)) ne) in
-          one.others (h.agrees.base + (plan.words m.function + waits_at (plan.home g u))) (λ same. far (omega arith)) ∙ (like.words (h.agrees.base + (plan.words m.function + waits_at (plan.home g u))) ∙ gave.given u k)
+      rw append_assoc (runs_arguments g xs (argument_code plan m.function g xs x ++ is) h (λ u e. reads u (rw e (or_true (in_operand x.operand u)))) numbers.1 (λ u v a b. apart u v (rw a (or_true (nat_eq u x.parameter))) (rw b (or_true (nat_eq v x.parameter)))) inside (λ c1 gave.
+      runs_argument h.agrees.base g xs x is (λ u e. reads u (rw e refl)) numbers.0 (λ u ne k. apart u x.parameter (rw k (or_true (nat_eq u x.parameter))) (grind (arith, nat_tests)) ne) inside gave run))

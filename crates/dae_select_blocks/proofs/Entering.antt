@@ -1,5 +1,5 @@
 -- A call's walk: from its block over the jump and the entry code to where the called function's actions begin.
-use Rattle.std.proofs.Common.{◌≡◌, ◌≢◌, ℕ, zero, suc, ◌+◌, ◌-◌, ◌*◌, ◌/◌, ◌^◌, ◌<◌, ◌≤◌, inl, inr, Bool, true, false, not, ◌&&◌, List, [], ◌∷◌, ◌++◌, Option, Some, length, refl, sym, ap, ◌∙◌, subst, arith, append-nil}
+use Rattle.std.proofs.Common.{◌≡◌, ◌≢◌, ℕ, zero, suc, ◌+◌, ◌-◌, ◌*◌, ◌/◌, ◌^◌, ◌<◌, ◌≤◌, inl, inr, Bool, true, false, not, ◌&&◌, List, [], ◌∷◌, ◌++◌, Option, Some, length, refl, sym, ap, ◌∙◌, subst, arith, append-nil, ◌⊎◌}
 use Rattle.std.specs.Prelude.{nat_eq, pos, if◌then◌else◌}
 use Rattle.std.proofs.lemmas.Bool.Decides.{nat_tests}
 use Rattle.dae_base.specs.Words.{plus, word}
@@ -17,26 +17,27 @@ use Rattle.dae_select_walks.specs.declared.Home.TheVariants.{Register, Slot}
 use Rattle.dae_select_walks.specs.Walks.{Setting, Comes}
 use Rattle.dae_select_walks.specs.Layout.{CodeAt}
 use Rattle.dae_select_walks.specs.Live.{in_arguments, is}
-use Rattle.dae_select_walks.specs.Homes.{Contents, held, kept, IsHome, AreApart, is_home_register, kept_at, slot_at, resident_home, resident_register}
+use Rattle.dae_select_walks.specs.Homes.{Contents, held, kept, IsHome, is_home_register, kept_at, slot_at, resident_home, resident_register}
 use Rattle.dae_select_walks.specs.Agrees.{Plan, Moment, Waiting, Agrees, Shows, Stands, AreIn, AreWaiting, AreResident, IsWithin, depth_of, top_of, return_address, counted_depth}
 use Rattle.dae_select_walks.specs.Compiled.{given, called, waiting_of}
 use Rattle.dae_select_walks.proofs.LawsOfWalks.{comes_here, comes_more, comes_then}
 use Rattle.dae_select_walks.proofs.LawsOfWalks.{put, store, step}
-use Rattle.dae_select_blocks.specs.Blocks.{upper, lower, waits_at, arguments_code, save_code, restore_code, count_code, prologue_code, deeper_code, enter_code, enter_words, is_immediate}
+use Rattle.dae_select_blocks.specs.Blocks.{upper, lower, arguments_code, save_code, count_code, prologue_code, deeper_code, enter_code, enter_words, is_immediate, parameters_code}
 use Rattle.dae_select_blocks.specs.Code.{registers_in, entry_code}
 use Rattle.dae_select_blocks.specs.Fits.{Fits}
-use Rattle.dae_select_blocks.specs.Wanted.{AreGiven, gives, IsLinked}
+use Rattle.dae_select_blocks.specs.Wanted.{AreGiven, gives, IsLinked, HaveHomes}
 use Rattle.dae_select_blocks.proofs.Halves.{halves, immediate_word}
 use Rattle.dae_select_blocks.proofs.Plain.{plain_computes, stores_word}
 use Rattle.dae_select_blocks.proofs.Frames.{upper_small}
-use Rattle.dae_select_blocks.proofs.Runs.{Runs, runs_nothing, runs_quiet}
-use Rattle.dae_select_blocks.proofs.Agreement.{Ready, resident_high, kept_small, waiting_same, waiting_kept, address_same, Like}
+use Rattle.dae_select_blocks.proofs.Runs.{Runs, runs_nothing, runs_quiet, runs_alone}
+use Rattle.dae_select_blocks.proofs.Agreement.{Ready, resident_high, kept_small, waiting_same, waiting_kept, Like, home_register}
 use Rattle.dae_select_blocks.proofs.Operands.{like_put, like_itself}
-use Rattle.dae_select_blocks.proofs.Calls.{kept_low, among, kept_register, register_kept, Saved, runs_arguments, runs_save, runs_restore, among_not, among_other}
+use Rattle.dae_select_blocks.proofs.Calls.{among, kept_register, register_kept, Saved, runs_arguments, runs_save, ready_far, wait_on}
+use Rattle.dae_select_blocks.proofs.Parameters.{runs_parameters}
 use Rattle.dae_select_blocks.proofs.Deeper.{runs_deeper, runs_count}
 use Rattle.dae_select_blocks.proofs.Jumps.{ready}
 
--- the called function's frame is begun: its arguments wait, and the caller's variables are kept, as is the address that it returns to
+-- the called function's frame is begun: its parameters have their arguments, and the caller's variables are kept, as is the address that it returns to
 pub record Prepared (plan : Plan) (m : Moment) (w : Waiting) (base g : ℕ) (xs : List Argument) (k : ℕ) (p : Processor) : Type 0 where
   pub contents : Contents
   pub shows : Shows plan.private contents k p
@@ -45,11 +46,11 @@ pub record Prepared (plan : Plan) (m : Moment) (w : Waiting) (base g : ℕ) (xs 
   pub four : plan.by_a ≡ true → contents.register 4 ≡ plan.memory - 16
   pub residents : AreResident plan contents
   pub ten : plan.by_a ≡ true → contents.register 10 ≡ depth_of m
-  pub given : (u : ℕ) → gives xs u ≡ true → contents.word (base + (plan.words m.function + waits_at (plan.home g u))) ≡ given xs m.env u
+  pub given : (u : ℕ) → gives xs u ≡ true → held contents (base + plan.words m.function) (plan.home g u) ≡ given xs m.env u
   pub variables : AreIn (kept contents base) (plan.home m.function) w.live m.env
   pub waiting : AreWaiting plan contents (contents.word base) base m.frame m.waiting
 
-module _ (s : Setting) (plan : Plan) (variables : ℕ → ℕ) (fine : Fits s plan variables) (entries : ℕ → VariableSet) (linked : IsLinked s plan variables entries) where
+module _ (s : Setting) (plan : Plan) (variables : ℕ → ℕ) (fine : Fits s plan variables) (entries : ℕ → VariableSet) (linked : IsLinked s plan) where
   -- within the call limit there is room for one frame more
   room_for : {live : VariableSet} {m : Moment} {c : Contents} (h : Ready plan live m c) (g : ℕ) → depth_of m + 1 ≤ plan.limit → h.agrees.base + plan.words m.function + plan.words g ≤ plan.private
   room_for {m = m} h g deep =
@@ -74,41 +75,65 @@ module _ (s : Setting) (plan : Plan) (variables : ℕ → ℕ) (fine : Fits s pl
       let b : c1.word (h1.agrees.base + slot_at i) ≡ m.env u = rw e at a in
       words (base + slot_at i) ∙ (saved.others (base + slot_at i) (inr (omega arith)) ∙ (rw based at b))
 
+  -- what waited waits still where registers are kept
+  still_waits : (rs : List ℕ) (base : ℕ) (c c' : Contents) → Saved rs base c c' → (q : ℕ) → is_home_register q ≡ true → c.word (base + kept_at q) ≡ c.register q → c'.word (base + kept_at q) ≡ c'.register q
+  still_waits rs base c c' saved q good same = by (among q rs) refl
+    where
+      by : (b : Bool) → among q rs ≡ b → c'.word (base + kept_at q) ≡ c'.register q
+      by true e = let low = home_register q good in saved.kept q good e ∙ sym (saved.registers q (omega arith))
+      by false e = let low = home_register q good in saved.unkept q good e ∙ (same ∙ sym (saved.registers q (omega arith)))
+
+  -- an argument is in its parameter's home
+  in_home : (base b g u v : ℕ) (c : Contents) → ((t : ℕ) → is_home_register t ≡ true → plan.home g u ≡ Register t → c.register t ≡ v) → ((i : ℕ) → plan.home g u ≡ Slot i → c.word (base + (b + slot_at i)) ≡ v) → held c (base + b) (plan.home g u) ≡ v
+  in_home base b g u v c register slot = by (plan.home g u) (fine.homes g u) refl
+    where
+      by : (home : Home) → IsHome (variables g) home → plan.home g u ≡ home → held c (base + b) home ≡ v
+      by (Register t) good is = register t good is
+      by (Slot i) good is = let same : base + b + slot_at i ≡ base + (b + slot_at i) = omega arith in rw same (slot i is)
+
   pub prepares : {live : VariableSet} {m : Moment} {k : ℕ} {p : Processor} (v : Option ℕ) (behind : VariableSet) (g : ℕ) (xs : List Argument) (w : Waiting) (h : Stands plan live m k p) → w.live ≡ (λ u. behind u && not (is v u)) →
-      ((u : ℕ) → in_arguments xs u ≡ true → live u ≡ true) → ((u : ℕ) → w.live u ≡ true → live u ≡ true) → ((u : ℕ) → live u ≡ true → u < variables m.function) → AreGiven xs → AreApart (plan.home g) (gives xs) → plan.leaf m.function ≡ false → IsWithin plan (called plan g xs w m) →
-      k + length (arguments_code plan m.function g xs ++ (save_code (registers_in (plan.home m.function) (variables m.function) w.live) ++ deeper_code plan m.function)) < 2 ^ 29 →
-      CodeAt s.code k (arguments_code plan m.function g xs ++ (save_code (registers_in (plan.home m.function) (variables m.function) w.live) ++ deeper_code plan m.function)) →
-      Comes s (length (arguments_code plan m.function g xs ++ (save_code (registers_in (plan.home m.function) (variables m.function) w.live) ++ deeper_code plan m.function))) p
-      (Prepared plan m w h.agrees.base g xs (k + length (arguments_code plan m.function g xs ++ (save_code (registers_in (plan.home m.function) (variables m.function) w.live) ++ deeper_code plan m.function))))
-  prepares {live} {m} {k} {p} v behind g xs w h is_live reads keeps scope numbers apart calls within small at =
+      ((u : ℕ) → in_arguments xs u ≡ true → live u ≡ true) → ((u : ℕ) → w.live u ≡ true → live u ≡ true) → ((u : ℕ) → live u ≡ true → u < variables m.function) → AreGiven xs → HaveHomes plan g (gives xs) → plan.leaf m.function ≡ false → IsWithin plan (called plan g xs w m) →
+      k + length (arguments_code plan m.function g xs ++ (save_code (registers_in (plan.home m.function) (variables m.function) w.live) ++ (parameters_code plan m.function g xs ++ deeper_code plan m.function))) < 2 ^ 29 →
+      CodeAt s.code k (arguments_code plan m.function g xs ++ (save_code (registers_in (plan.home m.function) (variables m.function) w.live) ++ (parameters_code plan m.function g xs ++ deeper_code plan m.function))) →
+      Comes s (length (arguments_code plan m.function g xs ++ (save_code (registers_in (plan.home m.function) (variables m.function) w.live) ++ (parameters_code plan m.function g xs ++ deeper_code plan m.function)))) p
+      (Prepared plan m w h.agrees.base g xs (k + length (arguments_code plan m.function g xs ++ (save_code (registers_in (plan.home m.function) (variables m.function) w.live) ++ (parameters_code plan m.function g xs ++ deeper_code plan m.function)))))
+  prepares {live} {m} {k} {p} v behind g xs w h is_live reads keeps scope numbers homes calls within small at =
       let to : ℕ → Env → Processor → Type 0 = λ j env q. Prepared plan m w h.agrees.base g xs j q in
       let h0 = ready s plan variables fine h in
       let base : ℕ = h.agrees.base in
       let rs : List ℕ = registers_in (plan.home m.function) (variables m.function) w.live in
+      let passed : List Inst = parameters_code plan m.function g xs in
       let deep = within.depth in let top = within.frame in let long = fine.words m.function in let wide = fine.private in let most = fine.common in let lim = fine.limit in
       let inside = room_for h0 g (omega arith) in
       let counted : counted_depth plan m.function (depth_of m) ≡ depth_of m = ap (λ (leaf : Bool). if leaf then depth_of m - 1 else depth_of m) calls in
-      let run : Runs s plan.private to (arguments_code plan m.function g xs ++ (save_code rs ++ deeper_code plan m.function)) h.contents (Went m.env) =
-      runs_arguments s plan variables fine to g xs (save_code rs ++ deeper_code plan m.function) h0 reads numbers apart inside (λ c1 gave.
+      let run : Runs s plan.private to (arguments_code plan m.function g xs ++ (save_code rs ++ (passed ++ deeper_code plan m.function))) h.contents (Went m.env) =
+      runs_arguments s plan variables fine to g xs (save_code rs ++ (passed ++ deeper_code plan m.function)) h0 reads numbers homes.apart inside (λ c1 gave.
       let h1 = gave.ready in
       let p1 : c1.register 2 ≡ 4 * base = h1.agrees.pointer ∙ ap (λ n. 4 * n) gave.based in
-      runs_save s plan variables fine to base rs (deeper_code plan m.function) (λ q a. register_kept (plan.home m.function) (variables m.function) q w.live a) p1 (omega arith) h1.fits h1.small (λ c2 saved.
-      let last : Runs s plan.private to (deeper_code plan m.function ++ []) c2 (Went m.env) = runs_deeper s plan to m.function base m.frame [] (saved.registers 0 (omega arith) ∙ h1.zero) saved.fits (saved.registers 2 (omega arith) ∙ p1) (saved.registers 3 (omega arith) ∙ h1.agrees.frame) (omega arith) (omega arith) (λ c3 moved.
+      runs_save s plan variables fine to base rs (passed ++ deeper_code plan m.function) (λ q a. register_kept (plan.home m.function) (variables m.function) q w.live a) p1 (omega arith) h1.fits h1.small (λ c2 saved.
+      let p2 : c2.register 2 ≡ 4 * base = saved.registers 2 (omega arith) ∙ p1 in
+      let h2 = ready_far s plan variables fine to h1 (λ i far near. saved.others i (subst (λ (b : ℕ). (i ≤ b) ⊎ (b + 19 ≤ i)) gave.based far)) saved.registers saved.fits saved.small in
+      let waits = wait_on s plan variables fine to m.function g base c1 c2 xs (still_waits rs base c1 c2 saved) gave.waits in
+      runs_parameters s plan variables fine to base g xs (deeper_code plan m.function) h2 reads numbers homes p2 (omega arith) waits (λ c3 handed.
+      let h3 = handed.ready in
+      let last : Runs s plan.private to (deeper_code plan m.function ++ []) c3 (Went m.env) = runs_deeper s plan to m.function base m.frame [] h3.zero h3.fits (handed.two ∙ p2) h3.agrees.frame (omega arith) (omega arith) (λ c4 moved.
       runs_nothing s plan.private to {env = m.env} (λ j q shows. record {
-        contents = c3;
+        contents = c4;
         shows = shows;
         two = moved.two;
         three = moved.three;
-        four = λ e. moved.others 4 (omega arith) (omega arith) (omega arith) ∙ (saved.registers 4 (omega arith) ∙ h1.agrees.addresses e);
+        four = λ e. moved.others 4 (omega arith) (omega arith) (omega arith) ∙ h3.agrees.addresses e;
         residents = λ n r e.
             let high = resident_high (resident_home 27 plan.residents n) r e in
-            moved.others r (omega arith) (omega arith) (omega arith) ∙ (saved.registers r (omega arith) ∙ h1.agrees.residents n r e);
-        ten = λ e. moved.others 10 (omega arith) (omega arith) (omega arith) ∙ (saved.registers 10 (omega arith) ∙ (h1.agrees.depth e ∙ counted));
-        given = λ u e. moved.words (base + (plan.words m.function + waits_at (plan.home g u))) ∙ (saved.others (base + (plan.words m.function + waits_at (plan.home g u))) (inr (omega arith)) ∙ gave.given u e);
-        variables = λ u e. one base u w.live c1 c2 c3 h1 gave.based saved moved.words e (keeps u e) (scope u (keeps u e)) (plan.home m.function u) refl;
-        waiting = waiting_same s plan variables fine c1 c3 (c1.word base) (c3.word base) base m.frame m.waiting (moved.words base ∙ saved.others base (inl (omega arith))) (λ i l. moved.words i ∙ saved.others i (inl l))
+            moved.others r (omega arith) (omega arith) (omega arith) ∙ h3.agrees.residents n r e;
+        ten = λ e. moved.others 10 (omega arith) (omega arith) (omega arith) ∙ (h3.agrees.depth e ∙ counted);
+        given = λ u e. in_home base (plan.words m.function) g u (given xs m.env u) c4
+            (λ t good which. (let low = home_register t good in moved.others t (omega arith) (omega arith) (omega arith) ∙ handed.given u e t which))
+            (λ i which. moved.words (base + (plan.words m.function + slot_at i)) ∙ (handed.words (base + (plan.words m.function + slot_at i)) ∙ (saved.others (base + (plan.words m.function + slot_at i)) (inr (omega arith)) ∙ gave.slots u e i which)));
+        variables = λ u e. one base u w.live c1 c2 c4 h1 gave.based saved (λ i. moved.words i ∙ handed.words i) e (keeps u e) (scope u (keeps u e)) (plan.home m.function u) refl;
+        waiting = waiting_same s plan variables fine c1 c4 (c1.word base) (c4.word base) base m.frame m.waiting (moved.words base ∙ (handed.words base ∙ saved.others base (inl (omega arith)))) (λ i l. moved.words i ∙ (handed.words i ∙ saved.others i (inl l)))
             (subst (λ (b : ℕ). AreWaiting plan c1 (c1.word b) b m.frame m.waiting) gave.based (waiting_kept s plan variables fine m.function c1 h1.agrees.base m.frame m.waiting calls h1.agrees.waiting));
-      })) in rw append-nil at last)) in
+      })) in rw append-nil at last))) in
       run.from k small at p h.shows
 
   -- ---- the jump, and the entry code
@@ -143,11 +168,11 @@ module _ (s : Setting) (plan : Plan) (variables : ℕ → ℕ) (fine : Fits s pl
   step_down zero k h = absurd (omega arith)
   step_down (suc n) k h = let one : suc n - 1 ≡ n = omega arith in rw one (omega arith)
 
-  -- the called function's frame holds the address to return to, and its registers hold its parameters
+  -- the called function finds the address to return to, and its parameters in their homes
   record Arrived (m : Moment) (w : Waiting) (base g : ℕ) (before' c : Contents) : Type 0 where
     pub back : return_address plan g c (base + plan.words m.function) ≡ 4 * w.back
     pub words : (i : ℕ) → i ≢ base + plan.words m.function → c.word i ≡ before'.word i
-    pub registers : (r : ℕ) → among r (registers_in (plan.home g) (variables g) (entries g)) ≡ true → c.register r ≡ before'.word (base + plan.words m.function + kept_at r)
+    pub registers : (r : ℕ) → is_home_register r ≡ true → c.register r ≡ before'.register r
     pub two : c.register 2 ≡ before'.register 2
     pub three : c.register 3 ≡ before'.register 3
     pub four : c.register 4 ≡ before'.register 4
@@ -167,7 +192,7 @@ module _ (s : Setting) (plan : Plan) (variables : ℕ → ℕ) (fine : Fits s pl
       let room' : h.agrees.base + (plan.largest + (plan.limit + 1 - (depth_of m + 1)) * plan.largest) ≤ plan.private = (rw (once, same) at room) in
       record {
         base = b;
-        variables = λ u e. parameter u (wanted u e) (linked.reads g u e) e (plan.home g u) refl;
+        variables = λ u e. parameter (plan.home g u) (fine.homes g u) ∙ q.given u (wanted u e);
         pointer = a.two ∙ q.two;
         frame = a.three ∙ q.three;
         depth = λ e. a.ten e ∙ (ap (λ (n : ℕ). counted_depth plan g (n + 1)) (q.ten e) ∙ ap (λ (n : ℕ). counted_depth plan g n) next);
@@ -188,18 +213,9 @@ module _ (s : Setting) (plan : Plan) (variables : ℕ → ℕ) (fine : Fits s pl
         within = within;
       }
     where
-      parameter : (u : ℕ) → gives xs u ≡ true → u < variables g → entries g u ≡ true → (home : Home) → plan.home g u ≡ home → held c (h.agrees.base + plan.words m.function) home ≡ given xs m.env u
-      parameter u e l k (Register r) is =
-          let good : is_home_register r ≡ true = (let g' = fine.homes g u in rw is at g') in
-          let there = q.given u e in
-          let one : q.contents.word (h.agrees.base + (plan.words m.function + kept_at r)) ≡ given xs m.env u = rw is at there in
-          let at' : h.agrees.base + plan.words m.function + kept_at r ≡ h.agrees.base + (plan.words m.function + kept_at r) = omega arith in
-          a.registers r (kept_register (plan.home g) (variables g) u r (entries g) l k is good) ∙ rw at' one
-      parameter u e l k (Slot i) is =
-          let there = q.given u e in
-          let one : q.contents.word (h.agrees.base + (plan.words m.function + slot_at i)) ≡ given xs m.env u = rw is at there in
-          let at' : h.agrees.base + plan.words m.function + slot_at i ≡ h.agrees.base + (plan.words m.function + slot_at i) = omega arith in
-          a.words (h.agrees.base + plan.words m.function + slot_at i) (omega arith) ∙ rw at' one
+      parameter : (home : Home) → IsHome (variables g) home → held c (h.agrees.base + plan.words m.function) home ≡ held q.contents (h.agrees.base + plan.words m.function) home
+      parameter (Register r) good = a.registers r good
+      parameter (Slot i) good = a.words (h.agrees.base + plan.words m.function + slot_at i) (omega arith)
 
       below : (u : ℕ) (home : Home) → IsHome (variables m.function) home → kept c h.agrees.base home ≡ kept q.contents h.agrees.base home
       below u (Register r) good = let long = fine.words m.function in let l = kept_small r good in a.words (h.agrees.base + kept_at r) (omega arith)
@@ -252,12 +268,11 @@ module _ (s : Setting) (plan : Plan) (variables : ℕ → ℕ) (fine : Fits s pl
 
   pub enters : {live : VariableSet} {m : Moment} {k : ℕ} {p : Processor} (v : Option ℕ) (behind : VariableSet) (g : ℕ) (xs : List Argument) {c : Contents} (h : Ready plan live m c) → g < plan.functions → ((u : ℕ) → entries g u ≡ true → gives xs u ≡ true) → k + enter_words plan.near < 2 ^ 29 → IsWithin plan (called plan g xs (waiting_of v behind (k + enter_words plan.near) m) m) →
       CodeAt s.code k (enter_code plan.near (plan.entry g)) → Prepared plan m (waiting_of v behind (k + enter_words plan.near) m) h.agrees.base g xs k p →
-      Comes s (enter_words plan.near + length (entry_code plan variables g (entries g))) p (Stands plan (entries g) (called plan g xs (waiting_of v behind (k + enter_words plan.near) m) m) (plan.start g))
+      Comes s (enter_words plan.near + length (entry_code plan g)) p (Stands plan (entries g) (called plan g xs (waiting_of v behind (k + enter_words plan.near) m) m) (plan.start g))
   enters {live} {m} {k} {p} v behind g xs {c} h there wanted small within at q =
       let w : Waiting = waiting_of v behind (k + enter_words plan.near) m in
       let base : ℕ = h.agrees.base in
       let b : ℕ = base + plan.words m.function in
-      let rs : List ℕ = registers_in (plan.home g) (variables g) (entries g) in
       let long = fine.words g in let wide = fine.private in
       let deep = within.depth in
       let inside = room_for h g (omega arith) in
@@ -270,27 +285,22 @@ module _ (s : Setting) (plan : Plan) (variables : ℕ → ℕ) (fine : Fits s pl
       let pointer : c1.register 2 ≡ 4 * b = l1.registers 2 (omega arith) ∙ q.two in
       let lim = fine.limit in
       let low : depth_of m < 2 ^ 20 = omega arith in
-      let good : (r : ℕ) → among r rs ≡ true → is_home_register r ≡ true = λ r e. register_kept (plan.home g) (variables g) r (entries g) e in
-      let run : Runs s plan.private to (entry_code plan variables g (entries g)) c1 (Went m.env) =
-      runs_prologue to g b (restore_code rs) pointer (omega arith) l2.fits (λ i. subst (λ (x : ℕ). x < 2 ^ 32) (sym (l1.words i)) (q.shows.holds i)) (λ e. subst (λ (x : ℕ). x < 2 ^ 20) (sym (l1.registers 10 (omega arith) ∙ q.ten e)) low) (λ c2 kept'.
-      let last : Runs s plan.private to (restore_code rs ++ []) c2 (Went m.env) = runs_restore s plan variables fine to b rs [] good (kept'.registers 2 (omega arith) ∙ pointer) (omega arith) kept'.fits kept'.small (λ c3 restored.
+      let last : Runs s plan.private to (prologue_code plan.by_a (plan.leaf g) ++ []) c1 (Went m.env) = runs_prologue to g b [] pointer (omega arith) l2.fits (λ i. subst (λ (x : ℕ). x < 2 ^ 32) (sym (l1.words i)) (q.shows.holds i)) (λ e. subst (λ (x : ℕ). x < 2 ^ 20) (sym (l1.registers 10 (omega arith) ∙ q.ten e)) low) (λ c2 opened.
       runs_nothing s plan.private to {env = m.env} (λ word o shows. record {
-        contents = c3;
+        contents = c2;
         shows = shows;
         agrees = arrives v behind g xs h wanted (omega arith) within q (record {
-          back = address_same s plan variables fine g b c2 c3 (restored.others 1 (among_not (plan.home g) (variables g) 1 (entries g) refl)) (restored.words b) ∙ kept'.address;
-          words = λ i ne. restored.words i ∙ (kept'.words i ne ∙ l1.words i);
-          registers = λ r e. (let low = kept_low r (good r e) in restored.kept r e ∙ (kept'.words (b + kept_at r) (omega arith) ∙ l1.words (b + kept_at r)));
-          two = restored.others 2 (among_not (plan.home g) (variables g) 2 (entries g) refl) ∙ (kept'.registers 2 (omega arith) ∙ l1.registers 2 (omega arith));
-          three = restored.others 3 (among_not (plan.home g) (variables g) 3 (entries g) refl) ∙ (kept'.registers 3 (omega arith) ∙ l1.registers 3 (omega arith));
-          four = restored.others 4 (among_not (plan.home g) (variables g) 4 (entries g) refl) ∙ (kept'.registers 4 (omega arith) ∙ l1.registers 4 (omega arith));
-          ten = λ e. restored.others 10 (among_not (plan.home g) (variables g) 10 (entries g) refl) ∙ (kept'.ten e ∙ ap (λ (n : ℕ). counted_depth plan g (n + 1)) (l1.registers 10 (omega arith)));
+          back = opened.address;
+          words = λ i ne. opened.words i ne ∙ l1.words i;
+          registers = λ r good. (let high = home_register r good in opened.registers r high.2 ∙ (l2.registers r (omega arith) ∙ l1.registers r (omega arith)));
+          two = opened.registers 2 (omega arith) ∙ l1.registers 2 (omega arith);
+          three = opened.registers 3 (omega arith) ∙ l1.registers 3 (omega arith);
+          four = opened.registers 4 (omega arith) ∙ l1.registers 4 (omega arith);
+          ten = λ e. opened.ten e ∙ ap (λ (n : ℕ). counted_depth plan g (n + 1)) (l1.registers 10 (omega arith));
           residents = λ n o e.
               let high = resident_high (resident_home 27 plan.residents n) o e in
-              restored.others o (among_other (plan.home g) (variables g) o (entries g) (λ v l. fine.apart g v n o l e))
-              ∙ (kept'.registers o (omega arith) ∙ (l2.registers o (omega arith) ∙ l1.registers o (omega arith)));
+              opened.registers o (omega arith) ∙ (l2.registers o (omega arith) ∙ l1.registers o (omega arith));
         });
       })) in
-      rw append-nil at last)
-      in
-      subst (λ (n : ℕ). Comes s (length (entry_code plan variables g (entries g))) r (Stands plan (entries g) (called plan g xs w m) n)) (sym start) (run.from (plan.entry g) (omega arith) entry r j.2))
+      let run : Runs s plan.private to (entry_code plan g) c1 (Went m.env) = runs_alone s plan.private to (entry_code plan g) last in
+      subst (λ (n : ℕ). Comes s (length (entry_code plan g)) r (Stands plan (entries g) (called plan g xs w m) n)) (sym start) (run.from (plan.entry g) (omega arith) entry r j.2))

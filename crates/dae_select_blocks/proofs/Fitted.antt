@@ -16,8 +16,9 @@ use Rattle.dae_ir.specs.declared.stream.Action.{Action}
 use Rattle.dae_ir.specs.declared.stream.Action.TheVariants.{Set as Compute, Issue, Own, Receive, Address, Datum, Offer, Accept, Emit, Probe, Tell, Hear, Stop, Break, Continue, Call, Return}
 use Rattle.dae_meaning.specs.declared.Spelling.{Spelling}
 use Rattle.dae_meaning.specs.declared.Spelling.TheVariants.{Byte, Signed, Unsigned, Hexadecimal}
-use Rattle.dae_select_walks.specs.declared.Home.TheVariants.{Register}
-use Rattle.dae_select_walks.specs.Homes.{IsHome, kept_at}
+use Rattle.dae_select_walks.specs.declared.Home.{Home}
+use Rattle.dae_select_walks.specs.declared.Home.TheVariants.{Register, Slot}
+use Rattle.dae_select_walks.specs.Homes.{IsHome, kept_at, slot_at}
 use Rattle.dae_select_walks.specs.declared.Standing.{Standing}
 use Rattle.dae_select_walks.specs.declared.Standing.TheVariants.{Settled, Early, Late}
 use Rattle.dae_select_walks.specs.Live.{Ways, none, live, behind, body_ways, step_ways, nowhere}
@@ -25,10 +26,11 @@ use Rattle.dae_select_walks.specs.Facts.{Facts, unknown, facts_behind, facts_in_
 use Rattle.dae_select_walks.specs.declared.Need.{Need}
 use Rattle.dae_select_walks.specs.declared.Need.TheVariants.{All, Ends, Nothing}
 use Rattle.dae_select_walks.specs.Agrees.{Plan}
-use Rattle.dae_select_blocks.specs.Blocks.{lower, is_immediate, more_code, less_code, is_register, number_code, register_or, source, call_number, jump_over, jump_back, enter_code, arguments_code, waits_at, save_code, restore_code, deeper_code, back_code, jump_words, residents_code, prologue_code, issue_code, address_code, take_code}
+use Rattle.dae_select_blocks.specs.Blocks.{lower, is_immediate, more_code, less_code, is_register, number_code, register_or, source, call_number, jump_over, jump_back, enter_code, arguments_code, save_code, restore_code, deeper_code, back_code, jump_words, residents_code, prologue_code, issue_code, address_code, take_code, fetch, load_code, store_code, is_overwritten, argument_to, copy_code, parameter_to, parameters_code}
 use Rattle.dae_select_blocks.specs.Code.{some_below, filtered, home_registers, registers_in, call_code, action_code, branch_code, standing_behind, with_home, early_code, late_code, needed_code, block_code, code_of, entry_code, function_code, finish_code, start_code, does_nothing, past_code, tail_of, has_bottom, leaves_first, is_near, bottom_test, is_dead}
 use Rattle.dae_select_blocks.proofs.Ranges.{AllFit, fit_append, fit_either, lui_fits, jalr_fits, addi_fits, addi_small, sw_small, add_fits, number_fits, load_fits, store_fits, register_fits, fetch_fits, move_fits, keep_fits, over_fits, back_fits}
 use Rattle.dae_select_blocks.proofs.Fitting.{ecall_fits, no_offset, issue_fits, address_fits, reach_fits, source_fits, value_fit, value_fits, take_fits, branch_fits, back_branch_fits, system_fits, stop_fits, leave_fits, result_fits, hear_fits, placed_fits, check_fits}
+use Rattle.dae_select_blocks.proofs.Agreement.{home_register}
 use Rattle.dae_select_blocks.proofs.Pairs.{by_pairs}
 use Rattle.std.proofs.lemmas.Bool.Decides.{nat_tests}
 use Rattle.dae_select_blocks.specs.Sizes.{most_words_in, is_short}
@@ -92,8 +94,30 @@ module _ (plan : Plan) (variables : ℕ → ℕ) (good : (f v : ℕ) → IsHome 
   arguments_fit : (f g : ℕ) (xs : List Argument) → AllFit (arguments_code plan f g xs)
   arguments_fit f g [] = tt
   arguments_fit f g (x ∷ xs) =
-      fit_append _ _ (arguments_fit f g xs) (fit_append _ _ (fetch_fits (variables f) (plan.home f) 5 x.operand (omega arith))
-      (store_fits (source (plan.home f) 5 x.operand) (plan.words f + waits_at (plan.home g x.parameter)) (source_fits (variables f) (plan.home f) (good f) 5 x.operand (omega arith))))
+      fit_append _ _ (arguments_fit f g xs) (by (plan.home g x.parameter))
+    where
+      by : (home : Home) → AllFit (argument_to plan f g xs home x.operand)
+      by (Register t) =
+          let q : ℕ = source (plan.home f) 5 x.operand in
+          fit_either (is_overwritten plan f g xs x.operand) (store_code q (kept_at q)) [] (λ e. store_fits q (kept_at q) (source_fits (variables f) (plan.home f) (good f) 5 x.operand (omega arith))) (λ e. tt)
+      by (Slot i) =
+          fit_append _ _ (fetch_fits (variables f) (plan.home f) 5 x.operand (omega arith))
+          (store_fits (source (plan.home f) 5 x.operand) (plan.words f + slot_at i) (source_fits (variables f) (plan.home f) (good f) 5 x.operand (omega arith)))
+
+  copy_fits : (t r : ℕ) → t < 32 → r < 32 → AllFit (copy_code t r)
+  copy_fits t r a b = fit_either (nat_eq t r) [] (Addi t r (pos 0) ∷ []) (λ e. tt) (λ e. (addi_small t r 0 a b (omega arith), tt))
+
+  parameters_fit : (f g : ℕ) (xs : List Argument) → AllFit (parameters_code plan f g xs)
+  parameters_fit f g [] = tt
+  parameters_fit f g (x ∷ xs) = fit_append _ _ (parameters_fit f g xs) (by (plan.home g x.parameter) (good g x.parameter))
+    where
+      by : (home : Home) → IsHome (variables g) home → AllFit (parameter_to plan f g xs home x.operand)
+      by (Register t) is =
+          let low = (home_register t is).1 in
+          let q : ℕ = source (plan.home f) 5 x.operand in let r : ℕ = source (plan.home f) t x.operand in
+          fit_either (is_overwritten plan f g xs x.operand) (load_code t (kept_at q)) (fetch (plan.home f) t x.operand ++ copy_code t r) (λ e. load_fits t (kept_at q) (omega arith))
+          (λ e. fit_append _ _ (fetch_fits (variables f) (plan.home f) t x.operand (omega arith)) (copy_fits t r (omega arith) (source_fits (variables f) (plan.home f) (good f) t x.operand (omega arith))))
+      by (Slot i) is = tt
 
   more_fits : (r n : ℕ) → r < 32 → AllFit (more_code r n)
   more_fits r n h =
@@ -116,8 +140,8 @@ module _ (plan : Plan) (variables : ℕ → ℕ) (good : (f v : ℕ) → IsHome 
   call_fits : (f : ℕ) (v : Option ℕ) (g : ℕ) (xs : List Argument) (live : VariableSet) → AllFit (call_code plan variables f v g xs live)
   call_fits f v g xs live =
       let rs = live_registers plan (variables f) f live in
-      fit_append _ _ (arguments_fit f g xs) (fit_append _ _ (save_fits _ rs) (fit_append (deeper_code plan f) _ (deeper_fits f) (fit_append (enter_code plan.near (plan.entry g)) _ (enter_fits plan.near (plan.entry g))
-      (fit_append (back_code plan f) _ (returning_fits f) (fit_append _ _ (restore_fits _ rs) (result_fits (variables f) (plan.home f) (good f) v))))))
+      fit_append _ _ (arguments_fit f g xs) (fit_append _ _ (save_fits _ rs) (fit_append _ _ (parameters_fit f g xs) (fit_append (deeper_code plan f) _ (deeper_fits f) (fit_append (enter_code plan.near (plan.entry g)) _ (enter_fits plan.near (plan.entry g))
+      (fit_append (back_code plan f) _ (returning_fits f) (fit_append _ _ (restore_fits _ rs) (result_fits (variables f) (plan.home f) (good f) v)))))))
 
   module _ (short : Bool) where
     action_fits : (f : ℕ) (a : Action) (live : VariableSet) (leaves skips : ℕ) → AllFit (action_code plan variables f a live (jump_over short leaves) (jump_over short skips))
@@ -231,13 +255,12 @@ module _ (plan : Plan) (variables : ℕ → ℕ) (good : (f v : ℕ) → IsHome 
   prologue_fits true false = (sw_small 2 1 0 (omega arith) (omega arith) (omega arith), (addi_small 10 10 1 (omega arith) (omega arith) (omega arith), tt))
   prologue_fits false false = (sw_small 2 1 0 (omega arith) (omega arith) (omega arith), tt)
 
-  pub entry_fits : (f : ℕ) (live : VariableSet) → AllFit (entry_code plan variables f live)
-  entry_fits f live =
-      fit_append (prologue_code plan.by_a (plan.leaf f)) (restore_code (registers_in (plan.home f) (variables f) live)) (prologue_fits plan.by_a (plan.leaf f)) (restore_fits (registers_in (plan.home f) (variables f) live) (live_registers plan (variables f) f live))
+  pub entry_fits : (f : ℕ) → AllFit (entry_code plan f)
+  entry_fits f = prologue_fits plan.by_a (plan.leaf f)
 
   pub function_fits : (f : ℕ) (code : Actions) → AllFit (function_code plan variables f code)
   function_fits f code =
-      fit_append (entry_code plan variables f (live code nowhere)) _ (entry_fits f (live code nowhere)) (code_fits (is_short code) f Settled unknown code nowhere 0 0)
+      fit_append (entry_code plan f) _ (entry_fits f) (code_fits (is_short code) f Settled unknown code nowhere 0 0)
 
 pub finish_fits : (by_a : Bool) → AllFit (finish_code by_a)
 finish_fits true = (ecall_fits, tt)

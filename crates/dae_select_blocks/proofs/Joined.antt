@@ -1,5 +1,5 @@
 -- The blocks of calls and returns do them, where they stand.
-use Rattle.std.proofs.Common.{◌≡◌, ◌≢◌, ℕ, ◌+◌, ◌*◌, ◌^◌, ◌<◌, ◌≤◌, Bool, true, false, not, ◌&&◌, ◌||◌, List, [], ◌++◌, Option, Some, None, length, refl, ap, ◌∙◌, subst, arith, append_assoc, length-append}
+use Rattle.std.proofs.Common.{◌≡◌, ◌≢◌, ℕ, ◌+◌, ◌*◌, ◌^◌, ◌<◌, ◌≤◌, Bool, true, false, not, ◌&&◌, ◌||◌, List, [], ◌++◌, Option, Some, None, length, refl, ap, ◌∙◌, subst, arith, append_assoc, length-append, sym}
 use Rattle.std.proofs.lemmas.Bool.{or_right}
 use Rattle.std.specs.Prelude.{pos}
 use Rattle.dae_base.specs.Words.{plus, word}
@@ -27,7 +27,7 @@ use Rattle.dae_select_walks.specs.Agrees.{Plan, Moment, Stands, AreWaiting, IsWi
 use Rattle.dae_select_walks.specs.Compiled.{Exits, exit, ways_of, At, MainEnds, waiting_of, called, result_of, with_env, with_result}
 use Rattle.dae_select_walks.proofs.LawsOfWalks.{nears_here, comes_map, comes_then, comes_does, does_map}
 use Rattle.dae_select_walks.proofs.LawsOfWalks.{put, step_ends, step_stops}
-use Rattle.dae_select_blocks.specs.Blocks.{arguments_code, save_code, restore_code, deeper_code, enter_code, back_code, result_code, leave_code, enter_words}
+use Rattle.dae_select_blocks.specs.Blocks.{arguments_code, save_code, restore_code, deeper_code, enter_code, back_code, result_code, leave_code, enter_words, parameters_code}
 use Rattle.dae_select_blocks.specs.Code.{registers_in, entry_code, finish_code, call_code}
 use Rattle.dae_select_blocks.specs.Fits.{Fits}
 use Rattle.dae_select_blocks.specs.Wanted.{IsLinked, IsPlanOf}
@@ -40,7 +40,7 @@ use Rattle.dae_select_blocks.proofs.Lengths.{enter_long, enter_few}
 use Rattle.dae_select_blocks.proofs.Entering.{prepares, enters}
 use Rattle.dae_select_blocks.proofs.Leaving.{leaves, return_done, resumes, Goes'}
 
-module _ (s : Setting) (plan : Plan) (variables : ℕ → ℕ) (fine : Fits s plan variables) (program : Program) (is_plan : IsPlanOf program plan) (entries : ℕ → VariableSet) (linked : IsLinked s plan variables entries) (most widest : ℕ) where
+module _ (s : Setting) (plan : Plan) (variables : ℕ → ℕ) (fine : Fits s plan variables) (program : Program) (is_plan : IsPlanOf program plan) (entries : ℕ → VariableSet) (linked : IsLinked s plan) (most widest : ℕ) where
   -- main returns
   finishes : (m : Moment) (y : Option Operand) (p : Processor) (n : ℕ) → Comes s n p (Goes' s plan variables fine m plan.finish (result_of y m.env) plan.finish) → n + 3 ≤ most → (b : Bool) → plan.by_a ≡ b → CodeAt s.code plan.finish (finish_code b) → MainEnds b y m.env (λ quit. Does s most (Halts quit) (λ env q. ⊥) p)
   finishes m y p n c short true e at =
@@ -81,7 +81,7 @@ module _ (s : Setting) (plan : Plan) (variables : ℕ → ℕ) (fine : Fits s pl
 
   -- a call, up to the jump, and from the word behind it
   abbrev prepared_code : ℕ → ℕ → List Argument → VariableSet → List Inst
-  prepared_code f g xs live = arguments_code plan f g xs ++ (save_code (registers_in (plan.home f) (variables f) live) ++ deeper_code plan f)
+  prepared_code f g xs live = arguments_code plan f g xs ++ (save_code (registers_in (plan.home f) (variables f) live) ++ (parameters_code plan f g xs ++ deeper_code plan f))
 
   abbrev resumed_code : ℕ → Option ℕ → VariableSet → List Inst
   resumed_code f v live = back_code plan f ++ (restore_code (registers_in (plan.home f) (variables f) live) ++ result_code (plan.home f) v)
@@ -96,17 +96,30 @@ module _ (s : Setting) (plan : Plan) (variables : ℕ → ℕ) (fine : Fits s pl
   whole_length f g v xs k =
       let rs = registers_in (plan.home f) (variables f) (without v k) in
       let rest : List Inst = resumed_code f v (without v k) in
-      let l1 = length-append (arguments_code plan f g xs) (save_code rs ++ (deeper_code plan f ++ (enter_code plan.near (plan.entry g) ++ rest))) in
-      let l2 = length-append (save_code rs) (deeper_code plan f ++ (enter_code plan.near (plan.entry g) ++ rest)) in
-      let l3 = length-append (deeper_code plan f) (enter_code plan.near (plan.entry g) ++ rest) in
-      let l6 = length-append (enter_code plan.near (plan.entry g)) rest in
+      let jumped : List Inst = enter_code plan.near (plan.entry g) ++ rest in
+      let passed : List Inst = parameters_code plan f g xs in
+      let l1 = length-append (arguments_code plan f g xs) (save_code rs ++ (passed ++ (deeper_code plan f ++ jumped))) in
+      let l2 = length-append (save_code rs) (passed ++ (deeper_code plan f ++ jumped)) in
+      let l3 = length-append passed (deeper_code plan f ++ jumped) in
+      let l4 = length-append (deeper_code plan f) jumped in
+      let l5 = length-append (enter_code plan.near (plan.entry g)) rest in
       let jump = enter_long plan.near (plan.entry g) in
-      let l4 = length-append (arguments_code plan f g xs) (save_code rs ++ deeper_code plan f) in
-      let l5 = length-append (save_code rs) (deeper_code plan f) in
+      let l6 = length-append (arguments_code plan f g xs) (save_code rs ++ (passed ++ deeper_code plan f)) in
+      let l7 = length-append (save_code rs) (passed ++ deeper_code plan f) in
+      let l8 = length-append passed (deeper_code plan f) in
       omega arith
 
+  -- up to the jump, and on
+  parted : (f g : ℕ) (xs : List Argument) (live : VariableSet) (is : List Inst) → prepared_code f g xs live ++ is ≡ arguments_code plan f g xs ++ (save_code (registers_in (plan.home f) (variables f) live) ++ (parameters_code plan f g xs ++ (deeper_code plan f ++ is)))
+  parted f g xs live is =
+      let kept : List Inst = save_code (registers_in (plan.home f) (variables f) live) in
+      let passed : List Inst = parameters_code plan f g xs in
+      append_assoc (arguments_code plan f g xs) (kept ++ (passed ++ deeper_code plan f)) is
+      ∙ (ap (λ (code : List Inst). arguments_code plan f g xs ++ code) (append_assoc kept (passed ++ deeper_code plan f) is)
+      ∙ ap (λ (code : List Inst). arguments_code plan f g xs ++ (kept ++ code)) (append_assoc passed (deeper_code plan f) is))
+
   pub calls_done : (short : Bool) (f g : ℕ) (v : Option ℕ) (xs : List Argument) (k : VariableSet) (x : Exits) (leaves' skips here : ℕ) →
-      length (prepared_code f g xs (without v k)) + 2 + length (entry_code plan variables g (entries g)) ≤ widest + 6 * length xs → length (resumed_code f v (without v k)) ≤ 3 * most →
+      length (prepared_code f g xs (without v k)) + 2 + length (entry_code plan g) ≤ widest + 6 * length xs → length (resumed_code f v (without v k)) ≤ 3 * most →
       Stood s plan variables fine program is_plan entries most widest short f (Call v g xs) k (ways_of x) leaves' skips here → Done' s plan variables fine program is_plan entries most widest short f unknown (Call v g xs) k x leaves' skips here
   calls_done short f g v xs k x leaves' skips here wide brief t =
       let live : VariableSet = before (Call v g xs) k (ways_of x) in
@@ -115,7 +128,7 @@ module _ (s : Setting) (plan : Plan) (variables : ℕ → ℕ) (fine : Fits s pl
       let small = t.small in
       let total = whole_length f g v xs k in
       let few = enter_few plan.near in
-      let at' : CodeAt s.code here (prep ++ (enter_code plan.near (plan.entry g) ++ rest)) = (let a = t.stands in rw (append_assoc, append_assoc) a) in
+      let at' : CodeAt s.code here (prep ++ (enter_code plan.near (plan.entry g) ++ rest)) = subst (λ (is : List Inst). CodeAt s.code here is) (sym (parted f g xs (without v k) (enter_code plan.near (plan.entry g) ++ rest))) t.stands in
       let first = code_take s.code here prep (enter_code plan.near (plan.entry g) ++ rest) at' in
       let second = code_drop s.code here prep (enter_code plan.near (plan.entry g) ++ rest) at' in
       let jump = code_take s.code (here + length prep) (enter_code plan.near (plan.entry g)) rest second in
@@ -132,7 +145,7 @@ module _ (s : Setting) (plan : Plan) (variables : ℕ → ℕ) (fine : Fits s pl
             let first' : CodeAt s.code here prep' = rw e first in
             let jump' : CodeAt s.code (here + length prep') (enter_code plan.near (plan.entry g)) = rw e jump in
             let scope' : (u : ℕ) → live u ≡ true → u < variables m.function = rw e scope in
-            let wide' : length prep' + 2 + length (entry_code plan variables g (entries g)) ≤ widest + 6 * length xs = rw e wide in
+            let wide' : length prep' + 2 + length (entry_code plan g) ≤ widest + 6 * length xs = rw e wide in
             let fits : here + length prep' + enter_words plan.near < 2 ^ 29 = rw e (omega arith) in
             let calls' : plan.leaf m.function ≡ false = (let a = t.wanted.4 in rw e a) in
             let within' : IsWithin plan (called plan g xs (waiting_of v k (here + length prep' + enter_words plan.near) m) m) = record { depth = within.depth; frame = within.frame } in

@@ -1,5 +1,5 @@
 -- A return's walk: to just behind the call's jump, and from there to the end of the call's block.
-use Rattle.std.proofs.Common.{◌≡◌, ◌≢◌, ℕ, zero, ◌+◌, ◌-◌, ◌*◌, ◌/◌, ◌^◌, ◌<◌, ◌≤◌, Bool, true, false, not, ◌&&◌, List, [], ◌∷◌, ◌++◌, Option, Some, None, length, refl, sym, ap, ◌∙◌, subst, arith, append-nil, length-append}
+use Rattle.std.proofs.Common.{◌≡◌, ◌≢◌, ℕ, zero, ◌+◌, ◌-◌, ◌*◌, ◌/◌, ◌^◌, ◌<◌, ◌≤◌, Bool, true, false, not, ◌&&◌, List, [], ◌∷◌, ◌++◌, Option, Some, None, length, refl, sym, ap, ◌∙◌, subst, arith, length-append}
 use Rattle.std.specs.Prelude.{nat_eq, pos, negsuc, if◌then◌else◌}
 use Rattle.std.proofs.lemmas.Bool.Decides.{nat_tests}
 use Rattle.dae_base.specs.Words.{plus, word}
@@ -28,7 +28,7 @@ use Rattle.dae_select_blocks.specs.Code.{registers_in}
 use Rattle.dae_select_blocks.specs.Fits.{Fits}
 use Rattle.dae_select_blocks.specs.Wanted.{IsWantedResult}
 use Rattle.dae_select_blocks.proofs.Plain.{plain_computes, put_nowhere, put_same, put_other, computes, loads_word}
-use Rattle.dae_select_blocks.proofs.Runs.{Runs, runs_nothing, runs_quiet, code_take, code_drop}
+use Rattle.dae_select_blocks.proofs.Runs.{Runs, runs_nothing, runs_quiet, code_take, code_drop, runs_alone}
 use Rattle.dae_select_blocks.proofs.Agreement.{Ready, ready_like, resident_high, frame_inside, waiting_same, address_same}
 use Rattle.dae_select_blocks.proofs.Operands.{like_put, runs_move}
 use Rattle.dae_select_blocks.proofs.Computing.{plus_zero, is_scratch, register_plain}
@@ -118,10 +118,6 @@ module _ (s : Setting) (plan : Plan) (variables : ℕ → ℕ) (fine : Fits s pl
       let only = step s plan.private (Jalr 0 1 (pos 0)) 0 1 0 0 target at.0 (λ pc x y. plus pc 4) (λ pc x y. plus x (word (pos 0)) / 2 * 2) Nothing shows at.1 at.2 refl (plain_computes s.copies s.side 0 1 0 (omega arith) (omega arith) (omega arith)) (plus_small (4 * k) 4) lands in
       comes_more s only.goes (comes_here s {n = 0} (goes_back_so c1 target result h given there closed (rw (put_nowhere 0 (plus (4 * k) 4) c1 refl) at only.holds)))
 
-  -- what runs with nothing behind it
-  runs_alone : {c : Contents} {d : Deed} {to : ℕ → Env → Processor → Type 0} (is : List Inst) → Runs s plan.private to (is ++ []) c d → Runs s plan.private to is c d
-  runs_alone is run = rw append-nil at run
-
   -- the last instructions
   lasts : {live : VariableSet} {m : Moment} {c : Contents} {k : ℕ} {p : Processor} (target : ℕ) (result : Option ℕ) (h : Ready plan live m c) → ((x : ℕ) → result ≡ Some x → c.register 6 ≡ x) → return_address plan m.function c h.agrees.base ≡ 4 * target → target < 2 ^ 29 →
       k + length (epilogue_code plan.by_a (plan.leaf m.function) ++ Jalr 0 1 (pos 0) ∷ []) < 2 ^ 29 → CodeAt s.code k (epilogue_code plan.by_a (plan.leaf m.function) ++ Jalr 0 1 (pos 0) ∷ []) → Shows plan.private c k p → Comes s (length (epilogue_code plan.by_a (plan.leaf m.function) ++ Jalr 0 1 (pos 0) ∷ [])) p (Goes' m target result target)
@@ -130,7 +126,7 @@ module _ (s : Setting) (plan : Plan) (variables : ℕ → ℕ) (fine : Fits s pl
       let rest : List Inst = Jalr 0 1 (pos 0) ∷ [] in
       let all : length (code ++ rest) ≡ length code + 1 = length-append code rest in
       let to : ℕ → Env → Processor → Type 0 = λ j env q. (c1 : Contents) × Shows plan.private c1 j q × Closed m target c c1 in
-      let run : Runs s plan.private to code c (Went m.env) = runs_alone code (runs_epilogue to target [] h there (λ c1 closed. runs_nothing s plan.private to {env = m.env} (λ j q t. (c1, t, closed)))) in
+      let run : Runs s plan.private to code c (Went m.env) = runs_alone s plan.private to code (runs_epilogue to target [] h there (λ c1 closed. runs_nothing s plan.private to {env = m.env} (λ j q t. (c1, t, closed)))) in
       let first = run.from k (omega arith) (code_take s.code k code rest at) p shows in
       comes_map s (length (code ++ rest)) (omega arith) (λ q g. g) (
       comes_then s first (λ q t. jumps_back target result h given there near t.2 (code_drop s.code k code rest at) t.1))
@@ -146,7 +142,7 @@ module _ (s : Setting) (plan : Plan) (variables : ℕ → ℕ) (fine : Fits s pl
       let all = length-append code rest in
       let to : ℕ → Env → Processor → Type 0 = λ j env q. (c : Contents) × Shows plan.private c j q × (h' : Ready plan live m c) × (c.register 6 ≡ value x m.env) × (return_address plan m.function c h'.agrees.base ≡ 4 * target) in
       let run : Runs s plan.private to code h.contents (Went m.env) =
-      runs_alone code (runs_move s plan variables fine to 6 x [] h0 reads wanted (λ c1 r imm like plain same small.
+      runs_alone s plan.private to code (runs_move s plan variables fine to 6 x [] h0 reads wanted (λ c1 r imm like plain same small.
       let h1 = ready_like s plan variables fine 5 (is_scratch plan 5 (omega arith) (omega arith)) like h0 in
       let c2 : Contents = put 6 (value x m.env) c1 in
       let l2 = like_put 6 (value x m.env) c1 small like.fits in

@@ -1,6 +1,6 @@
 -- How long blocks are.
 use Rattle.std.specs.List.{AllByRecursion}
-use Rattle.std.proofs.Common.{◌≡◌, refl, ℕ, zero, suc, ◌+◌, ◌-◌, ◌*◌, ◌%◌, ◌^◌, ◌≤◌, Bool, true, false, ◌&&◌, List, [], ◌∷◌, ◌++◌, Option, Some, None, length, arith, length-append}
+use Rattle.std.proofs.Common.{◌≡◌, refl, ℕ, ◌+◌, ◌-◌, ◌*◌, ◌%◌, ◌^◌, ◌≤◌, Bool, true, false, ◌&&◌, List, [], ◌∷◌, ◌++◌, Option, Some, None, length, arith, length-append}
 use Rattle.std.specs.Prelude.{nat_lt, nat_eq, if◌then◌else◌, pos, ℤ}
 use Rattle.dae_base.specs.declared.Width.{Width}
 use Rattle.dae_base.specs.declared.Width.TheVariants.{B1, B2, B4}
@@ -30,7 +30,7 @@ use Rattle.dae_select_walks.specs.declared.Home.{Home}
 use Rattle.dae_select_walks.specs.declared.Home.TheVariants.{Register, Slot}
 use Rattle.dae_select_walks.specs.Homes.{slot_at, kept_at, number_key, resident_register}
 use Rattle.dae_select_walks.specs.Agrees.{Plan, counted_depth}
-use Rattle.dae_select_blocks.specs.Blocks.{operation_code, issue_code, address_code, call_number, over, is_register, number_code, load_code, store_code, register_or, source, fetch_home, fetch, keep, compare_code, test_code, extend_code, value_code, fail_code, align_code, bounds_code, room_code, check_code, take_code, hear_code, stop_code, arguments_code, save_code, restore_code, deeper_code, back_code, result_code, leave_code, waits_at, enter_code, more_code, less_code, is_immediate, move_code, immediate_code, exchanged_code, behind_or, combine_registers, binary_code, compare_number_code, compare_registers, compare_operands, frame_code, system_code, one_way, jump_over, jump_back, goes_by, goes_code, frames_room_code, tell_number_code, against_zero, immediate_of, goes_back, fetch_number, residents_code, as_immediate, prologue_code, epilogue_code, enter_words, lower, reach_code}
+use Rattle.dae_select_blocks.specs.Blocks.{operation_code, issue_code, address_code, call_number, over, is_register, number_code, load_code, store_code, register_or, source, fetch_home, fetch, keep, compare_code, test_code, extend_code, value_code, fail_code, align_code, bounds_code, room_code, check_code, take_code, hear_code, stop_code, arguments_code, save_code, restore_code, deeper_code, back_code, result_code, leave_code, enter_code, more_code, less_code, is_immediate, move_code, immediate_code, exchanged_code, behind_or, combine_registers, binary_code, compare_number_code, compare_registers, compare_operands, frame_code, system_code, one_way, jump_over, jump_back, goes_by, goes_code, frames_room_code, tell_number_code, against_zero, immediate_of, goes_back, fetch_number, residents_code, as_immediate, prologue_code, epilogue_code, enter_words, lower, reach_code, is_overwritten, argument_to, argument_code, parameter_to, parameter_code, parameters_code, copy_code}
 use Rattle.dae_select_blocks.specs.Code.{placed_code, some_below, filtered, home_registers, registers_in, with_home, early_code, action_code, branch_code, entry_code, start_code, finish_code, past_code, told_by, branch_by, ahead_by, before_branch, back_branch, late_code}
 use Rattle.dae_select_blocks.proofs.Simple.{IsSimple}
 
@@ -336,14 +336,29 @@ restored_short : (home : ℕ → Home) (n : ℕ) (live : VariableSet) → length
 unfolding registers_in
 restored_short home n live = restore_short (λ r. some_below n (λ v. live v && is_register r (home v))) home_registers all_near
 
-arguments_short : (plan : Plan) (f g : ℕ) (xs : List Argument) → length (arguments_code plan f g xs) ≤ 6 * length xs
+copy_short : (t r : ℕ) → length (copy_code t r) ≤ 1
+copy_short t r = either_short (nat_eq t r) _ _ 1 (omega arith) (omega arith)
+
+-- what is done of an argument, in both parts
+argument_short : (plan : Plan) (f g : ℕ) (xs : List Argument) (x : Argument) → length (argument_code plan f g xs x) + length (parameter_code plan f g xs x) ≤ 6
+argument_short plan f g xs x = by (plan.home g x.parameter)
+  where
+    taken : (q t : ℕ) (b : Bool) → length (if b then store_code q (kept_at q) else []) + length (if b then load_code t (kept_at q) else fetch (plan.home f) t x.operand ++ copy_code t (source (plan.home f) t x.operand)) ≤ 6
+    taken q t true = let a = store_short q (kept_at q) in let k = load_short t (kept_at q) in omega arith
+    taken q t false = let a = behind_short (plan.home f) t 1 x.operand _ (copy_short t (source (plan.home f) t x.operand)) in omega arith
+
+    by : (home : Home) → length (argument_to plan f g xs home x.operand) + length (parameter_to plan f g xs home x.operand) ≤ 6
+    by (Register t) = taken (source (plan.home f) 5 x.operand) t (is_overwritten plan f g xs x.operand)
+    by (Slot i) =
+        let k = store_short (source (plan.home f) 5 x.operand) (plan.words f + slot_at i) in
+        let a = behind_short (plan.home f) 5 3 x.operand (store_code (source (plan.home f) 5 x.operand) (plan.words f + slot_at i)) k in omega arith
+
+arguments_short : (plan : Plan) (f g : ℕ) (xs : List Argument) → length (arguments_code plan f g xs) + length (parameters_code plan f g xs) ≤ 6 * length xs
 arguments_short plan f g [] = omega arith
 arguments_short plan f g (x ∷ xs) =
-    let l = arguments_short plan f g xs in
-    let one : List Inst = store_code (source (plan.home f) 5 x.operand) (plan.words f + waits_at (plan.home g x.parameter)) in
-    let k = store_short (source (plan.home f) 5 x.operand) (plan.words f + waits_at (plan.home g x.parameter)) in
-    let a = behind_short (plan.home f) 5 3 x.operand one k in
-    let both = length-append (arguments_code plan f g xs) (fetch (plan.home f) 5 x.operand ++ one) in
+    let l = arguments_short plan f g xs in let one = argument_short plan f g xs x in
+    let a = length-append (arguments_code plan f g xs) (argument_code plan f g xs x) in
+    let b = length-append (parameters_code plan f g xs) (parameter_code plan f g xs x) in
     omega arith
 
 more_short : (r n : ℕ) → length (more_code r n) ≤ 3
@@ -374,27 +389,22 @@ prologue_short by_a true = omega arith
 prologue_short true false = omega arith
 prologue_short false false = omega arith
 
-prologue_alone : (by_a leaf : Bool) → length (prologue_code by_a leaf ++ []) ≤ 2
-prologue_alone by_a true = omega arith
-prologue_alone true false = omega arith
-prologue_alone false false = omega arith
-
 return_short : (by_a leaf : Bool) → length (epilogue_code by_a leaf ++ Jalr 0 1 (pos 0) ∷ []) ≤ 3
 return_short by_a true = omega arith
 return_short true false = omega arith
 return_short false false = omega arith
 
-pub entry_short : (plan : Plan) (variables : ℕ → ℕ) (g : ℕ) (live : VariableSet) → length (entry_code plan variables g live) ≤ 20
-entry_short plan variables g live =
-    let a = prologue_short plan.by_a (plan.leaf g) in let b = restored_short (plan.home g) (variables g) live in
-    let both = length-append (prologue_code plan.by_a (plan.leaf g)) (restore_code (registers_in (plan.home g) (variables g) live)) in omega arith
+pub entry_short : (plan : Plan) (g : ℕ) → length (entry_code plan g) ≤ 2
+entry_short plan g = prologue_short plan.by_a (plan.leaf g)
 
-pub prepared_short : (plan : Plan) (variables : ℕ → ℕ) (f g : ℕ) (xs : List Argument) (live : VariableSet) → length (arguments_code plan f g xs ++ (save_code (registers_in (plan.home f) (variables f) live) ++ deeper_code plan f)) ≤ 24 + 6 * length xs
+pub prepared_short : (plan : Plan) (variables : ℕ → ℕ) (f g : ℕ) (xs : List Argument) (live : VariableSet) → length (arguments_code plan f g xs ++ (save_code (registers_in (plan.home f) (variables f) live) ++ (parameters_code plan f g xs ++ deeper_code plan f))) ≤ 24 + 6 * length xs
 prepared_short plan variables f g xs live =
     let rs : List ℕ = registers_in (plan.home f) (variables f) live in
     let a = arguments_short plan f g xs in let c = saved_short (plan.home f) (variables f) live in
     let d = deeper_short plan f in
-    let l1 = length-append (save_code rs) (deeper_code plan f) in let l2 = length-append (arguments_code plan f g xs) (save_code rs ++ deeper_code plan f) in
+    let l1 = length-append (arguments_code plan f g xs) (save_code rs ++ (parameters_code plan f g xs ++ deeper_code plan f)) in
+    let l2 = length-append (save_code rs) (parameters_code plan f g xs ++ deeper_code plan f) in
+    let l3 = length-append (parameters_code plan f g xs) (deeper_code plan f) in
     omega arith
 
 pub resumed_short : (plan : Plan) (variables : ℕ → ℕ) (f : ℕ) (v : Option ℕ) (live : VariableSet) → length (back_code plan f ++ (restore_code (registers_in (plan.home f) (variables f) live) ++ result_code (plan.home f) v)) ≤ 28
@@ -445,20 +455,3 @@ opening_short plan main frames =
     both : (b : Bool) → length (if b then number_code 4 (plan.memory - 16) else []) + length (finish_code b) ≤ 3
     both true = let l = number_short 4 (plan.memory - 16) in omega arith
     both false = omega arith
-
--- ---- where nothing is live
-
-some_none : (n : ℕ) (f : ℕ → Bool) → ((v : ℕ) → f v ≡ false) → some_below n f ≡ false
-some_none zero f h = refl
-some_none (suc n) f h = rw (h n) (some_none n f h)
-
-filtered_none : (f : ℕ → Bool) → ((r : ℕ) → f r ≡ false) → (rs : List ℕ) → filtered f rs ≡ []
-filtered_none f h [] = refl
-filtered_none f h (r ∷ rs) = rw (h r) (filtered_none f h rs)
-
-registers_none : (home : ℕ → Home) (n : ℕ) (live : VariableSet) → ((u : ℕ) → live u ≡ false) → registers_in home n live ≡ []
-unfolding registers_in
-registers_none home n live h = filtered_none (λ r. some_below n (λ v. live v && is_register r (home v))) (λ r. some_none n (λ v. live v && is_register r (home v)) (λ v. rw (h v) refl)) home_registers
-
-pub entry_alone : (plan : Plan) (variables : ℕ → ℕ) (g : ℕ) (live : VariableSet) → ((u : ℕ) → live u ≡ false) → length (entry_code plan variables g live) ≤ 2
-entry_alone plan variables g live h = rw (registers_none (plan.home g) (variables g) live h) (prologue_alone plan.by_a (plan.leaf g))

@@ -17,6 +17,7 @@ mod Reaching
 mod Pairs
 mod Whole
 mod Calls
+mod Parameters
 mod Deeper
 mod Entering
 mod Leaving

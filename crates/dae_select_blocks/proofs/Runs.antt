@@ -1,5 +1,5 @@
 -- A list of instructions does a deed, from each processor that shows these contents where the list stands.
-use Rattle.std.proofs.Common.{◌≡◌, ℕ, suc, ◌+◌, ◌^◌, ◌<◌, ◌≤◌, Bool, true, false, List, [], ◌∷◌, ◌++◌, length, refl, subst, arith, length-append}
+use Rattle.std.proofs.Common.{◌≡◌, ℕ, suc, ◌+◌, ◌^◌, ◌<◌, ◌≤◌, Bool, true, false, List, [], ◌∷◌, ◌++◌, length, refl, subst, arith, length-append, append-nil}
 use Rattle.std.specs.Prelude.{nat_eq, if◌then◌else◌, slice_get, Some}
 use Rattle.std.proofs.lemmas.Bool.Decides.{nat_tests}
 use Rattle.dae_encode.specs.declared.QueueUse.TheVariants.{Nothing, Take as Takes, Push as Pushes, Load, StoreAddress}
@@ -42,6 +42,10 @@ module _ (s : Setting) (private : ℕ) (to : ℕ → Env → Processor → Type 
 
   pub runs_nothing : {c : Contents} {env : Env} → ((k : ℕ) (p : Processor) → Shows private c k p → to k env p) → Runs [] c (Went env)
   runs_nothing {c} f = record { from = λ k small at p h. comes_here s (f (k + 0) p (subst (λ (n : ℕ). Shows private c n p) (omega arith) h)) }
+
+  -- what runs with nothing behind it
+  pub runs_alone : {c : Contents} {d : Deed} (is : List Inst) → Runs (is ++ []) c d → Runs is c d
+  runs_alone is run = rw append-nil at run
 
   -- what runs from the next word on
   later : {n : ℕ} (i : Inst) (is : List Inst) (k : ℕ) (d : Deed) (p : Processor) → n ≤ length (i ∷ is) → Does s n d (to (k + 1 + length is)) p → Does s (length (i ∷ is)) d (to (k + length (i ∷ is))) p

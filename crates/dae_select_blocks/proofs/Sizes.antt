@@ -18,7 +18,7 @@ use Rattle.dae_select_walks.specs.Facts.{Facts, facts_behind, facts_in_first, fa
 use Rattle.dae_select_walks.specs.declared.Need.{Need}
 use Rattle.dae_select_walks.specs.declared.Need.TheVariants.{All, Ends, Nothing}
 use Rattle.dae_select_walks.specs.Agrees.{Plan}
-use Rattle.dae_select_blocks.specs.Blocks.{arguments_code, save_code, restore_code, deeper_code, back_code, result_code, enter_code, jump_words, jump_over, enter_words}
+use Rattle.dae_select_blocks.specs.Blocks.{arguments_code, save_code, restore_code, deeper_code, back_code, result_code, enter_code, jump_words, jump_over, enter_words, parameters_code}
 use Rattle.dae_select_blocks.specs.Code.{registers_in, action_code, call_code, does_nothing, standing_behind, late_code, placed_code, needed_code, block_code, code_of, tail_of, loop_code, bottom_code, bottom_test, has_bottom, leaves_first, is_near, is_dead}
 use Rattle.dae_select_blocks.specs.Sizes.{one_call, most_words_in}
 use Rattle.dae_select_blocks.proofs.Simple.{IsSimple}
@@ -44,12 +44,15 @@ module _ (short : Bool) (plan : Plan) (variables : ℕ → ℕ) (f : ℕ) where
       let R = back_code plan f ++ (restore_code rs ++ result_code (plan.home f) v) in
       let before' = prepared_short plan variables f g xs k in
       let after' = resumed_short plan variables f v k in
-      let one = length-append A (B ++ (D ++ (E ++ R))) in
-      let two = length-append B (D ++ (E ++ R)) in
-      let three = length-append D (E ++ R) in
-      let four = length-append E R in
-      let five = length-append A (B ++ D) in
-      let six = length-append B D in
+      let P = parameters_code plan f g xs in
+      let one = length-append A (B ++ (P ++ (D ++ (E ++ R)))) in
+      let two = length-append B (P ++ (D ++ (E ++ R))) in
+      let three = length-append P (D ++ (E ++ R)) in
+      let four = length-append D (E ++ R) in
+      let five = length-append E R in
+      let six = length-append A (B ++ (P ++ D)) in
+      let seven = length-append B (P ++ D) in
+      let eight = length-append P D in
       let enters : length E ≡ enter_words plan.near = enter_long plan.near (plan.entry g) in
       let few = enter_few plan.near in
       omega arith

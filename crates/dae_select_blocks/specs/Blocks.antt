@@ -2,7 +2,7 @@
 -- in common memory does, x5, x6 and x7 for the work of one block, x6 also for a call's result. On A x4 is how many addresses
 -- common memory has, and x10 the depth as it is counted. On E x10 and x17 are for the environment call. A number that stays in
 -- a register is read there.
-use Rattle.std.specs.Prelude.{ℕ, ◌+◌, ◌-◌, ◌*◌, ◌/◌, ◌%◌, ◌^◌, ℤ, pos, negsuc, Bool, true, false, not, ◌&&◌, nat_lt, nat_eq, if◌then◌else◌, List, [], ◌∷◌, ◌++◌, Option, Some, None, is_some, zero, suc}
+use Rattle.std.specs.Prelude.{ℕ, ◌+◌, ◌-◌, ◌*◌, ◌/◌, ◌%◌, ◌^◌, ℤ, pos, negsuc, Bool, true, false, not, ◌&&◌, ◌||◌, nat_lt, nat_eq, if◌then◌else◌, List, [], ◌∷◌, ◌++◌, Option, Some, None, is_some, zero, suc}
 use Rattle.dae_base.specs.Words.{signed, size, minus}
 use Rattle.dae_base.specs.declared.Width.{Width}
 use Rattle.dae_base.specs.declared.Width.TheVariants.{B1, B2, B4}
@@ -445,24 +445,63 @@ goes_back n relation x y = branch_inst relation x y (back_offset n) ∷ []
 
 -- ---- calls
 
--- where an argument waits for its parameter in the frame of the function that is called; the last one is given first
-abbrev pub waits_at : Home → ℕ
-waits_at (Register r) = kept_at r
-waits_at (Slot i) = slot_at i
-
-abbrev pub argument_code : Plan → ℕ → ℕ → Argument → List Inst
-argument_code plan f g x =
-    fetch (plan.home f) 5 x.operand
-    ++ store_code (source (plan.home f) 5 x.operand) (plan.words f + waits_at (plan.home g x.parameter))
-
-abbrev pub arguments_code : Plan → ℕ → ℕ → List Argument → List Inst
-arguments_code plan f g [] = []
-arguments_code plan f g (x ∷ xs) = arguments_code plan f g xs ++ argument_code plan f g x
-
 -- the registers in which variables of a set are
 abbrev pub is_register : ℕ → Home → Bool
 is_register r (Register h) = nat_eq r h
 is_register r (Slot i) = false
+
+-- one of these arguments is for a variable in this register
+abbrev pub gives_register : (ℕ → Home) → List Argument → ℕ → Bool
+gives_register home [] r = false
+gives_register home (x ∷ xs) r = is_register r (home x.parameter) || gives_register home xs r
+
+-- a call of the function g gives arguments to the homes of their parameters, the last one first. An operand in a register can't
+-- be read there any more where one of these arguments, which are given before, has got the register
+abbrev pub is_overwritten : Plan → ℕ → ℕ → List Argument → Operand → Bool
+is_overwritten plan f g xs x = gives_register (plan.home g) xs (source (plan.home f) 5 x)
+
+-- such an operand waits in the word in which its register is kept across a call
+abbrev pub wait_code : Plan → ℕ → ℕ → List Argument → Operand → List Inst
+wait_code plan f g xs x =
+    if is_overwritten plan f g xs x then store_code (source (plan.home f) 5 x) (kept_at (source (plan.home f) 5 x)) else []
+
+-- an operand goes into a slot in the frame of the function that is called
+abbrev pub slot_code : Plan → ℕ → ℕ → Operand → List Inst
+slot_code plan f i x = fetch (plan.home f) 5 x ++ store_code (source (plan.home f) 5 x) (plan.words f + slot_at i)
+
+-- what is done of arguments before any register gets another word
+abbrev pub argument_to : Plan → ℕ → ℕ → List Argument → Home → Operand → List Inst
+argument_to plan f g xs (Register r) x = wait_code plan f g xs x
+argument_to plan f g xs (Slot i) x = slot_code plan f i x
+
+abbrev pub argument_code : Plan → ℕ → ℕ → List Argument → Argument → List Inst
+argument_code plan f g xs x = argument_to plan f g xs (plan.home g x.parameter) x.operand
+
+abbrev pub arguments_code : Plan → ℕ → ℕ → List Argument → List Inst
+arguments_code plan f g [] = []
+arguments_code plan f g (x ∷ xs) = arguments_code plan f g xs ++ argument_code plan f g xs x
+
+-- a register gets the word of another
+abbrev pub copy_code : ℕ → ℕ → List Inst
+copy_code t r = if nat_eq t r then [] else Addi t r (pos 0) ∷ []
+
+-- an operand goes into the register of its parameter
+abbrev pub give_code : Plan → ℕ → ℕ → List Argument → ℕ → Operand → List Inst
+give_code plan f g xs t x =
+    if is_overwritten plan f g xs x then load_code t (kept_at (source (plan.home f) 5 x))
+    else fetch (plan.home f) t x ++ copy_code t (source (plan.home f) t x)
+
+-- what is done of arguments then
+abbrev pub parameter_to : Plan → ℕ → ℕ → List Argument → Home → Operand → List Inst
+parameter_to plan f g xs (Register t) x = give_code plan f g xs t x
+parameter_to plan f g xs (Slot i) x = []
+
+abbrev pub parameter_code : Plan → ℕ → ℕ → List Argument → Argument → List Inst
+parameter_code plan f g xs x = parameter_to plan f g xs (plan.home g x.parameter) x.operand
+
+abbrev pub parameters_code : Plan → ℕ → ℕ → List Argument → List Inst
+parameters_code plan f g [] = []
+parameters_code plan f g (x ∷ xs) = parameters_code plan f g xs ++ parameter_code plan f g xs x
 
 abbrev pub save_code : List ℕ → List Inst
 save_code [] = []

@@ -29,7 +29,7 @@ use Rattle.dae_select_walks.specs.Agrees.{Plan}
 use Rattle.dae_select_walks.specs.Compiled.{is_told}
 use Rattle.dae_select_walks.specs.declared.Standing.{Standing}
 use Rattle.dae_select_walks.specs.declared.Standing.TheVariants.{Settled, Early, Late}
-use Rattle.dae_select_blocks.specs.Blocks.{number_code, register_or, source, fetch, keep, value_code, issue_code, address_code, take_code, own_code, move_code, call_number, system_code, hear_code, stop_code, check_code, bounds_code, residents_code, test_code, jump_over, jump_back, enter_code, goes_back, arguments_code, is_register, save_code, restore_code, deeper_code, back_code, result_code, prologue_code, leave_code, jump_words, one_way, goes_code, tell_number_code, against_zero, immediate_of, is_immediate, reach_code}
+use Rattle.dae_select_blocks.specs.Blocks.{number_code, register_or, source, fetch, keep, value_code, issue_code, address_code, take_code, own_code, move_code, call_number, system_code, hear_code, stop_code, check_code, bounds_code, residents_code, test_code, jump_over, jump_back, enter_code, goes_back, arguments_code, parameters_code, is_register, save_code, restore_code, deeper_code, back_code, result_code, prologue_code, leave_code, jump_words, one_way, goes_code, tell_number_code, against_zero, immediate_of, is_immediate, reach_code}
 use Rattle.dae_select_blocks.specs.Sizes.{most_words_in, is_short}
 
 -- ---- the registers that a call keeps
@@ -54,8 +54,8 @@ registers_in home variables live = filtered (λ r. some_below variables (λ v. l
 
 abbrev pub call_code : Plan → (ℕ → ℕ) → ℕ → Option ℕ → ℕ → List Argument → VariableSet → List Inst
 call_code plan variables f v g xs live =
-    arguments_code plan f g xs ++ (save_code (registers_in (plan.home f) (variables f) live) ++ (deeper_code plan f ++ (enter_code plan.near (plan.entry g)
-    ++ (back_code plan f ++ (restore_code (registers_in (plan.home f) (variables f) live) ++ result_code (plan.home f) v)))))
+    arguments_code plan f g xs ++ (save_code (registers_in (plan.home f) (variables f) live) ++ (parameters_code plan f g xs ++ (deeper_code plan f ++ (enter_code plan.near (plan.entry g)
+    ++ (back_code plan f ++ (restore_code (registers_in (plan.home f) (variables f) live) ++ result_code (plan.home f) v))))))
 
 -- the block of an action in the function f, behind which these variables are live, with the jumps to where a Break goes and a
 -- Continue
@@ -304,15 +304,14 @@ abbrev mutual
 
 -- ---- functions
 
--- a function keeps the address to return to and counts itself, unless it is a leaf, and gets the parameters that it reads into
--- their registers
-abbrev pub entry_code : Plan → (ℕ → ℕ) → ℕ → VariableSet → List Inst
-entry_code plan variables f live = prologue_code plan.by_a (plan.leaf f) ++ restore_code (registers_in (plan.home f) (variables f) live)
+-- a function keeps the address to return to and counts itself, unless it is a leaf. The parameters that it reads are in their homes
+abbrev pub entry_code : Plan → ℕ → List Inst
+entry_code plan f = prologue_code plan.by_a (plan.leaf f)
 
 -- its actions return or halt, so nothing stands behind them
 abbrev pub function_code : Plan → (ℕ → ℕ) → ℕ → Actions → List Inst
 function_code plan variables f code =
-    entry_code plan variables f (live code nowhere) ++ code_of (is_short code) plan variables f Settled unknown code nowhere 0 0
+    entry_code plan f ++ code_of (is_short code) plan variables f Settled unknown code nowhere 0 0
 
 -- where main returns to: A halts, and E halts with the result
 abbrev pub finish_code : Bool → List Inst

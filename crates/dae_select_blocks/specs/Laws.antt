@@ -30,7 +30,7 @@ pub record Stands (s : Setting) (plan : Plan) (variables : ℕ → ℕ) (entries
 -- then it does them, action by action, in at most 14 instructions an action, 46 a call and 6 more an argument
 abbrev pub CodeDoes : Type 0
 CodeDoes =
-    (s : Setting) (plan : Plan) (variables : ℕ → ℕ) (program : Program) (entries : ℕ → VariableSet) → Fits s plan variables → IsPlanOf program plan → IsLinked s plan variables entries
+    (s : Setting) (plan : Plan) (variables : ℕ → ℕ) (program : Program) (entries : ℕ → VariableSet) → Fits s plan variables → IsPlanOf program plan → IsLinked s plan
     → (f : ℕ) (code : Actions) → Stands s plan variables entries f code
     → (end : ℕ) × CodeDone s plan program entries 14 46 f unknown code (exit (plan.start f) (live code nowhere)) (exits (exit end none) (exit end none) (exit end none))
 
@@ -61,5 +61,5 @@ pub record Begins (s : Setting) (plan : Plan) (entries : ℕ → VariableSet) (m
 -- then the opened processor comes to where main's actions begin
 abbrev pub CodeBegins : Type 0
 CodeBegins =
-    (s : Setting) (plan : Plan) (variables : ℕ → ℕ) (entries : ℕ → VariableSet) (main frames : ℕ) → Fits s plan variables → IsLinked s plan variables entries → Begins s plan entries main frames
+    (s : Setting) (plan : Plan) (variables : ℕ → ℕ) (entries : ℕ → VariableSet) (main frames : ℕ) → Fits s plan variables → IsLinked s plan → Begins s plan entries main frames
     → Comes s 14 (opened_with plan.private) (Stands' plan (entries main) (record { function = main; env = (λ _. 0); frame = frames; waiting = [] }) (plan.start main))

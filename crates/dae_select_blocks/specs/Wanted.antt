@@ -1,5 +1,5 @@
 -- What a stream must be for its code to do it: actions of its side, numbers that are words, variables of the function.
-use Rattle.std.specs.Prelude.{◌≡◌, ℕ, ◌+◌, ◌^◌, ◌<◌, Bool, true, false, ◌||◌, nat_eq, List, [], ◌∷◌, length, Option, Some, None}
+use Rattle.std.specs.Prelude.{◌≡◌, ◌≢◌, ℕ, ◌+◌, ◌^◌, ◌<◌, Bool, true, false, ◌||◌, nat_eq, List, [], ◌∷◌, length, Option, Some, None}
 use Rattle.dae_ir.specs.Classes.{VariableSet}
 use Rattle.dae_ir.specs.Form.{Program}
 use Rattle.dae_ir.specs.declared.form.Operand.{Operand}
@@ -14,7 +14,8 @@ use Rattle.dae_ir.specs.declared.stream.Action.TheVariants.{Set as Compute, Issu
 use Rattle.dae_ir.specs.declared.stream.Branch.{Branch}
 use Rattle.dae_ir.specs.declared.stream.Branch.TheVariants.{Silent, Tells, Hears}
 use Rattle.dae_select_walks.specs.declared.Home.{Home}
-use Rattle.dae_select_walks.specs.Homes.{AreApart}
+use Rattle.dae_select_walks.specs.declared.Home.TheVariants.{Register}
+use Rattle.dae_select_walks.specs.Homes.{AreApart, resident_home, resident_register}
 use Rattle.dae_select_walks.specs.Walks.{Setting}
 use Rattle.dae_select_walks.specs.Agrees.{Plan}
 use Rattle.dae_select_blocks.specs.Code.{entry_code, finish_code}
@@ -58,6 +59,11 @@ abbrev pub gives : List Argument → VariableSet
 gives [] u = false
 gives (x ∷ xs) u = nat_eq u x.parameter || gives xs u
 
+-- these variables of a function have homes of their own, in which no number stays
+pub record HaveHomes (plan : Plan) (f : ℕ) (given : VariableSet) : Type 0 where
+  pub apart : AreApart (plan.home f) given
+  pub free : (u n r : ℕ) → given u ≡ true → resident_register (resident_home 27 plan.residents n) ≡ Some r → plan.home f u ≢ Register r
+
 -- a call is of a function that is there, gives an argument for each variable that the function reads at its entry, its parameters have homes of their
 -- own, and no leaf makes it
 abbrev pub IsWanted : Plan → Bool → (ℕ → VariableSet) → Bool → Action → Type 0
@@ -91,12 +97,11 @@ pub record IsPlanOf (program : Program) (plan : Plan) : Type 0 where
 
 -- where the functions stand: each is entered at its entry code, below word 512 where one instruction enters it, and its actions
 -- begin behind that
-pub record IsLinked (s : Setting) (plan : Plan) (variables : ℕ → ℕ) (entries : ℕ → VariableSet) : Type 0 where
-  pub entry : (g : ℕ) → g < plan.functions → CodeAt s.code (plan.entry g) (entry_code plan variables g (entries g))
-  pub start : (g : ℕ) → g < plan.functions → plan.start g ≡ plan.entry g + length (entry_code plan variables g (entries g))
+pub record IsLinked (s : Setting) (plan : Plan) : Type 0 where
+  pub entry : (g : ℕ) → g < plan.functions → CodeAt s.code (plan.entry g) (entry_code plan g)
+  pub start : (g : ℕ) → g < plan.functions → plan.start g ≡ plan.entry g + length (entry_code plan g)
   pub near : (g : ℕ) → g < plan.functions → plan.start g < 2 ^ 29
   pub close : (g : ℕ) → g < plan.functions → plan.near ≡ true → plan.entry g < 512
-  pub reads : (g u : ℕ) → entries g u ≡ true → u < variables g
   pub finish : CodeAt s.code plan.finish (finish_code plan.by_a)
   pub low : plan.finish + 3 < 2 ^ 29
 

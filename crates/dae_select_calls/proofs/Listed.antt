@@ -1,16 +1,15 @@
 -- Lists from a place on, and what of variables and registers is found.
-use Rattle.std.proofs.Common.{◌≡◌, ℕ, zero, suc, ◌-◌, ◌<◌, ◌≤◌, Bool, true, false, ◌&&◌, ◌||◌, List, [], ◌∷◌, ◌++◌, ◌+◌, length, take, drop, get_or, refl, ap, sym, ◌∙◌, arith, append_assoc}
+use Rattle.std.proofs.Common.{◌≡◌, ℕ, zero, suc, ◌-◌, ◌<◌, ◌≤◌, Bool, true, false, ◌&&◌, ◌||◌, List, [], ◌∷◌, ◌++◌, ◌+◌, length, take, drop, get_or, refl, ap, sym, ◌∙◌, arith, append_assoc, take_all, length-drop}
 use Rattle.std.proofs.Math.Path.{fun_ext}
 use Rattle.std.specs.Prelude.{nat_eq, nat_lt}
 use Rattle.std.proofs.lemmas.Bool.Decides.{nat_tests}
 use Rattle.dae_encode.specs.declared.Inst.{Inst}
 use Rattle.dae_ir.specs.declared.stream.Argument.{Argument}
-use Rattle.dae_select_walks.specs.Agrees.{Plan}
 use Rattle.dae_select_walks.specs.Live.{none, with_all}
 use Rattle.dae_select_walks.specs.declared.Home.{Home}
 use Rattle.dae_select_live.specs.Members.{member}
 use Rattle.dae_select_live.proofs.Laws.{member_more, drop_get}
-use Rattle.dae_select_blocks.specs.Blocks.{is_register, argument_code, arguments_code}
+use Rattle.dae_select_blocks.specs.Blocks.{is_register}
 use Rattle.dae_select_blocks.specs.Code.{some_below}
 
 -- from the place before j on
@@ -81,10 +80,15 @@ held_more n home vs i now new lt so_far e =
 
 -- ---- arguments
 
-pub one_argument : (plan : Plan) (f g : ℕ) (list : List Argument) (j : ℕ) (other : Argument) (start old new : List Inst) → 0 < j → j ≤ length list → old ≡ start ++ arguments_code plan f g (drop j list)
-    → new ≡ old ++ argument_code plan f g (get_or list (j - 1) other) → new ≡ start ++ arguments_code plan f g (drop (j - 1) list)
-one_argument plan f g list j other start old new some le so_far e =
+-- what is made of an argument and those behind it, for one more
+pub one_more : (code : List Argument → List Inst) (one : List Argument → Argument → List Inst) → ((x : Argument) (xs : List Argument) → code (x ∷ xs) ≡ code xs ++ one xs x) → (list : List Argument) (j : ℕ) (other : Argument) (start old new : List Inst) → 0 < j → j ≤ length list
+    → old ≡ start ++ code (drop j list) → new ≡ old ++ one (take (length list - (j - 1 + 1)) (drop (j - 1 + 1) list)) (get_or list (j - 1) other) → new ≡ start ++ code (drop (j - 1) list)
+one_more code one step list j other start old new some le so_far e =
+    let x : Argument = get_or list (j - 1) other in
     let here = drop_before list j other some le in
-    e ∙ ap (λ (c : List Inst). c ++ argument_code plan f g (get_or list (j - 1) other)) so_far
-    ∙ append_assoc start (arguments_code plan f g (drop j list)) (argument_code plan f g (get_or list (j - 1) other))
-    ∙ ap (λ (l : List Argument). start ++ arguments_code plan f g l) (sym here)
+    let back : j - 1 + 1 ≡ j = omega arith in
+    let long = length-drop (j - 1 + 1) list in
+    let rest : take (length list - (j - 1 + 1)) (drop (j - 1 + 1) list) ≡ drop j list = take_all (length list - (j - 1 + 1)) (drop (j - 1 + 1) list) (omega arith) ∙ ap (λ (n : ℕ). drop n list) back in
+    e ∙ ap (λ (given : List Argument). old ++ one given x) rest ∙ ap (λ (c : List Inst). c ++ one (drop j list) x) so_far
+    ∙ append_assoc start (code (drop j list)) (one (drop j list) x) ∙ ap (λ (c : List Inst). start ++ c) (sym (step x (drop j list)))
+    ∙ ap (λ (l : List Argument). start ++ code l) (sym here)

@@ -1,26 +1,26 @@
 // The blocks of calls and returns, and the code that a function begins with.
 
-ghost use Rattle.std.specs.Prelude.{◌≡◌, ◌+◌, ◌++◌, ◌∷◌, [], pos, ◌<◌, ◌^◌, ◌%◌, ◌&&◌, nat_lt, IfOk, OnOk};
+ghost use Rattle.std.specs.Prelude.{◌≡◌, ◌+◌, ◌++◌, ◌∷◌, [], pos, ◌^◌, ◌%◌, ◌&&◌, nat_lt, IfOk, OnOk};
 ghost use Rattle.dae_encode.specs.declared.Inst.TheVariants.{Jalr};
-ghost use Rattle.dae_select_blocks.specs.Blocks.{waits_at, arguments_code, argument_code, is_register, save_code, restore_code, deeper_code, back_code, result_code, count_code, prologue_code, epilogue_code, leave_code};
-ghost use Rattle.dae_select_blocks.specs.Code.{some_below, filtered, registers_in, call_code, entry_code};
+ghost use Rattle.dae_select_blocks.specs.Blocks.{is_register, save_code, restore_code, deeper_code, back_code, result_code, count_code, prologue_code, epilogue_code, leave_code};
+ghost use Rattle.dae_select_blocks.specs.Code.{some_below, filtered, registers_in, call_code};
 ghost use Rattle.dae_select_calls.specs.Layouts.{plan_of, AreSmall};
 ghost use Rattle.dae_select_calls.specs.Makings.{plan_by, variables_by, IsSound};
 ghost use Rattle.dae_select_walks.specs.Live.{with_all};
 ghost use Rattle.dae_select_values.specs.Sides.{is_a};
-ghost use Rattle.dae_select_values.specs.Tables.{IsNear, AreNear, home_by};
+ghost use Rattle.dae_select_values.specs.Tables.{AreNear, home_by};
 ghost use Rattle.dae_select_live.specs.Members.{member};
-ghost use Rattle.dae_select_walks.specs.Homes.{kept_at};
 
 use crate::layouts::Layouts;
 use crate::making::Making;
+use crate::passing::{arguments_code, kept_at, parameters_code};
 use dae_base::Side;
 use dae_encode::Inst;
 use dae_ir::{Argument, Operand};
 use dae_select_live::LiveSet;
 use dae_select_values::{
-    HomeTable, enter_code, fetch, home_of, keep, less_code, load_code, more_code, move_code,
-    register_or, source, store_code,
+    HomeTable, enter_code, home_of, keep, less_code, load_code, more_code, move_code, register_or,
+    store_code,
 };
 use dae_select_walks::Home;
 use std::alloc::{AllocError, Global};
@@ -29,67 +29,6 @@ use std::alloc::{AllocError, Global};
 const HOME_REGISTERS: [u8; 18] = [
     8, 9, 11, 12, 13, 14, 15, 16, 18, 19, 20, 21, 22, 23, 24, 25, 26, 27,
 ];
-
-/// The word of a frame in which a register is kept across a call.
-fn kept_at(register: u8) -> u8
-    ensures { result ≡ kept_at register }
-{
-    if register < 10 {
-        register.saturating_sub(7)
-    } else if register < 17 {
-        register - 8
-    } else {
-        register - 9
-    }
-}
-
-fn waits_at(home: Home) -> u32
-    requires { IsNear home }
-    ensures same { result ≡ waits_at home }
-    ensures near { result < 2 ^ 27 + 256 }
-{
-    match home {
-        Home::Register(register) => u32::from(kept_at(register)),
-        Home::Slot(slot) => 19 + slot,
-    }
-}
-
-fn argument_code(
-    code: &mut Vec<Inst>,
-    making: &Making,
-    callee: u32,
-    argument: Argument,
-) -> Result<(), AllocError>
-    requires { IsSound making.now }
-    ensures { OnOk result (code.new.items ≡ code.old.items
-        ++ argument_code (plan_by making.now) making.now.function callee argument) }
-{
-    fetch(code, making.homes, 5, argument.operand)?;
-    let place = waits_at(making.layouts.home(callee, argument.parameter));
-    let words = 19 + making.layouts.variables(making.function);
-    store_code(
-        code,
-        source(making.homes, 5, argument.operand),
-        words + place,
-    )
-}
-
-/// The arguments of a call go where the function that is called finds its parameters.
-fn arguments_code(
-    code: &mut Vec<Inst>,
-    making: &Making,
-    callee: u32,
-    arguments: &[Argument],
-) -> Result<(), AllocError>
-    requires { IsSound making.now }
-    ensures { OnOk result (code.new.items ≡ code.old.items
-        ++ arguments_code (plan_by making.now) making.now.function callee arguments.now) }
-{
-    for index in (0..arguments.len()).rev() {
-        argument_code(code, making, callee, arguments[index])?;
-    }
-    Ok(())
-}
 
 /// The register of a home comes into a set of registers.
 fn hold_home(held: &mut LiveSet, home: Home) -> Result<(), AllocError>
@@ -266,6 +205,7 @@ pub fn call_code(
     arguments_code(code, making, callee.function, arguments)?;
     let registers = registers_in(making.alloc, making.homes, variables, live)?;
     save_code(code, registers.as_slice())?;
+    parameters_code(code, making, callee.function, arguments)?;
     deeper_code(code, layouts, making.function)?;
     enter_code(code, layouts.calls, layouts.entry(callee.function))?;
     back_code(code, layouts, making.function)?;
@@ -283,8 +223,9 @@ fn count_code(code: &mut Vec<Inst>, side: Side, more: i32) -> Result<(), AllocEr
     }
 }
 
-/// The address to return to, which is in x1, goes into the frame of a function that is no leaf, and A counts the function.
-fn prologue_code(code: &mut Vec<Inst>, making: &Making) -> Result<(), AllocError>
+/// The code that a function begins with: the address to return to, which is in x1, goes into the frame of one that is no leaf, and A
+/// counts the function.
+pub fn prologue_code(code: &mut Vec<Inst>, making: &Making) -> Result<(), AllocError>
     ensures { OnOk result (code.new.items ≡ code.old.items
         ++ prologue_code (plan_by making.now).by_a
         ((plan_by making.now).leaf making.now.function)) }
@@ -340,17 +281,4 @@ pub fn leave_code(
             return_code(code, making)
         }
     }
-}
-
-/// The code that a function begins with, where these variables are live behind it.
-pub fn entry_code(code: &mut Vec<Inst>, making: &Making, live: &LiveSet) -> Result<(), AllocError>
-    requires { IsSound making.now }
-    ensures { OnOk result (code.new.items ≡ code.old.items
-        ++ entry_code (plan_by making.now) (variables_by making.now) making.now.function
-        (member live.now)) }
-{
-    prologue_code(code, making)?;
-    let variables = making.layouts.variables(making.function);
-    let registers = registers_in(making.alloc, making.homes, variables, live)?;
-    restore_code(code, registers.as_slice())
 }

@@ -2,7 +2,7 @@
 // of the side before. Each clause is the block's definition. Nothing fails but for want of memory.
 #![tactic(auto)]
 
-pub use calling::{Callee, call_code, entry_code, leave_code};
+pub use calling::{Callee, call_code, leave_code, prologue_code};
 pub use checking::{check_code, placed_code};
 pub use layouts::{FunctionLayout, Layouts};
 pub use making::Making;
@@ -13,3 +13,4 @@ mod checking;
 mod layouts;
 mod making;
 mod opening;
+mod passing;
