@@ -3,7 +3,7 @@ use Rattle.std.proofs.Common.{◌≡◌, ℕ, zero, suc, ◌≤◌, ◌<◌, ◌
 use Rattle.std.specs.Prelude.{Option, Some, None, slice_get, nat_lt}
 use Rattle.std.specs.List.{AllByRecursion, AllZip}
 use Rattle.std.proofs.lemmas.Bool.Decides.{nat_tests}
-use Rattle.std.proofs.lemmas.Bool.{or_right}
+use Rattle.std.proofs.lemmas.Bool.{or_right, and_parts}
 use Rattle.dae_ir.specs.Classes.{VariableSet}
 use Rattle.dae_ir.specs.SetFirst.{parameters_set}
 use Rattle.dae_ir.specs.Streams.{actions_of}
@@ -12,13 +12,13 @@ use Rattle.dae_select_walks.specs.Homes.{IsHome, AreApart, frame_words, home_in,
 use Rattle.dae_select_walks.specs.Live.{lives, nowhere}
 use Rattle.dae_select_walks.specs.declared.Home.{Home}
 use Rattle.dae_select_walks.specs.declared.Home.TheVariants.{Register, Slot}
-use Rattle.dae_select_blocks.specs.Sizes.{calls_in}
+use Rattle.dae_select_blocks.specs.Sizes.{calls_in, is_leaf}
 use Rattle.dae_select_blocks.specs.Wanted.{IsRight}
 use Rattle.dae_regalloc.specs.Seen.{AreBelow}
 use Rattle.dae_select_values.specs.Tables.{IsNear}
-use Rattle.dae_select_calls.specs.Layouts.{homes_at, variables_at, entry_at, frame_at, leaf_at}
+use Rattle.dae_select_calls.specs.Layouts.{homes_at, variables_at, entry_at, frame_at, leaf_at, bare_at}
 use Rattle.dae_select_calls.specs.declared.layouts.FunctionLayout.{FunctionLayout}
-use Rattle.dae_link.specs.Settled.{IsLayoutOf, IsFrameWithin}
+use Rattle.dae_link.specs.Settled.{IsLayoutOf, IsFrameWithin, have_registers}
 use Rattle.dae_link.specs.Sides.{body_in, parameters_in, frame_in}
 use Rattle.dae_link.proofs.Residing.{among_apart}
 
@@ -116,6 +116,19 @@ calls_at None None is e = refl
 calls_at None (Some l) is e = absurd is
 calls_at (Some f) None is e = absurd is
 calls_at (Some f) (Some l) is e = none_below_one (calls_in (actions_of f.body)) (sym is.leaf ∙ e)
+
+-- a bare one is a leaf with registers for all variables
+pub bare_is_leaf : (f : Option StreamFunction) (l : Option FunctionLayout) → IsLayoutAt f l → bare_at l ≡ true → leaf_at l ≡ true
+bare_is_leaf None None is e = absurd (let no : false ≡ true = e in cc)
+bare_is_leaf None (Some l) is e = absurd is
+bare_is_leaf (Some f) None is e = absurd is
+bare_is_leaf (Some f) (Some l) is e = is.leaf ∙ (and_parts (is_leaf (actions_of f.body)) (have_registers l.homes) (sym is.bare ∙ e)).0
+
+pub bare_in_registers : (f : Option StreamFunction) (l : Option FunctionLayout) → IsLayoutAt f l → bare_at l ≡ true → have_registers (homes_at l) ≡ true
+bare_in_registers None None is e = absurd (let no : false ≡ true = e in cc)
+bare_in_registers None (Some l) is e = absurd is
+bare_in_registers (Some f) None is e = absurd is
+bare_in_registers (Some f) (Some l) is e = (and_parts (is_leaf (actions_of f.body)) (have_registers l.homes) (sym is.bare ∙ e)).1
 
 pub parameters_at : (f : Option StreamFunction) (l : Option FunctionLayout) → IsLayoutAt f l → (u : ℕ) → parameters_set (parameters_in f) u ≡ true → u < variables_at l
 parameters_at None None is u h = absurd (grind (arith, nat_tests))

@@ -16,6 +16,7 @@ use Rattle.dae_select_blocks.proofs.LawsOfBlocks.{resident_high}
 use Rattle.dae_select_calls.specs.Layouts.{homes_at}
 use Rattle.dae_select_calls.specs.declared.layouts.FunctionLayout.{FunctionLayout}
 use Rattle.dae_link.specs.Residents.{IsWord, is_low, all_low, each_low}
+use Rattle.dae_link.specs.Settled.{has_register, have_registers}
 
 pub words_small : (xs : List ℕ) → ((i : ℕ) → i < length xs → get_or xs i 0 < 2 ^ 32) → AllByRecursion IsWord xs
 words_small [] h = tt
@@ -51,6 +52,32 @@ among_is_home count homes numbers few good v = by (nat_lt v (2 ^ 32))
     by : (b : Bool) → IsHome count (if b then home_in homes v else resident_home 27 numbers (v - 2 ^ 32))
     by true = good v
     by false = resident_is_home count 27 numbers (v - 2 ^ 32) (omega arith) (omega arith)
+
+-- nor is any of them a slot, where no variable's is
+resident_no_slot : (r : ℕ) (numbers : List ℕ) (n i : ℕ) → resident_home r numbers n ≢ Slot i
+resident_no_slot r [] n i = λ same. (let no : Register 8 ≡ Slot i = same in cc)
+resident_no_slot r (x ∷ xs) n i = by (resident_no_slot (r - 1) xs n i) (nat_eq n x)
+  where
+    by : resident_home (r - 1) xs n ≢ Slot i → (b : Bool) → (if b then Register r else resident_home (r - 1) xs n) ≢ Slot i
+    by below true = λ same. (let no : Register r ≡ Slot i = same in cc)
+    by below false = below
+
+home_no_slot : (homes : List Home) → have_registers homes ≡ true → (v i : ℕ) → home_in homes v ≢ Slot i
+home_no_slot [] e v i = λ same. (let no : Register 8 ≡ Slot i = same in cc)
+home_no_slot (h ∷ hs) e zero i = by h (and_true (has_register h) (have_registers hs) e).0
+  where
+    by : (g : Home) → has_register g ≡ true → g ≢ Slot i
+    by (Register q) is = λ same. (let no : Register q ≡ Slot i = same in cc)
+    by (Slot j) is = absurd (let no : false ≡ true = is in cc)
+home_no_slot (h ∷ hs) e (suc v) i = home_no_slot hs (and_true (has_register h) (have_registers hs) e).1 v i
+
+pub among_no_slot : (homes : List Home) (numbers : List ℕ) → have_registers homes ≡ true → (v i : ℕ) → home_among homes numbers v ≢ Slot i
+unfolding home_among
+among_no_slot homes numbers e v i = by (nat_lt v (2 ^ 32))
+  where
+    by : (b : Bool) → (if b then home_in homes v else resident_home 27 numbers (v - 2 ^ 32)) ≢ Slot i
+    by true = home_no_slot homes e v i
+    by false = resident_no_slot 27 numbers (v - 2 ^ 32) i
 
 -- the homes of variables that are below a number are what they are alone
 pub among_apart : (homes : List Home) (numbers : List ℕ) (count : ℕ) (lives : VariableSet) → count ≤ 2 ^ 26 → AreBelow count lives → AreApart (home_in homes) lives → AreApart (home_among homes numbers) lives

@@ -50,6 +50,7 @@ at_words p entry start finish = record {
   words = p.words;
   frame = p.frame;
   leaf = p.leaf;
+  bare = p.bare;
   near = p.near;
   finish = finish;
   largest = p.largest;
@@ -99,7 +100,7 @@ module _ (p : Plan) (entry start : ℕ → ℕ) (finish : ℕ) (variables : ℕ 
       both_long (arguments_code q f g xs) (arguments_code p f g xs) _ _ (ap length (arguments_same g xs))
       (both_long (save_code (registers_in (p.home f) (variables f) k)) (save_code (registers_in (p.home f) (variables f) k)) _ _ refl
       (both_long (parameters_code q f g xs) (parameters_code p f g xs) _ _ (ap length (parameters_same g xs))
-      (both_long (deeper_code q f) (deeper_code p f) _ _ refl (both_long (enter_code p.near (entry g)) (enter_code p.near (p.entry g)) _ _ (enter_same p.near (entry g) (p.entry g)) refl))))
+      (both_long (deeper_code q f g) (deeper_code p f g) _ _ refl (both_long (enter_code p.near (entry g)) (enter_code p.near (p.entry g)) _ _ (enter_same p.near (entry g) (p.entry g)) refl))))
 
   module _ (short : Bool) where
     -- nor on how far jumps lead

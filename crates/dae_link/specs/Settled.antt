@@ -1,9 +1,11 @@
 -- What is settled of a side before its functions have places: homes, frames, private memory, and numbers that stay in registers.
-use Rattle.std.specs.Prelude.{◌≡◌, ◌⊎◌, ℕ, ◌-◌, ◌*◌, ◌^◌, ◌≤◌, ◌<◌, Bool, List, length}
+use Rattle.std.specs.Prelude.{◌≡◌, ◌⊎◌, ℕ, ◌-◌, ◌*◌, ◌^◌, ◌≤◌, ◌<◌, Bool, true, false, ◌&&◌, List, [], ◌∷◌, length}
 use Rattle.std.specs.List.{AllByRecursion, AllZip}
 use Rattle.dae_ir.specs.Streams.{actions_of}
 use Rattle.dae_ir.specs.declared.stream.Stream.{Stream}
 use Rattle.dae_ir.specs.declared.stream.StreamFunction.{StreamFunction}
+use Rattle.dae_select_walks.specs.declared.Home.{Home}
+use Rattle.dae_select_walks.specs.declared.Home.TheVariants.{Register, Slot}
 use Rattle.dae_select_walks.specs.Homes.{AreHomes, frame_words, home_in}
 use Rattle.dae_select_walks.specs.Live.{function_lives}
 use Rattle.dae_select_blocks.specs.Sizes.{is_leaf}
@@ -17,13 +19,25 @@ use Rattle.dae_link.specs.Residents.{AreResidents}
 abbrev pub is_numberable : StreamFunction → Bool
 is_numberable f = can_number (actions_of f.body)
 
+abbrev pub has_register : Home → Bool
+has_register (Register r) = true
+has_register (Slot i) = false
+
+abbrev pub have_registers : List Home → Bool
+have_registers [] = true
+have_registers (home ∷ homes) = has_register home && have_registers homes
+
+-- a leaf whose variables all have registers needs no private frame
+abbrev pub is_frameless : StreamFunction → List Home → Bool
+is_frameless f homes = is_leaf (actions_of f.body) && have_registers homes
+
 -- where around no place of the function more than 18 variables are live, each has a register
 abbrev pub KeepsInRegisters : StreamFunction → FunctionLayout → Type 0
 KeepsInRegisters f l =
     AreFew 18 (function_lives f.parameters (actions_of f.body)) → (v : ℕ) → IsRegister (home_in l.homes v)
 
 -- the homes are right, a variable that is live anywhere has one of them, and each has a register where these are enough. It is
--- said whether the function is a leaf. The function is at word 0
+-- said whether the function is a leaf, and whether it is bare. The function is at word 0
 pub record IsLayoutOf (f : StreamFunction) (l : FunctionLayout) : Type 0 where
   pub count : l.variables ≡ length l.homes
   pub few : l.variables < 2 ^ 26 - 19
@@ -33,6 +47,7 @@ pub record IsLayoutOf (f : StreamFunction) (l : FunctionLayout) : Type 0 where
   pub registers : KeepsInRegisters f l
   pub frame : l.frame ≡ f.frame
   pub leaf : l.leaf ≡ is_leaf (actions_of f.body)
+  pub bare : l.bare ≡ is_frameless f l.homes
   pub entry : l.entry ≡ 0
 
 abbrev pub IsFrameWithin : ℕ → FunctionLayout → Type 0

@@ -5,7 +5,7 @@ ghost use Rattle.std.specs.List.{AllByRecursion, AllZip, list_all};
 ghost use Rattle.dae_ir.specs.Streams.{actions_of};
 ghost use Rattle.dae_select_blocks.specs.Sizes.{is_leaf};
 ghost use Rattle.dae_select_calls.specs.Layouts.{AreSmall};
-ghost use Rattle.dae_link.specs.Settled.{IsLayoutOf, IsFrameWithin, AreTooMany, IsTooDeep, AreUnplaced, is_numberable};
+ghost use Rattle.dae_link.specs.Settled.{IsLayoutOf, IsFrameWithin, AreTooMany, IsTooDeep, AreUnplaced, is_numberable, has_register, have_registers, is_frameless};
 ghost use Rattle.dae_link.specs.declared.error.CodeError.TheVariants as errors;
 
 use crate::error::CodeError;
@@ -17,6 +17,7 @@ use dae_regalloc::{allocate, can_number};
 use dae_select::is_leaf;
 use dae_select_calls::{FunctionLayout, Layouts};
 use dae_select_values::CallForm;
+use dae_select_walks::Home;
 use std::alloc::Global;
 
 /// The words that a private frame has besides the slots.
@@ -58,6 +59,33 @@ fn is_leaf_function(function: &StreamFunction) -> bool
     is_leaf(function.body.as_slice())
 }
 
+fn has_register(home: Home) -> bool
+    ensures { result ≡ has_register home }
+{
+    match home {
+        Home::Register(_) => true,
+        Home::Slot(_) => false,
+    }
+}
+
+fn have_registers(homes: &[Home]) -> bool
+    ensures { result ≡ have_registers homes.now }
+{
+    for home in homes {
+        if !has_register(*home) {
+            return false;
+        }
+    }
+    true
+}
+
+/// Whether a function with these homes needs no private frame: it is a leaf, and all its variables have registers.
+fn is_frameless(function: &StreamFunction, homes: &[Home]) -> bool
+    ensures { result ≡ is_frameless function.now homes.now }
+{
+    is_leaf_function(function) && have_registers(homes)
+}
+
 /// The homes of a function's variables, at first at word 0.
 fn layout_of(alloc: Global, function: &StreamFunction) -> Result<FunctionLayout, CodeError>
     requires { is_numberable function.now ≡ true }
@@ -66,11 +94,13 @@ fn layout_of(alloc: Global, function: &StreamFunction) -> Result<FunctionLayout,
     ensures private { IfErr result (λ e. e ≡ errors.Private → AreTooMany (function.now ∷ [])) }
 {
     let homes = allocate(alloc, function.parameters, function.body.as_slice())?;
+    let bare = is_frameless(function, homes.as_slice());
     Ok(FunctionLayout {
         variables: count_of(homes.len())?,
         homes: Items::from_vec(homes),
         frame: function.frame,
         leaf: is_leaf_function(function),
+        bare,
         entry: 0,
         start: 0,
     })

@@ -43,6 +43,7 @@ fn layout_at(
         variables: layout.variables,
         frame: layout.frame,
         leaf: layout.leaf,
+        bare: layout.bare,
         entry: word,
         start: word + entry,
     })

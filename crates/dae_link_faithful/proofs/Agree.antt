@@ -130,7 +130,7 @@ module _ (setup : Setup) (plan : Plan) (p : Program) (body : ℕ → Actions) (m
     pub depth : c.depth ≡ length ws + 1
     pub within : IsWithin plan (moment w.function w.env w.frame ws)
     pub answer : is_some c.result ≡ true → answered f ≡ true
-    pub resume : (result : Option ℕ) (q : Processor) → IsAnswered c.result result → Lands plan w ws result q
+    pub resume : (result : Option ℕ) (q : Processor) → IsAnswered c.result result → Lands plan f w ws result q
         → Comes s (3 * most) q (GoesOn w.function here (moment w.function (with_result c.result result w.env) w.frame ws))
 
   abbrev pub AreCalls : ℕ → List Waiting → List Waiting' → Type 0
@@ -161,7 +161,7 @@ module _ (setup : Setup) (plan : Plan) (p : Program) (body : ℕ → Actions) (m
     pub waits : Waits function c first others
     pub calls : AreCalls first.function cs others
     pub result : Option ℕ
-    pub lands : Lands plan first others result q
+    pub lands : Lands plan function first others result q
     pub answer : is_some c.result ≡ true → result ≡ Some x
 
   -- where main has returned nothing is said

@@ -176,7 +176,7 @@ module _ (setup : Setup) (plan : Plan) (p : Program) (body : ℕ → Actions) (n
   has_result (Some x) env h = refl
 
   returned : (q : Processor) (f : ℕ) (y : Option Operand) (env : Env) (calls : List Waiting) (ws : List Waiting') → AreCalls setup plan p body n widest functions answered f calls ws → (answered f ≡ true → is_some y ≡ true)
-      → ((first : Waiting') (others : List Waiting') → ws ≡ first ∷ others → Comes (s setup plan p body n widest functions answered) n q (Lands plan first others (result_of y env))) → To 0 n q [] (Landed setup plan p body n widest functions answered (with_result y env 0) calls)
+      → ((first : Waiting') (others : List Waiting') → ws ≡ first ∷ others → Comes (s setup plan p body n widest functions answered) n q (Lands plan f first others (result_of y env))) → To 0 n q [] (Landed setup plan p body n widest functions answered (with_result y env 0) calls)
   returned q f y env [] ws h ok back =
       walks_more setup plan.by_a {a = 0} {b = 0} (omega arith) (omega arith) (here_walks setup plan.by_a {p = q} {Q = λ (t : Processor). Unit {0}} tt)
   returned q f y env (c ∷ cs) [] h ok back = absurd h

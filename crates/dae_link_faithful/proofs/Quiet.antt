@@ -385,19 +385,21 @@ module _ (plan : Plan) (variables : ℕ → ℕ) (good : (f v : ℕ) → IsHome 
       plain_either (nat_eq n 0) [] _ tt (plain_either (is_immediate (minus 0 n)) _ (number_code 5 n ++ Sub r r 5 ∷ []) ((h, h, omega arith), tt)
       (plain_append (number_code 5 n) _ (number_plain 5 n (omega arith)) ((h, h, omega arith), tt)))
 
-  deeper_plain : (f : ℕ) → AllPlain (deeper_code plan f)
-  deeper_plain f =
-      plain_append (more_code 3 (plan.frame f % 2 ^ 32)) (more_code 2 (4 * plan.words f)) (more_plain 3 (plan.frame f % 2 ^ 32) (omega arith)) (more_plain 2 (4 * plan.words f) (omega arith))
+  deeper_plain : (f g : ℕ) → AllPlain (deeper_code plan f g)
+  deeper_plain f g =
+      plain_append (more_code 3 (plan.frame f % 2 ^ 32)) (if plan.bare g then [] else more_code 2 (4 * plan.words f)) (more_plain 3 (plan.frame f % 2 ^ 32) (omega arith))
+      (plain_either (plan.bare g) [] (more_code 2 (4 * plan.words f)) tt (more_plain 2 (4 * plan.words f) (omega arith)))
 
-  back_plain : (f : ℕ) → AllPlain (back_code plan f)
-  back_plain f =
-      plain_append (less_code 3 (plan.frame f % 2 ^ 32)) (less_code 2 (4 * plan.words f)) (less_plain 3 (plan.frame f % 2 ^ 32) (omega arith)) (less_plain 2 (4 * plan.words f) (omega arith))
+  back_plain : (f g : ℕ) → AllPlain (back_code plan f g)
+  back_plain f g =
+      plain_append (less_code 3 (plan.frame f % 2 ^ 32)) (if plan.bare g then [] else less_code 2 (4 * plan.words f)) (less_plain 3 (plan.frame f % 2 ^ 32) (omega arith))
+      (plain_either (plan.bare g) [] (less_code 2 (4 * plan.words f)) tt (less_plain 2 (4 * plan.words f) (omega arith)))
 
   pub call_plain : (f : ℕ) (v : Option ℕ) (g : ℕ) (xs : List Argument) (live : VariableSet) → AllPlain (call_code plan variables f v g xs live)
   call_plain f v g xs live =
       let rs = live_registers plan (variables f) f live in
-      plain_append _ _ (arguments_plain f g xs) (plain_append _ _ (save_plain _ rs) (plain_append _ _ (parameters_plain f g xs) (plain_append (deeper_code plan f) _ (deeper_plain f) (plain_append (enter_code plan.near (plan.entry g)) _ (enter_plain plan.near (plan.entry g))
-      (plain_append (back_code plan f) _ (back_plain f) (plain_append _ _ (restore_plain _ rs) (result_plain (variables f) (plan.home f) (good f) v)))))))
+      plain_append _ _ (arguments_plain f g xs) (plain_append _ _ (save_plain _ rs) (plain_append _ _ (parameters_plain f g xs) (plain_append (deeper_code plan f g) _ (deeper_plain f g) (plain_append (enter_code plan.near (plan.entry g)) _ (enter_plain plan.near (plan.entry g))
+      (plain_append (back_code plan f g) _ (back_plain f g) (plain_append _ _ (restore_plain _ rs) (result_plain (variables f) (plan.home f) (good f) v)))))))
 
   prologue_plain : (by_a leaf : Bool) → AllPlain (prologue_code by_a leaf)
   prologue_plain by_a true = tt

@@ -34,7 +34,7 @@ use Rattle.dae_select_blocks.specs.Blocks.{register_or, source, fetch, keep, val
 use Rattle.dae_select_blocks.specs.Fits.{Fits}
 use Rattle.dae_select_blocks.proofs.Plain.{takes, pushes}
 use Rattle.dae_select_blocks.proofs.Runs.{Runs, runs_nothing, runs_push, runs_take, runs_reserve, runs_send}
-use Rattle.dae_select_blocks.proofs.Agreement.{Ready, ready_gets, ready_like}
+use Rattle.dae_select_blocks.proofs.Agreement.{Ready, ready_gets, ready_like, slot_framed}
 use Rattle.dae_select_blocks.proofs.Operands.{runs_keep, runs_move}
 use Rattle.dae_select_blocks.specs.Wanted.{IsNumber, AreNumbers}
 use Rattle.dae_select_blocks.proofs.Computing.{plus_zero, register_plain, source_plain, is_scratch, runs_one, runs_value}
@@ -87,7 +87,7 @@ module _ (s : Setting) (plan : Plan) (variables : ℕ → ℕ) (fine : Fits s pl
   -- a result goes home, and the block ends
   pub kept : {c : Contents} (v x : ℕ) → Ready plan live m c → Apart v → x < 2 ^ 32 → Does' (keep (plan.home m.function v)) (put (register_or 5 (plan.home m.function v)) x c) (Went (form.put true v x m.env))
   kept {c} v x h apart fits =
-      let run = runs_keep s plan variables fine To {d = Went (form.put true v x m.env)} (plan.home m.function v) x [] h (fine.homes m.function v) fits
+      let run = runs_keep s plan variables fine To {d = Went (form.put true v x m.env)} (plan.home m.function v) x [] h (fine.homes m.function v) (λ i e. slot_framed s plan variables fine m.function v i e) fits
       (λ c' g. ends (form.put true v x m.env) (ready_gets s plan variables fine v x apart.1 h g apart.0)) in
       rw append-nil at run
 

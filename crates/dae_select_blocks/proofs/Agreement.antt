@@ -1,5 +1,5 @@
 -- What keeps the agreement with a moment: work in scratch registers, and a result that goes home.
-use Rattle.std.proofs.Common.{◌≡◌, ◌≢◌, ℕ, zero, ◌+◌, ◌-◌, ◌^◌, ◌<◌, ◌≤◌, Bool, true, false, ◌&&◌, List, [], ◌∷◌, Some, None, refl, sym, ap, ◌∙◌, subst, arith}
+use Rattle.std.proofs.Common.{◌≡◌, ◌≢◌, ℕ, zero, ◌+◌, ◌-◌, ◌^◌, ◌<◌, ◌≤◌, Bool, true, false, ◌&&◌, List, [], ◌∷◌, Some, None, refl, sym, ap, ◌∙◌, subst, arith, ◌*◌}
 use Rattle.std.specs.Prelude.{nat_eq, nat_lt, if◌then◌else◌}
 use Rattle.std.proofs.lemmas.Bool.Decides.{nat_tests}
 use Rattle.std.proofs.lemmas.Option.{same_Some}
@@ -11,7 +11,7 @@ use Rattle.dae_select_walks.specs.declared.Home.{Home}
 use Rattle.dae_select_walks.specs.declared.Home.TheVariants.{Register, Slot}
 use Rattle.dae_select_walks.specs.Walks.{Setting}
 use Rattle.dae_select_walks.specs.Homes.{Contents, held, kept, is_home_register, IsHome, kept_at, slot_at, frame_words, number_key, resident_home, resident_register}
-use Rattle.dae_select_walks.specs.Agrees.{Plan, Moment, Waiting, depth_of, Agrees, AreWaiting, return_address}
+use Rattle.dae_select_walks.specs.Agrees.{Plan, Moment, Waiting, depth_of, Agrees, AreWaiting, return_address, words_below}
 use Rattle.dae_select_walks.specs.Compiled.{with_env}
 use Rattle.dae_select_blocks.specs.Fits.{Fits}
 
@@ -86,6 +86,26 @@ module _ (s : Setting) (plan : Plan) (variables : ℕ → ℕ) (fine : Fits s pl
       one : (below v : ℕ) → base ≡ below + plan.words w.function → plan.words w.function ≡ frame_words (variables w.function) → (home : Home) → IsHome (variables w.function) home → kept c' below home ≡ kept c below home
       one below v at is (Register r) good = let l = kept_small r good in same (below + kept_at r) (omega arith)
       one below v at is (Slot i) good = same (below + slot_at i) (omega arith)
+
+  -- a function that makes calls has a frame of its own, and so has one with a slot
+  pub calls_framed : (f : ℕ) → plan.leaf f ≡ false → plan.bare f ≡ false
+  calls_framed f calls = by (plan.bare f) refl
+    where
+      by : (bare : Bool) → plan.bare f ≡ bare → bare ≡ false
+      by true e = absurd (let leaf = fine.leaves f e in let no : true ≡ false = sym leaf ∙ calls in cc)
+      by false e = refl
+
+  pub slot_framed : (f v i : ℕ) → plan.home f v ≡ Slot i → plan.bare f ≡ false
+  slot_framed f v i is = by (plan.bare f) refl
+    where
+      by : (bare : Bool) → plan.bare f ≡ bare → bare ≡ false
+      by true e = absurd (fine.bare f v i e is)
+      by false e = refl
+
+  -- and x2 points to it
+  pub own_frame : {live : VariableSet} {m : Moment} {c : Contents} (h : Ready plan live m c) → plan.bare m.function ≡ false → c.register 2 ≡ 4 * h.agrees.base
+  own_frame {m = m} h framed =
+      h.agrees.pointer ∙ ap (λ (bare : Bool). 4 * (if bare then h.agrees.base - words_below plan m.waiting else h.agrees.base)) framed
 
   -- a leaf has that address in x1, any other function in its frame's first word
   pub address_same : (f base : ℕ) (c c' : Contents) → c'.register 1 ≡ c.register 1 → c'.word base ≡ c.word base → return_address plan f c' base ≡ return_address plan f c base

@@ -169,14 +169,14 @@ module _ (s : Setting) (plan : Plan) (variables : ℕ → ℕ) (fine : Fits s pl
       let l2 = like_put 1 (4 * (0 + length (before_main first) + enter_words plan.near)) j.0 (omega arith) l1.fits in
       let pointer : c1.register 2 ≡ 0 = l1.registers 2 (omega arith) ∙ b.two in
       let last : Runs s plan.private to (prologue_code plan.by_a (plan.leaf main) ++ []) c1 (Went (λ _. 0)) =
-      runs_prologue s plan variables fine entries linked to main 0 [] pointer (omega arith) l2.fits (λ i. subst (λ (x : ℕ). x < 2 ^ 32) (sym (l1.words i)) (b.shows.holds i)) (λ e. subst (λ (x : ℕ). x < 2 ^ 20) (sym (l1.registers 10 (omega arith) ∙ b.ten e)) (omega arith)) (λ c2 opened.
+      runs_prologue s plan variables fine entries linked to main 0 [] (λ calls. pointer) (omega arith) l2.fits (λ i. subst (λ (x : ℕ). x < 2 ^ 32) (sym (l1.words i)) (b.shows.holds i)) (λ e. subst (λ (x : ℕ). x < 2 ^ 20) (sym (l1.registers 10 (omega arith) ∙ b.ten e)) (omega arith)) (λ c2 opened.
       runs_nothing s plan.private to (λ k o shows. record {
         contents = c2;
         shows = shows;
         agrees = record {
           base = 0;
           variables = (λ u e. absurd (contradicts u e));
-          pointer = opened.registers 2 (omega arith) ∙ pointer;
+          pointer = opened.registers 2 (omega arith) ∙ (pointer ∙ none (plan.bare main));
           frame = opened.registers 3 (omega arith) ∙ (l1.registers 3 (omega arith) ∙ b.three);
           depth = (λ e. opened.ten e ∙ ap (λ (n : ℕ). counted_depth plan main (n + 1)) (l1.registers 10 (omega arith) ∙ b.ten e));
           addresses = (λ e. opened.registers 4 (omega arith) ∙ (l1.registers 4 (omega arith) ∙ b.four e));
@@ -194,6 +194,10 @@ module _ (s : Setting) (plan : Plan) (variables : ℕ → ℕ) (fine : Fits s pl
     where
       contradicts : (u : ℕ) → entries main u ≡ true → ⊥
       contradicts u e = let no' = reads u in absurd cc
+
+      none : (bare : Bool) → 0 ≡ 4 * (if bare then 0 - 0 else 0)
+      none true = refl
+      none false = refl
 
 pub code_begins : CodeBegins
 code_begins s plan variables entries main frames fine linked b =

@@ -25,7 +25,7 @@ use Rattle.dae_select_blocks.specs.Wanted.{IsNumber, AreGiven, gives}
 use Rattle.dae_select_blocks.proofs.Plain.{put_same, put_other}
 use Rattle.dae_select_blocks.proofs.Frames.{runs_load, runs_store}
 use Rattle.dae_select_blocks.proofs.Runs.{Runs}
-use Rattle.dae_select_blocks.proofs.Agreement.{Ready, ready_like, home_register, resident_high, kept_small, waiting_stays}
+use Rattle.dae_select_blocks.proofs.Agreement.{Ready, ready_like, home_register, resident_high, kept_small, waiting_stays, calls_framed, own_frame}
 use Rattle.dae_select_blocks.proofs.Operands.{like_put, runs_fetch}
 use Rattle.dae_select_blocks.proofs.Computing.{is_scratch, is_work, source_plain, source_apart}
 
@@ -265,9 +265,9 @@ module _ (s : Setting) (plan : Plan) (variables : ℕ → ℕ) (fine : Fits s pl
       one base n (Register r) good same = registers r (let low = home_register r good in omega arith)
       one base n (Slot i) good same = same (base + slot_at i) (inr (omega arith)) (omega arith)
 
-  -- the private frame begins where x2 says
-  pub base_is : {live : VariableSet} {m : Moment} {c : Contents} (h : Ready plan live m c) (base : ℕ) → c.register 2 ≡ 4 * base → h.agrees.base ≡ base
-  base_is h base e = let p = h.agrees.pointer in omega arith
+  -- the private frame of a function that makes calls begins where x2 says
+  pub base_is : {live : VariableSet} {m : Moment} {c : Contents} (h : Ready plan live m c) (base : ℕ) → plan.leaf m.function ≡ false → c.register 2 ≡ 4 * base → h.agrees.base ≡ base
+  base_is {m = m} h base calls e = let p = own_frame s plan variables fine h (calls_framed s plan variables fine m.function calls) in omega arith
 
   -- ---- arguments
 
@@ -296,10 +296,10 @@ module _ (s : Setting) (plan : Plan) (variables : ℕ → ℕ) (fine : Fits s pl
     pub slots : (u : ℕ) → gives xs u ≡ true → (i : ℕ) → plan.home g u ≡ Slot i → c'.word (base + (plan.words m.function + slot_at i)) ≡ given xs m.env u
     pub waits : Wait plan m.function g base c' xs
 
-  runs_argument : {live : VariableSet} {m : Moment} {c : Contents} {d : Deed} (base g : ℕ) (xs : List Argument) (x : Argument) (is : List Inst) → ((u : ℕ) → in_operand x.operand u ≡ true → live u ≡ true) → IsNumber x.operand →
+  runs_argument : {live : VariableSet} {m : Moment} {c : Contents} {d : Deed} (base g : ℕ) (xs : List Argument) (x : Argument) (is : List Inst) → plan.leaf m.function ≡ false → ((u : ℕ) → in_operand x.operand u ≡ true → live u ≡ true) → IsNumber x.operand →
       ((u : ℕ) → u ≢ x.parameter → gives xs u ≡ true → plan.home g u ≢ plan.home g x.parameter) → base + plan.words m.function + plan.words g ≤ plan.private → Gave live m base g xs c →
       ((c' : Contents) → Gave live m base g (x ∷ xs) c' → Runs s plan.private to is c' d) → Runs s plan.private to (argument_code plan m.function g xs x ++ is) c d
-  runs_argument {live} {m} {c} {d} base g xs x is reads number apart inside gave run = by (plan.home g x.parameter) refl
+  runs_argument {live} {m} {c} {d} base g xs x is calls reads number apart inside gave run = by (plan.home g x.parameter) refl
     where
       -- a word in which a register is kept is none of the others
       outside : (b i k : ℕ) → b ≡ base → (i ≤ b) ⊎ (b + 19 ≤ i) → 0 < k → k < 19 → i ≢ base + k
@@ -323,11 +323,11 @@ module _ (s : Setting) (plan : Plan) (variables : ℕ → ℕ) (fine : Fits s pl
           let home : is_home_register q ≡ true = given_good g q xs o in
           let low = home_register q home in let l = kept_small q home in let k = kept_low q home in
           let long = fine.words m.function in let long' = fine.words g in
-          let pointer : c.register 2 ≡ 4 * base = gave.ready.agrees.pointer ∙ ap (λ n. 4 * n) gave.based in
+          let pointer : c.register 2 ≡ 4 * base = own_frame s plan variables fine gave.ready (calls_framed s plan variables fine m.function calls) ∙ ap (λ n. 4 * n) gave.based in
           runs_word base q (kept_at q) is pointer (omega arith) low.1 (omega arith) gave.ready.fits gave.ready.small (λ c1 one.
           run c1 (record {
             ready = ready_far gave.ready (λ i far near. one.others i (outside gave.ready.agrees.base i (kept_at q) gave.based far k l)) one.registers one.fits one.small;
-            based = base_is (ready_far gave.ready (λ i far near. one.others i (outside gave.ready.agrees.base i (kept_at q) gave.based far k l)) one.registers one.fits one.small) base (one.registers 2 (omega arith) ∙ pointer);
+            based = base_is (ready_far gave.ready (λ i far near. one.others i (outside gave.ready.agrees.base i (kept_at q) gave.based far k l)) one.registers one.fits one.small) base calls (one.registers 2 (omega arith) ∙ pointer);
             slots = given_more m.env x xs (λ (u v : ℕ). (i : ℕ) → plan.home g u ≡ Slot i → c1.word (base + (plan.words m.function + slot_at i)) ≡ v)
                 (λ i which. absurd (let no : Register t ≡ Slot i = sym e ∙ which in cc))
                 (λ u ne some i which. one.others (base + (plan.words m.function + slot_at i)) (omega arith) ∙ gave.slots u some i which);
@@ -353,12 +353,12 @@ module _ (s : Setting) (plan : Plan) (variables : ℕ → ℕ) (fine : Fits s pl
           let at_base = gave.based in
           rw append_assoc (runs_fetch s plan variables fine to 5 x.operand (store_code r w ++ is) (is_work 5 (omega arith) (omega arith)) gave.ready reads number (λ c1 like got.
           let h1 = ready_like s plan variables fine 5 (is_scratch plan 5 (omega arith) (omega arith)) like gave.ready in
-          let pointer : c1.register 2 ≡ 4 * base = like.registers 2 (omega arith) ∙ (gave.ready.agrees.pointer ∙ ap (λ n. 4 * n) at_base) in
-          let based = base_is h1 base pointer in
+          let pointer : c1.register 2 ≡ 4 * base = like.registers 2 (omega arith) ∙ (own_frame s plan variables fine gave.ready (calls_framed s plan variables fine m.function calls) ∙ ap (λ n. 4 * n) at_base) in
+          let based = base_is h1 base calls pointer in
           runs_word base r w is pointer (source_apart s plan variables fine to m.function 5 7 x.operand (omega arith) (omega arith) (omega arith)) (source_plain s plan variables fine to m.function 5 x.operand (omega arith)) (omega arith) h1.fits h1.small (λ c2 one.
           run c2 (record {
             ready = ready_far h1 (λ i far near. one.others i (omega arith)) one.registers one.fits one.small;
-            based = base_is (ready_far h1 (λ i far near. one.others i (omega arith)) one.registers one.fits one.small) base (one.registers 2 (omega arith) ∙ pointer);
+            based = base_is (ready_far h1 (λ i far near. one.others i (omega arith)) one.registers one.fits one.small) base calls (one.registers 2 (omega arith) ∙ pointer);
             slots = given_more m.env x xs (λ (u v : ℕ). (i : ℕ) → plan.home g u ≡ Slot i → c2.word (base + (plan.words m.function + slot_at i)) ≡ v)
                 (λ i which. (let both : Slot j ≡ Slot i = sym e ∙ which in let same : j ≡ i = cc in subst (λ (k : ℕ). c2.word (base + (plan.words m.function + slot_at k)) ≡ value x.operand m.env) same (one.here ∙ got)))
                 (λ u ne some i which. one.others (base + (plan.words m.function + slot_at i)) (λ there. apart u ne some (let same : i ≡ j = omega arith in which ∙ (ap Slot same ∙ sym e)))
@@ -371,9 +371,9 @@ module _ (s : Setting) (plan : Plan) (variables : ℕ → ℕ) (fine : Fits s pl
             );
           }))))
 
-  pub runs_arguments : {live : VariableSet} {m : Moment} {c : Contents} {d : Deed} (g : ℕ) (xs : List Argument) (is : List Inst) (h : Ready plan live m c) → ((u : ℕ) → in_arguments xs u ≡ true → live u ≡ true) → AreGiven xs → AreApart (plan.home g) (gives xs) → h.agrees.base + plan.words m.function + plan.words g ≤ plan.private →
+  pub runs_arguments : {live : VariableSet} {m : Moment} {c : Contents} {d : Deed} (g : ℕ) (xs : List Argument) (is : List Inst) (h : Ready plan live m c) → plan.leaf m.function ≡ false → ((u : ℕ) → in_arguments xs u ≡ true → live u ≡ true) → AreGiven xs → AreApart (plan.home g) (gives xs) → h.agrees.base + plan.words m.function + plan.words g ≤ plan.private →
       ((c' : Contents) → Gave live m h.agrees.base g xs c' → Runs s plan.private to is c' d) → Runs s plan.private to (arguments_code plan m.function g xs ++ is) c d
-  runs_arguments {live} {m} {c} g [] is h reads numbers apart inside run = run c (record { ready = h; based = refl; slots = λ u e. absurd cc; waits = tt })
-  runs_arguments {live} {m} {c} g (x ∷ xs) is h reads numbers apart inside run =
-      rw append_assoc (runs_arguments g xs (argument_code plan m.function g xs x ++ is) h (λ u e. reads u (rw e (or_true (in_operand x.operand u)))) numbers.1 (λ u v a b. apart u v (rw a (or_true (nat_eq u x.parameter))) (rw b (or_true (nat_eq v x.parameter)))) inside (λ c1 gave.
-      runs_argument h.agrees.base g xs x is (λ u e. reads u (rw e refl)) numbers.0 (λ u ne k. apart u x.parameter (rw k (or_true (nat_eq u x.parameter))) (grind (arith, nat_tests)) ne) inside gave run))
+  runs_arguments {live} {m} {c} g [] is h calls reads numbers apart inside run = run c (record { ready = h; based = refl; slots = λ u e. absurd cc; waits = tt })
+  runs_arguments {live} {m} {c} g (x ∷ xs) is h calls reads numbers apart inside run =
+      rw append_assoc (runs_arguments g xs (argument_code plan m.function g xs x ++ is) h calls (λ u e. reads u (rw e (or_true (in_operand x.operand u)))) numbers.1 (λ u v a b. apart u v (rw a (or_true (nat_eq u x.parameter))) (rw b (or_true (nat_eq v x.parameter)))) inside (λ c1 gave.
+      runs_argument h.agrees.base g xs x is calls (λ u e. reads u (rw e refl)) numbers.0 (λ u ne k. apart u x.parameter (rw k (or_true (nat_eq u x.parameter))) (grind (arith, nat_tests)) ne) inside gave run))

@@ -1,4 +1,4 @@
--- The frames of the function that is called follow the caller's, and are given up again.
+-- The frames of the function that is called follow the caller's, where it has them, and are given up again.
 use Rattle.std.proofs.Common.{◌≡◌, ◌≢◌, ℕ, ◌+◌, ◌*◌, ◌%◌, ◌^◌, ◌<◌, ◌≤◌, Bool, true, false, List, [], ◌∷◌, ◌++◌, refl, ◌∙◌, arith, append_assoc}
 use Rattle.std.specs.Prelude.{if◌then◌else◌, nat_eq, ℤ}
 use Rattle.std.proofs.lemmas.Bool.Decides.{nat_tests}
@@ -111,18 +111,26 @@ module _ (s : Setting) (plan : Plan) (to : ℕ → Env → Processor → Type 0)
       by false e =
           run c (record { words = (λ i. refl); ten = (λ t. absurd cc); others = (λ j ne. refl); fits = fits })
 
-  pub runs_deeper : {c : Contents} {d : Deed} (f base frame : ℕ) (is : List Inst) → c.register 0 ≡ 0 → ((j : ℕ) → c.register j < 2 ^ 32) → c.register 2 ≡ 4 * base → c.register 3 ≡ frame → frame + plan.frame f < 2 ^ 32 → base + plan.words f ≤ 2 ^ 28 →
-      ((c' : Contents) → Moved (base + plan.words f) (frame + plan.frame f) c c' → Runs s plan.private to is c' d) → Runs s plan.private to (deeper_code plan f ++ is) c d
-  runs_deeper {c} f base frame is zero fits two three top wide run =
+  pub runs_deeper : {c : Contents} {d : Deed} (f g base frame : ℕ) (is : List Inst) → c.register 0 ≡ 0 → ((j : ℕ) → c.register j < 2 ^ 32) → c.register 2 ≡ 4 * base → c.register 3 ≡ frame → frame + plan.frame f < 2 ^ 32 → base + plan.words f ≤ 2 ^ 28 →
+      ((c' : Contents) → Moved (if plan.bare g then base else base + plan.words f) (frame + plan.frame f) c c' → Runs s plan.private to is c' d) → Runs s plan.private to (deeper_code plan f g ++ is) c d
+  runs_deeper {c} {d} f g base frame is zero fits two three top wide run =
       let whole : plan.frame f % 2 ^ 32 ≡ plan.frame f = omega arith in
-      rw (append_assoc, whole) (runs_more 3 (plan.frame f) frame _ zero fits (omega arith) (omega arith) three (omega arith) top (λ c1 one.
-      runs_more 2 (4 * plan.words f) (4 * base) _ (one.others 0 (omega arith) (omega arith) ∙ zero) one.fits (omega arith) (omega arith) (one.others 2 (omega arith) (omega arith) ∙ two) (omega arith) (omega arith) (λ c2 other.
-      run c2 (record { words = (λ i. other.words i ∙ one.words i); two = other.here ∙ (omega arith); three = other.others 3 (omega arith) (omega arith) ∙ one.here; others = (λ j n2 n3 n5. other.others j n2 n5 ∙ one.others j n3 n5); fits = other.fits }))))
+      rw (append_assoc, whole) (runs_more 3 (plan.frame f) frame _ zero fits (omega arith) (omega arith) three (omega arith) top (λ c1 one. own c1 one (plan.bare g) run))
+    where
+      own : (c1 : Contents) → Shifted 3 (frame + plan.frame f) c c1 → (bare : Bool) → ((c' : Contents) → Moved (if bare then base else base + plan.words f) (frame + plan.frame f) c c' → Runs s plan.private to is c' d) → Runs s plan.private to ((if bare then [] else more_code 2 (4 * plan.words f)) ++ is) c1 d
+      own c1 one true run = run c1 (record { words = (λ i. one.words i); two = one.others 2 (omega arith) (omega arith) ∙ two; three = one.here; others = (λ j n2 n3 n5. one.others j n3 n5); fits = one.fits })
+      own c1 one false run =
+          runs_more 2 (4 * plan.words f) (4 * base) is (one.others 0 (omega arith) (omega arith) ∙ zero) one.fits (omega arith) (omega arith) (one.others 2 (omega arith) (omega arith) ∙ two) (omega arith) (omega arith) (λ c2 other.
+          run c2 (record { words = (λ i. other.words i ∙ one.words i); two = other.here ∙ (omega arith); three = other.others 3 (omega arith) (omega arith) ∙ one.here; others = (λ j n2 n3 n5. other.others j n2 n5 ∙ one.others j n3 n5); fits = other.fits }))
 
-  pub runs_back : {c : Contents} {d : Deed} (f base frame : ℕ) (is : List Inst) → c.register 0 ≡ 0 → ((j : ℕ) → c.register j < 2 ^ 32) → c.register 2 ≡ 4 * (base + plan.words f) → c.register 3 ≡ frame + plan.frame f → frame + plan.frame f < 2 ^ 32 → base + plan.words f ≤ 2 ^ 28 →
-      ((c' : Contents) → Moved base frame c c' → Runs s plan.private to is c' d) → Runs s plan.private to (back_code plan f ++ is) c d
-  runs_back {c} f base frame is zero fits two three top wide run =
+  pub runs_back : {c : Contents} {d : Deed} (f g base frame : ℕ) (is : List Inst) → c.register 0 ≡ 0 → ((j : ℕ) → c.register j < 2 ^ 32) → c.register 2 ≡ 4 * (if plan.bare g then base else base + plan.words f) → c.register 3 ≡ frame + plan.frame f → frame + plan.frame f < 2 ^ 32 → base + plan.words f ≤ 2 ^ 28 →
+      ((c' : Contents) → Moved base frame c c' → Runs s plan.private to is c' d) → Runs s plan.private to (back_code plan f g ++ is) c d
+  runs_back {c} {d} f g base frame is zero fits two three top wide run =
       let whole : plan.frame f % 2 ^ 32 ≡ plan.frame f = omega arith in
-      rw (append_assoc, whole) (runs_less 3 (plan.frame f) frame _ zero fits (omega arith) (omega arith) three (omega arith) top (λ c1 one.
-      runs_less 2 (4 * plan.words f) (4 * base) _ (one.others 0 (omega arith) (omega arith) ∙ zero) one.fits (omega arith) (omega arith) (one.others 2 (omega arith) (omega arith) ∙ (two ∙ (omega arith))) (omega arith) (omega arith) (λ c2 other.
-      run c2 (record { words = (λ i. other.words i ∙ one.words i); two = other.here; three = other.others 3 (omega arith) (omega arith) ∙ one.here; others = (λ j n2 n3 n5. other.others j n2 n5 ∙ one.others j n3 n5); fits = other.fits }))))
+      rw (append_assoc, whole) (runs_less 3 (plan.frame f) frame _ zero fits (omega arith) (omega arith) three (omega arith) top (λ c1 one. own c1 one (plan.bare g) two))
+    where
+      own : (c1 : Contents) → Shifted 3 frame c c1 → (bare : Bool) → c.register 2 ≡ 4 * (if bare then base else base + plan.words f) → Runs s plan.private to ((if bare then [] else less_code 2 (4 * plan.words f)) ++ is) c1 d
+      own c1 one true here = run c1 (record { words = (λ i. one.words i); two = one.others 2 (omega arith) (omega arith) ∙ here; three = one.here; others = (λ j n2 n3 n5. one.others j n3 n5); fits = one.fits })
+      own c1 one false here =
+          runs_less 2 (4 * plan.words f) (4 * base) is (one.others 0 (omega arith) (omega arith) ∙ zero) one.fits (omega arith) (omega arith) (one.others 2 (omega arith) (omega arith) ∙ (here ∙ (omega arith))) (omega arith) (omega arith) (λ c2 other.
+          run c2 (record { words = (λ i. other.words i ∙ one.words i); two = other.here; three = other.others 3 (omega arith) (omega arith) ∙ one.here; others = (λ j n2 n3 n5. other.others j n2 n5 ∙ one.others j n3 n5); fits = other.fits }))

@@ -43,7 +43,7 @@ use Rattle.dae_select_blocks.specs.Wanted.{IsNumber, AreNumbers}
 use Rattle.dae_select_blocks.proofs.Halves.{immediate_word, immediate_signed}
 use Rattle.dae_select_blocks.proofs.Plain.{plain_read, computes, put_same, put_other, put_twice}
 use Rattle.dae_select_blocks.proofs.Runs.{Runs, runs_nothing, runs_quiet, runs_take}
-use Rattle.dae_select_blocks.proofs.Agreement.{Ready, ready_like, ready_gets, key_apart}
+use Rattle.dae_select_blocks.proofs.Agreement.{Ready, ready_like, ready_gets, key_apart, slot_framed}
 use Rattle.dae_select_blocks.proofs.Operands.{like_put, runs_fetch, runs_keep}
 use Rattle.dae_select_blocks.proofs.Values.{operation_is, operation_fits, DoesWith, immediate_does, exchanged_does, equal_flag, different_flag, opposite_flag, low_byte, low_half, signed_byte, signed_half}
 use Rattle.dae_select_blocks.proofs.Computing.{plus_zero, is_scratch, is_work, extended_fits, register_plain, source_plain}
@@ -400,7 +400,7 @@ module _ (s : Setting) (plan : Plan) (variables : ℕ → ℕ) (fine : Fits s pl
       Runs s plan.private ToNext (keep (plan.home m.function d)) (put (register_or 5 (plan.home m.function d)) (computed y m.frame (form.put true v w m.env)) c) (Went (form.put true v w m.env))
   early_ends w scope dead h apart fits =
       let x : ℕ = computed y m.frame (form.put true v w m.env) in
-      let run = runs_keep s plan variables fine ToNext {d = Went (form.put true v w m.env)} (plan.home m.function d) x [] h (fine.homes m.function d) fits
+      let run = runs_keep s plan variables fine ToNext {d = Went (form.put true v w m.env)} (plan.home m.function d) x [] h (fine.homes m.function d) (λ i e. slot_framed s plan variables fine m.function d i e) fits
       (λ c1 got. runs_nothing s plan.private ToNext (λ k p shows.
       let a = (ready_gets s plan variables fine d x scope h got apart).agrees in
       record { contents = c1; shows = shows; agrees = record { base = a.base; variables = λ u l. a.variables u l ∙ kept_same w x u dead l; pointer = a.pointer; frame = a.frame; depth = a.depth; addresses = a.addresses; residents = a.residents; waiting = a.waiting; room = a.room; within = record { depth = a.within.depth; frame = a.within.frame } } })) in

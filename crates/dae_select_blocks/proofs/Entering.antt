@@ -1,5 +1,5 @@
 -- A call's walk: from its block over the jump and the entry code to where the called function's actions begin.
-use Rattle.std.proofs.Common.{◌≡◌, ◌≢◌, ℕ, zero, suc, ◌+◌, ◌-◌, ◌*◌, ◌/◌, ◌^◌, ◌<◌, ◌≤◌, inl, inr, Bool, true, false, not, ◌&&◌, List, [], ◌∷◌, ◌++◌, Option, Some, length, refl, sym, ap, ◌∙◌, subst, arith, append-nil, ◌⊎◌}
+use Rattle.std.proofs.Common.{◌≡◌, ◌≢◌, ℕ, zero, suc, ◌+◌, ◌-◌, ◌*◌, ◌/◌, ◌^◌, ◌<◌, ◌≤◌, inl, inr, Bool, true, false, not, ◌&&◌, List, [], ◌∷◌, ◌++◌, Option, Some, length, refl, sym, ap, ◌∙◌, subst, arith, ◌⊎◌}
 use Rattle.std.specs.Prelude.{nat_eq, pos, if◌then◌else◌}
 use Rattle.std.proofs.lemmas.Bool.Decides.{nat_tests}
 use Rattle.dae_base.specs.Words.{plus, word}
@@ -30,7 +30,7 @@ use Rattle.dae_select_blocks.proofs.Halves.{halves, immediate_word}
 use Rattle.dae_select_blocks.proofs.Plain.{plain_computes, stores_word}
 use Rattle.dae_select_blocks.proofs.Frames.{upper_small}
 use Rattle.dae_select_blocks.proofs.Runs.{Runs, runs_nothing, runs_quiet, runs_alone}
-use Rattle.dae_select_blocks.proofs.Agreement.{Ready, resident_high, kept_small, waiting_same, waiting_kept, Like, home_register}
+use Rattle.dae_select_blocks.proofs.Agreement.{Ready, resident_high, kept_small, waiting_same, waiting_kept, Like, home_register, calls_framed, own_frame}
 use Rattle.dae_select_blocks.proofs.Operands.{like_put, like_itself}
 use Rattle.dae_select_blocks.proofs.Calls.{among, kept_register, register_kept, Saved, runs_arguments, runs_save, ready_far, wait_on}
 use Rattle.dae_select_blocks.proofs.Parameters.{runs_parameters}
@@ -41,7 +41,7 @@ use Rattle.dae_select_blocks.proofs.Jumps.{ready}
 pub record Prepared (plan : Plan) (m : Moment) (w : Waiting) (base g : ℕ) (xs : List Argument) (k : ℕ) (p : Processor) : Type 0 where
   pub contents : Contents
   pub shows : Shows plan.private contents k p
-  pub two : contents.register 2 ≡ 4 * (base + plan.words m.function)
+  pub two : contents.register 2 ≡ 4 * (if plan.bare g then base else base + plan.words m.function)
   pub three : contents.register 3 ≡ top_of plan m
   pub four : plan.by_a ≡ true → contents.register 4 ≡ plan.memory - 16
   pub residents : AreResident plan contents
@@ -93,10 +93,10 @@ module _ (s : Setting) (plan : Plan) (variables : ℕ → ℕ) (fine : Fits s pl
 
   pub prepares : {live : VariableSet} {m : Moment} {k : ℕ} {p : Processor} (v : Option ℕ) (behind : VariableSet) (g : ℕ) (xs : List Argument) (w : Waiting) (h : Stands plan live m k p) → w.live ≡ (λ u. behind u && not (is v u)) →
       ((u : ℕ) → in_arguments xs u ≡ true → live u ≡ true) → ((u : ℕ) → w.live u ≡ true → live u ≡ true) → ((u : ℕ) → live u ≡ true → u < variables m.function) → AreGiven xs → HaveHomes plan g (gives xs) → plan.leaf m.function ≡ false → IsWithin plan (called plan g xs w m) →
-      k + length (arguments_code plan m.function g xs ++ (save_code (registers_in (plan.home m.function) (variables m.function) w.live) ++ (parameters_code plan m.function g xs ++ deeper_code plan m.function))) < 2 ^ 29 →
-      CodeAt s.code k (arguments_code plan m.function g xs ++ (save_code (registers_in (plan.home m.function) (variables m.function) w.live) ++ (parameters_code plan m.function g xs ++ deeper_code plan m.function))) →
-      Comes s (length (arguments_code plan m.function g xs ++ (save_code (registers_in (plan.home m.function) (variables m.function) w.live) ++ (parameters_code plan m.function g xs ++ deeper_code plan m.function)))) p
-      (Prepared plan m w h.agrees.base g xs (k + length (arguments_code plan m.function g xs ++ (save_code (registers_in (plan.home m.function) (variables m.function) w.live) ++ (parameters_code plan m.function g xs ++ deeper_code plan m.function)))))
+      k + length (arguments_code plan m.function g xs ++ (save_code (registers_in (plan.home m.function) (variables m.function) w.live) ++ (parameters_code plan m.function g xs ++ deeper_code plan m.function g))) < 2 ^ 29 →
+      CodeAt s.code k (arguments_code plan m.function g xs ++ (save_code (registers_in (plan.home m.function) (variables m.function) w.live) ++ (parameters_code plan m.function g xs ++ deeper_code plan m.function g))) →
+      Comes s (length (arguments_code plan m.function g xs ++ (save_code (registers_in (plan.home m.function) (variables m.function) w.live) ++ (parameters_code plan m.function g xs ++ deeper_code plan m.function g)))) p
+      (Prepared plan m w h.agrees.base g xs (k + length (arguments_code plan m.function g xs ++ (save_code (registers_in (plan.home m.function) (variables m.function) w.live) ++ (parameters_code plan m.function g xs ++ deeper_code plan m.function g)))))
   prepares {live} {m} {k} {p} v behind g xs w h is_live reads keeps scope numbers homes calls within small at =
       let to : ℕ → Env → Processor → Type 0 = λ j env q. Prepared plan m w h.agrees.base g xs j q in
       let h0 = ready s plan variables fine h in
@@ -106,17 +106,17 @@ module _ (s : Setting) (plan : Plan) (variables : ℕ → ℕ) (fine : Fits s pl
       let deep = within.depth in let top = within.frame in let long = fine.words m.function in let wide = fine.private in let most = fine.common in let lim = fine.limit in
       let inside = room_for h0 g (omega arith) in
       let counted : counted_depth plan m.function (depth_of m) ≡ depth_of m = ap (λ (leaf : Bool). if leaf then depth_of m - 1 else depth_of m) calls in
-      let run : Runs s plan.private to (arguments_code plan m.function g xs ++ (save_code rs ++ (passed ++ deeper_code plan m.function))) h.contents (Went m.env) =
-      runs_arguments s plan variables fine to g xs (save_code rs ++ (passed ++ deeper_code plan m.function)) h0 reads numbers homes.apart inside (λ c1 gave.
+      let run : Runs s plan.private to (arguments_code plan m.function g xs ++ (save_code rs ++ (passed ++ deeper_code plan m.function g))) h.contents (Went m.env) =
+      runs_arguments s plan variables fine to g xs (save_code rs ++ (passed ++ deeper_code plan m.function g)) h0 calls reads numbers homes.apart inside (λ c1 gave.
       let h1 = gave.ready in
-      let p1 : c1.register 2 ≡ 4 * base = h1.agrees.pointer ∙ ap (λ n. 4 * n) gave.based in
-      runs_save s plan variables fine to base rs (passed ++ deeper_code plan m.function) (λ q a. register_kept (plan.home m.function) (variables m.function) q w.live a) p1 (omega arith) h1.fits h1.small (λ c2 saved.
+      let p1 : c1.register 2 ≡ 4 * base = own_frame s plan variables fine h1 (calls_framed s plan variables fine m.function calls) ∙ ap (λ n. 4 * n) gave.based in
+      runs_save s plan variables fine to base rs (passed ++ deeper_code plan m.function g) (λ q a. register_kept (plan.home m.function) (variables m.function) q w.live a) p1 (omega arith) h1.fits h1.small (λ c2 saved.
       let p2 : c2.register 2 ≡ 4 * base = saved.registers 2 (omega arith) ∙ p1 in
       let h2 = ready_far s plan variables fine to h1 (λ i far near. saved.others i (subst (λ (b : ℕ). (i ≤ b) ⊎ (b + 19 ≤ i)) gave.based far)) saved.registers saved.fits saved.small in
       let waits = wait_on s plan variables fine to m.function g base c1 c2 xs (still_waits rs base c1 c2 saved) gave.waits in
-      runs_parameters s plan variables fine to base g xs (deeper_code plan m.function) h2 reads numbers homes p2 (omega arith) waits (λ c3 handed.
+      runs_parameters s plan variables fine to base g xs (deeper_code plan m.function g) h2 reads numbers homes p2 (omega arith) waits (λ c3 handed.
       let h3 = handed.ready in
-      let last : Runs s plan.private to (deeper_code plan m.function ++ []) c3 (Went m.env) = runs_deeper s plan to m.function base m.frame [] h3.zero h3.fits (handed.two ∙ p2) h3.agrees.frame (omega arith) (omega arith) (λ c4 moved.
+      let last : Runs s plan.private to (deeper_code plan m.function g ++ []) c3 (Went m.env) = runs_deeper s plan to m.function g base m.frame [] h3.zero h3.fits (handed.two ∙ p2) h3.agrees.frame (omega arith) (omega arith) (λ c4 moved.
       runs_nothing s plan.private to {env = m.env} (λ j q shows. record {
         contents = c4;
         shows = shows;
@@ -133,7 +133,7 @@ module _ (s : Setting) (plan : Plan) (variables : ℕ → ℕ) (fine : Fits s pl
         variables = λ u e. one base u w.live c1 c2 c4 h1 gave.based saved (λ i. moved.words i ∙ handed.words i) e (keeps u e) (scope u (keeps u e)) (plan.home m.function u) refl;
         waiting = waiting_same s plan variables fine c1 c4 (c1.word base) (c4.word base) base m.frame m.waiting (moved.words base ∙ (handed.words base ∙ saved.others base (inl (omega arith)))) (λ i l. moved.words i ∙ (handed.words i ∙ saved.others i (inl l)))
             (subst (λ (b : ℕ). AreWaiting plan c1 (c1.word b) b m.frame m.waiting) gave.based (waiting_kept s plan variables fine m.function c1 h1.agrees.base m.frame m.waiting calls h1.agrees.waiting));
-      })) in rw append-nil at last))) in
+      })) in runs_alone s plan.private to (deeper_code plan m.function g) last))) in
       run.from k small at p h.shows
 
   -- ---- the jump, and the entry code
@@ -193,7 +193,7 @@ module _ (s : Setting) (plan : Plan) (variables : ℕ → ℕ) (fine : Fits s pl
       record {
         base = b;
         variables = λ u e. parameter (plan.home g u) (fine.homes g u) ∙ q.given u (wanted u e);
-        pointer = a.two ∙ q.two;
+        pointer = a.two ∙ (q.two ∙ ap (λ n. 4 * n) (entered (plan.bare g)));
         frame = a.three ∙ q.three;
         depth = λ e. a.ten e ∙ (ap (λ (n : ℕ). counted_depth plan g (n + 1)) (q.ten e) ∙ ap (λ (n : ℕ). counted_depth plan g n) next);
         addresses = λ e. a.four ∙ q.four e;
@@ -213,6 +213,11 @@ module _ (s : Setting) (plan : Plan) (variables : ℕ → ℕ) (fine : Fits s pl
         within = within;
       }
     where
+      -- a bare function leaves x2 at the caller's frame
+      entered : (bare : Bool) → (if bare then h.agrees.base else h.agrees.base + plan.words m.function) ≡ (if bare then h.agrees.base + plan.words m.function - plan.words m.function else h.agrees.base + plan.words m.function)
+      entered true = omega arith
+      entered false = refl
+
       parameter : (home : Home) → IsHome (variables g) home → held c (h.agrees.base + plan.words m.function) home ≡ held q.contents (h.agrees.base + plan.words m.function) home
       parameter (Register r) good = a.registers r good
       parameter (Slot i) good = a.words (h.agrees.base + plan.words m.function + slot_at i) (omega arith)
@@ -231,7 +236,7 @@ module _ (s : Setting) (plan : Plan) (variables : ℕ → ℕ) (fine : Fits s pl
     pub fits : (j : ℕ) → c'.register j < 2 ^ 32
     pub small : (i : ℕ) → c'.word i < 2 ^ 32
 
-  pub runs_prologue : {c : Contents} {d : Deed} (to : ℕ → Env → Processor → Type 0) (f base : ℕ) (is : List Inst) → c.register 2 ≡ 4 * base → base < plan.private → ((j : ℕ) → c.register j < 2 ^ 32) → ((i : ℕ) → c.word i < 2 ^ 32) → (plan.by_a ≡ true → c.register 10 < 2 ^ 20) →
+  pub runs_prologue : {c : Contents} {d : Deed} (to : ℕ → Env → Processor → Type 0) (f base : ℕ) (is : List Inst) → (plan.leaf f ≡ false → c.register 2 ≡ 4 * base) → base < plan.private → ((j : ℕ) → c.register j < 2 ^ 32) → ((i : ℕ) → c.word i < 2 ^ 32) → (plan.by_a ≡ true → c.register 10 < 2 ^ 20) →
       ((c' : Contents) → Opened f base c c' → Runs s plan.private to is c' d) → Runs s plan.private to (prologue_code plan.by_a (plan.leaf f) ++ is) c d
   runs_prologue {c} {d} to f base is pointer inside fits small deep run = by (plan.leaf f) refl
     where
@@ -249,7 +254,7 @@ module _ (s : Setting) (plan : Plan) (variables : ℕ → ℕ) (fine : Fits s pl
       by false e =
           let wide = fine.private in
           let v : ℕ = c.register 1 in
-          let found : plus (c.register 2) (word (pos 0)) ≡ 4 * base = rw pointer (omega arith) in
+          let found : plus (c.register 2) (word (pos 0)) ≡ 4 * base = rw (pointer e) (omega arith) in
           let c2 : Contents = store base v c in
           let here : c2.word base ≡ v = grind (arith, nat_tests) in
           let others : (i : ℕ) → i ≢ base → c2.word i ≡ c.word i = λ i ne. (grind (arith, nat_tests)) in
@@ -282,7 +287,8 @@ module _ (s : Setting) (plan : Plan) (variables : ℕ → ℕ) (fine : Fits s pl
       let to : ℕ → Env → Processor → Type 0 = λ word env o. Stands plan (entries g) (called plan g xs w m) word o in
       let l1 = j.1 in
       let l2 = like_put 1 (4 * (k + enter_words plan.near)) j.0 (omega arith) l1.fits in
-      let pointer : c1.register 2 ≡ 4 * b = l1.registers 2 (omega arith) ∙ q.two in
+      let pointer : plan.leaf g ≡ false → c1.register 2 ≡ 4 * b =
+      λ calls. l1.registers 2 (omega arith) ∙ (q.two ∙ ap (λ (bare : Bool). 4 * (if bare then base else b)) (calls_framed s plan variables fine g calls)) in
       let lim = fine.limit in
       let low : depth_of m < 2 ^ 20 = omega arith in
       let last : Runs s plan.private to (prologue_code plan.by_a (plan.leaf g) ++ []) c1 (Went m.env) = runs_prologue to g b [] pointer (omega arith) l2.fits (λ i. subst (λ (x : ℕ). x < 2 ^ 32) (sym (l1.words i)) (q.shows.holds i)) (λ e. subst (λ (x : ℕ). x < 2 ^ 20) (sym (l1.registers 10 (omega arith) ∙ q.ten e)) low) (λ c2 opened.

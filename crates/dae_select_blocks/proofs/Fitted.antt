@@ -129,19 +129,21 @@ module _ (plan : Plan) (variables : ℕ → ℕ) (good : (f v : ℕ) → IsHome 
       fit_either (nat_eq n 0) [] _ (λ e. tt) (λ e. fit_either (is_immediate (minus 0 n)) (Addi r r (lower (minus 0 n)) ∷ []) (number_code 5 n ++ Sub r r 5 ∷ [])
       (λ e. (addi_fits r r (minus 0 n) h h, tt)) (λ e. fit_append _ _ (number_fits 5 n (omega arith)) (sub_fits r r 5 h h (omega arith), tt)))
 
-  deeper_fits : (f : ℕ) → AllFit (deeper_code plan f)
-  deeper_fits f =
-      fit_append (more_code 3 (plan.frame f % 2 ^ 32)) (more_code 2 (4 * plan.words f)) (more_fits 3 (plan.frame f % 2 ^ 32) (omega arith)) (more_fits 2 (4 * plan.words f) (omega arith))
+  deeper_fits : (f g : ℕ) → AllFit (deeper_code plan f g)
+  deeper_fits f g =
+      fit_append (more_code 3 (plan.frame f % 2 ^ 32)) (if plan.bare g then [] else more_code 2 (4 * plan.words f)) (more_fits 3 (plan.frame f % 2 ^ 32) (omega arith))
+      (fit_either (plan.bare g) [] (more_code 2 (4 * plan.words f)) (λ e. tt) (λ e. more_fits 2 (4 * plan.words f) (omega arith)))
 
-  returning_fits : (f : ℕ) → AllFit (back_code plan f)
-  returning_fits f =
-      fit_append (less_code 3 (plan.frame f % 2 ^ 32)) (less_code 2 (4 * plan.words f)) (less_fits 3 (plan.frame f % 2 ^ 32) (omega arith)) (less_fits 2 (4 * plan.words f) (omega arith))
+  returning_fits : (f g : ℕ) → AllFit (back_code plan f g)
+  returning_fits f g =
+      fit_append (less_code 3 (plan.frame f % 2 ^ 32)) (if plan.bare g then [] else less_code 2 (4 * plan.words f)) (less_fits 3 (plan.frame f % 2 ^ 32) (omega arith))
+      (fit_either (plan.bare g) [] (less_code 2 (4 * plan.words f)) (λ e. tt) (λ e. less_fits 2 (4 * plan.words f) (omega arith)))
 
   call_fits : (f : ℕ) (v : Option ℕ) (g : ℕ) (xs : List Argument) (live : VariableSet) → AllFit (call_code plan variables f v g xs live)
   call_fits f v g xs live =
       let rs = live_registers plan (variables f) f live in
-      fit_append _ _ (arguments_fit f g xs) (fit_append _ _ (save_fits _ rs) (fit_append _ _ (parameters_fit f g xs) (fit_append (deeper_code plan f) _ (deeper_fits f) (fit_append (enter_code plan.near (plan.entry g)) _ (enter_fits plan.near (plan.entry g))
-      (fit_append (back_code plan f) _ (returning_fits f) (fit_append _ _ (restore_fits _ rs) (result_fits (variables f) (plan.home f) (good f) v)))))))
+      fit_append _ _ (arguments_fit f g xs) (fit_append _ _ (save_fits _ rs) (fit_append _ _ (parameters_fit f g xs) (fit_append (deeper_code plan f g) _ (deeper_fits f g) (fit_append (enter_code plan.near (plan.entry g)) _ (enter_fits plan.near (plan.entry g))
+      (fit_append (back_code plan f g) _ (returning_fits f g) (fit_append _ _ (restore_fits _ rs) (result_fits (variables f) (plan.home f) (good f) v)))))))
 
   module _ (short : Bool) where
     action_fits : (f : ℕ) (a : Action) (live : VariableSet) (leaves skips : ℕ) → AllFit (action_code plan variables f a live (jump_over short leaves) (jump_over short skips))

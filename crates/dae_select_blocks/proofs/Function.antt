@@ -40,7 +40,7 @@ code_does s plan variables program entries fine is_plan linked f code stands =
           (λ f b way n. (let l = back_branch_short (plan.home f) b way n in omega arith))
           (λ f g v xs k x leaves skips here t. calls_done s plan variables fine program is_plan entries linked 14 46 (is_short code) f g v xs k x leaves skips here
           (let l1 = prepared_short plan variables f g xs (λ u. k u && not (is v u)) in let l2 = entry_short plan g in omega arith)
-          (let l = resumed_short plan variables f v (λ u. k u && not (is v u)) in omega arith) t)
+          (let l = resumed_short plan variables f g v (λ u. k u && not (is v u)) in omega arith) t)
           returns (plan.start f) end (omega arith) (λ e. (let long = code_length (is_short code) plan variables f Settled unknown code nowhere 0 0 in let few = short_is code e in omega arith)) (omega arith)
           f Settled unknown code x 0 0 (plan.start f) tt tt (record { leaves = refl; skips = refl }) stands.wanted stands.right stands.there (omega arith) (omega arith) (omega arith) (omega arith) (omega arith) (omega arith)
           (λ m p h. comes_here s h),

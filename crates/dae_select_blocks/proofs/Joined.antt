@@ -24,7 +24,7 @@ use Rattle.dae_select_walks.specs.Live.{in_option, in_arguments, is, before}
 use Rattle.dae_select_walks.specs.Facts.{unknown}
 use Rattle.dae_select_walks.specs.Homes.{Contents}
 use Rattle.dae_select_walks.specs.Agrees.{Plan, Moment, Stands, AreWaiting, IsWithin, return_address}
-use Rattle.dae_select_walks.specs.Compiled.{Exits, exit, ways_of, At, MainEnds, waiting_of, called, result_of, with_env, with_result}
+use Rattle.dae_select_walks.specs.Compiled.{Exits, exit, ways_of, At, MainEnds, waiting_of, called, result_of, with_env, with_result, Lands}
 use Rattle.dae_select_walks.proofs.LawsOfWalks.{nears_here, comes_map, comes_then, comes_does, does_map}
 use Rattle.dae_select_walks.proofs.LawsOfWalks.{put, step_ends, step_stops}
 use Rattle.dae_select_blocks.specs.Blocks.{arguments_code, save_code, restore_code, deeper_code, enter_code, back_code, result_code, leave_code, enter_words, parameters_code}
@@ -76,15 +76,15 @@ module _ (s : Setting) (plan : Plan) (variables : ℕ → ℕ) (fine : Fits s pl
       let low = linked.low in (
         (λ none. (let a = h.1.agrees.waiting in let b : AreWaiting plan h.1.contents (return_address plan m.function h.1.contents h.1.agrees.base) h.1.agrees.base m.frame [] = rw none at a in
             finishes m y p (length (leave_code plan.by_a (plan.leaf m.function) (plan.home m.function) y)) (leaves s plan variables fine y plan.finish h.1 t.wanted reads (omega arith) b.2 small stands) brief plan.by_a refl linked.finish)),
-        (λ w ws is. comes_map s most (omega arith) (λ q g. g) (return_done s plan variables fine y w ws h.1 is t.wanted reads small stands)),
+        (λ w ws is. comes_map s most (omega arith) (λ q g. subst (λ (z : ℕ). Lands plan z w ws (result_of y m.env) q) h.0 g) (return_done s plan variables fine y w ws h.1 is t.wanted reads small stands)),
       )
 
   -- a call, up to the jump, and from the word behind it
   abbrev prepared_code : ℕ → ℕ → List Argument → VariableSet → List Inst
-  prepared_code f g xs live = arguments_code plan f g xs ++ (save_code (registers_in (plan.home f) (variables f) live) ++ (parameters_code plan f g xs ++ deeper_code plan f))
+  prepared_code f g xs live = arguments_code plan f g xs ++ (save_code (registers_in (plan.home f) (variables f) live) ++ (parameters_code plan f g xs ++ deeper_code plan f g))
 
-  abbrev resumed_code : ℕ → Option ℕ → VariableSet → List Inst
-  resumed_code f v live = back_code plan f ++ (restore_code (registers_in (plan.home f) (variables f) live) ++ result_code (plan.home f) v)
+  abbrev resumed_code : ℕ → ℕ → Option ℕ → VariableSet → List Inst
+  resumed_code f g v live = back_code plan f g ++ (restore_code (registers_in (plan.home f) (variables f) live) ++ result_code (plan.home f) v)
 
   abbrev without : Option ℕ → VariableSet → VariableSet
   without v k u = k u && not (is v u)
@@ -92,39 +92,39 @@ module _ (s : Setting) (plan : Plan) (variables : ℕ → ℕ) (fine : Fits s pl
   abbrev pub back_of : ℕ → ℕ → ℕ → List Argument → Option ℕ → VariableSet → ℕ
   back_of here f g xs v k = here + length (prepared_code f g xs (without v k)) + enter_words plan.near
 
-  whole_length : (f g : ℕ) (v : Option ℕ) (xs : List Argument) (k : VariableSet) → length (call_code plan variables f v g xs (without v k)) ≡ length (prepared_code f g xs (without v k)) + enter_words plan.near + length (resumed_code f v (without v k))
+  whole_length : (f g : ℕ) (v : Option ℕ) (xs : List Argument) (k : VariableSet) → length (call_code plan variables f v g xs (without v k)) ≡ length (prepared_code f g xs (without v k)) + enter_words plan.near + length (resumed_code f g v (without v k))
   whole_length f g v xs k =
       let rs = registers_in (plan.home f) (variables f) (without v k) in
-      let rest : List Inst = resumed_code f v (without v k) in
+      let rest : List Inst = resumed_code f g v (without v k) in
       let jumped : List Inst = enter_code plan.near (plan.entry g) ++ rest in
       let passed : List Inst = parameters_code plan f g xs in
-      let l1 = length-append (arguments_code plan f g xs) (save_code rs ++ (passed ++ (deeper_code plan f ++ jumped))) in
-      let l2 = length-append (save_code rs) (passed ++ (deeper_code plan f ++ jumped)) in
-      let l3 = length-append passed (deeper_code plan f ++ jumped) in
-      let l4 = length-append (deeper_code plan f) jumped in
+      let l1 = length-append (arguments_code plan f g xs) (save_code rs ++ (passed ++ (deeper_code plan f g ++ jumped))) in
+      let l2 = length-append (save_code rs) (passed ++ (deeper_code plan f g ++ jumped)) in
+      let l3 = length-append passed (deeper_code plan f g ++ jumped) in
+      let l4 = length-append (deeper_code plan f g) jumped in
       let l5 = length-append (enter_code plan.near (plan.entry g)) rest in
       let jump = enter_long plan.near (plan.entry g) in
-      let l6 = length-append (arguments_code plan f g xs) (save_code rs ++ (passed ++ deeper_code plan f)) in
-      let l7 = length-append (save_code rs) (passed ++ deeper_code plan f) in
-      let l8 = length-append passed (deeper_code plan f) in
+      let l6 = length-append (arguments_code plan f g xs) (save_code rs ++ (passed ++ deeper_code plan f g)) in
+      let l7 = length-append (save_code rs) (passed ++ deeper_code plan f g) in
+      let l8 = length-append passed (deeper_code plan f g) in
       omega arith
 
   -- up to the jump, and on
-  parted : (f g : ℕ) (xs : List Argument) (live : VariableSet) (is : List Inst) → prepared_code f g xs live ++ is ≡ arguments_code plan f g xs ++ (save_code (registers_in (plan.home f) (variables f) live) ++ (parameters_code plan f g xs ++ (deeper_code plan f ++ is)))
+  parted : (f g : ℕ) (xs : List Argument) (live : VariableSet) (is : List Inst) → prepared_code f g xs live ++ is ≡ arguments_code plan f g xs ++ (save_code (registers_in (plan.home f) (variables f) live) ++ (parameters_code plan f g xs ++ (deeper_code plan f g ++ is)))
   parted f g xs live is =
       let kept : List Inst = save_code (registers_in (plan.home f) (variables f) live) in
       let passed : List Inst = parameters_code plan f g xs in
-      append_assoc (arguments_code plan f g xs) (kept ++ (passed ++ deeper_code plan f)) is
-      ∙ (ap (λ (code : List Inst). arguments_code plan f g xs ++ code) (append_assoc kept (passed ++ deeper_code plan f) is)
-      ∙ ap (λ (code : List Inst). arguments_code plan f g xs ++ (kept ++ code)) (append_assoc passed (deeper_code plan f) is))
+      append_assoc (arguments_code plan f g xs) (kept ++ (passed ++ deeper_code plan f g)) is
+      ∙ (ap (λ (code : List Inst). arguments_code plan f g xs ++ code) (append_assoc kept (passed ++ deeper_code plan f g) is)
+      ∙ ap (λ (code : List Inst). arguments_code plan f g xs ++ (kept ++ code)) (append_assoc passed (deeper_code plan f g) is))
 
   pub calls_done : (short : Bool) (f g : ℕ) (v : Option ℕ) (xs : List Argument) (k : VariableSet) (x : Exits) (leaves' skips here : ℕ) →
-      length (prepared_code f g xs (without v k)) + 2 + length (entry_code plan g) ≤ widest + 6 * length xs → length (resumed_code f v (without v k)) ≤ 3 * most →
+      length (prepared_code f g xs (without v k)) + 2 + length (entry_code plan g) ≤ widest + 6 * length xs → length (resumed_code f g v (without v k)) ≤ 3 * most →
       Stood s plan variables fine program is_plan entries most widest short f (Call v g xs) k (ways_of x) leaves' skips here → Done' s plan variables fine program is_plan entries most widest short f unknown (Call v g xs) k x leaves' skips here
   calls_done short f g v xs k x leaves' skips here wide brief t =
       let live : VariableSet = before (Call v g xs) k (ways_of x) in
       let prep : List Inst = prepared_code f g xs (without v k) in
-      let rest : List Inst = resumed_code f v (without v k) in
+      let rest : List Inst = resumed_code f g v (without v k) in
       let small = t.small in
       let total = whole_length f g v xs k in
       let few = enter_few plan.near in
@@ -154,7 +154,7 @@ module _ (s : Setting) (plan : Plan) (variables : ℕ → ℕ) (fine : Fits s pl
             comes_map s (widest + 6 * length xs) (omega arith) (λ q z. (refl, z)) both)),
         (λ m result p e within answered l.
             let next : ℕ = here + length (call_code plan variables f v g xs (without v k)) in
-            let rest' : List Inst = resumed_code m.function v (without v k) in
+            let rest' : List Inst = resumed_code m.function g v (without v k) in
             let third' : CodeAt s.code (back_of here f g xs v k) rest' = rw e third in
             let brief' : length rest' ≤ 3 * most = rw e brief in
             let end' : back_of here f g xs v k + length rest' ≡ next = rw e (omega arith) in
@@ -163,7 +163,7 @@ module _ (s : Setting) (plan : Plan) (variables : ℕ → ℕ) (fine : Fits s pl
             let calls' : plan.leaf m.function ≡ false = (let a = t.wanted.4 in rw e a) in
             let own : (z : ℕ) → is v z ≡ true → z < variables m.function = rw e (λ z sets'. t.right.scope z (or_right (before (Call v g xs) k (ways_of x) z) (is v z) sets')) in
             comes_map s (3 * most) brief' (λ q z. (e, subst (λ (j : ℕ). Stands plan k (with_env (with_result v result m.env) m) j q) end' z))
-            (resumes s plan variables fine v k (back_of here f g xs v k) result within answered scope' own apart calls' l (rw end' (omega arith)) third')),
+            (resumes s plan variables fine v g k (back_of here f g xs v k) result within answered scope' own apart calls' l (rw end' (omega arith)) third')),
       )
     where
       open' : (b c : Bool) → ((b || (true && not c)) || c) ≡ true

@@ -1,5 +1,5 @@
 -- A return's walk: to just behind the call's jump, and from there to the end of the call's block.
-use Rattle.std.proofs.Common.{◌≡◌, ◌≢◌, ℕ, zero, ◌+◌, ◌-◌, ◌*◌, ◌/◌, ◌^◌, ◌<◌, ◌≤◌, Bool, true, false, not, ◌&&◌, List, [], ◌∷◌, ◌++◌, Option, Some, None, length, refl, sym, ap, ◌∙◌, subst, arith, length-append}
+use Rattle.std.proofs.Common.{◌≡◌, ◌≢◌, ℕ, zero, ◌+◌, ◌-◌, ◌*◌, ◌/◌, ◌^◌, ◌<◌, ◌≤◌, Bool, true, false, not, ◌&&◌, List, [], ◌∷◌, ◌++◌, Option, Some, None, length, refl, sym, ap, ◌∙◌, arith, length-append}
 use Rattle.std.specs.Prelude.{nat_eq, pos, negsuc, if◌then◌else◌}
 use Rattle.std.proofs.lemmas.Bool.Decides.{nat_tests}
 use Rattle.dae_base.specs.Words.{plus, word}
@@ -19,7 +19,7 @@ use Rattle.dae_select_walks.specs.Walks.{Setting, Comes}
 use Rattle.dae_select_walks.specs.Layout.{CodeAt}
 use Rattle.dae_select_walks.specs.Live.{in_option, is}
 use Rattle.dae_select_walks.specs.Homes.{Contents, held, kept, is_home_register, kept_at, slot_at, resident_home}
-use Rattle.dae_select_walks.specs.Agrees.{Plan, Moment, Waiting, Shows, Stands, AreIn, AreWaiting, AreResident, IsWithin, depth_of, return_address, counted_depth}
+use Rattle.dae_select_walks.specs.Agrees.{Plan, Moment, Waiting, Shows, Stands, AreIn, AreWaiting, AreResident, IsWithin, depth_of, return_address, counted_depth, pointed, words_below}
 use Rattle.dae_select_walks.specs.Compiled.{Lands, IsAnswered, with_result, waiting_of, result_of, with_env}
 use Rattle.dae_select_walks.proofs.LawsOfWalks.{comes_here, comes_map, comes_more, comes_then}
 use Rattle.dae_select_walks.proofs.LawsOfWalks.{put, step}
@@ -29,11 +29,11 @@ use Rattle.dae_select_blocks.specs.Fits.{Fits}
 use Rattle.dae_select_blocks.specs.Wanted.{IsWantedResult}
 use Rattle.dae_select_blocks.proofs.Plain.{plain_computes, put_nowhere, put_same, put_other, computes, loads_word}
 use Rattle.dae_select_blocks.proofs.Runs.{Runs, runs_nothing, runs_quiet, code_take, code_drop, runs_alone}
-use Rattle.dae_select_blocks.proofs.Agreement.{Ready, ready_like, resident_high, frame_inside, waiting_same, address_same}
+use Rattle.dae_select_blocks.proofs.Agreement.{Ready, ready_like, resident_high, frame_inside, waiting_same, calls_framed, own_frame}
 use Rattle.dae_select_blocks.proofs.Operands.{like_put, runs_move}
 use Rattle.dae_select_blocks.proofs.Computing.{plus_zero, is_scratch, register_plain}
 use Rattle.dae_select_blocks.proofs.Actions.{To, ends, ready_stays, kept as goes_home}
-use Rattle.dae_select_blocks.proofs.Calls.{kept_register, register_kept, Restored, runs_restore, base_is, among_not, among_other}
+use Rattle.dae_select_blocks.proofs.Calls.{kept_register, register_kept, Restored, runs_restore, among_not, among_other}
 use Rattle.dae_select_blocks.proofs.Deeper.{Moved, runs_count, runs_back}
 use Rattle.dae_select_blocks.proofs.Jumps.{ready}
 
@@ -43,7 +43,7 @@ module _ (s : Setting) (plan : Plan) (variables : ℕ → ℕ) (fine : Fits s pl
     pub contents : Contents
     pub shows : Shows plan.private contents k p
     pub base : ℕ
-    pub pointer : contents.register 2 ≡ 4 * base
+    pub pointer : contents.register 2 ≡ 4 * pointed plan m.function m.waiting base
     pub begins : contents.register 3 ≡ m.frame
     pub low : m.frame ≤ plan.memory
     pub depth : plan.by_a ≡ true → contents.register 10 ≡ length m.waiting
@@ -75,7 +75,8 @@ module _ (s : Setting) (plan : Plan) (variables : ℕ → ℕ) (fine : Fits s pl
           let v : ℕ = c.word base in
           let found : return_address plan m.function c base ≡ v = ap (λ (leaf : Bool). if leaf then c.register 1 else c.word base) e in
           let counted : counted_depth plan m.function (depth_of m) ≡ depth_of m = ap (λ (leaf : Bool). if leaf then depth_of m - 1 else depth_of m) e in
-          let address : plus (c.register 2) (word (pos 0)) ≡ 4 * base = rw h.agrees.pointer (omega arith) in
+          let own : c.register 2 ≡ 4 * base = own_frame s plan variables fine h (calls_framed s plan variables fine m.function e) in
+          let address : plus (c.register 2) (word (pos 0)) ≡ 4 * base = rw own (omega arith) in
           let c1 : Contents = put 1 v c in
           let like = like_put 1 v c (h.small base) h.fits in
           let ten : plan.by_a ≡ true → c.register 10 ≡ depth_of m = λ a. h.agrees.depth a ∙ counted in
@@ -131,6 +132,18 @@ module _ (s : Setting) (plan : Plan) (variables : ℕ → ℕ) (fine : Fits s pl
       comes_map s (length (code ++ rest)) (omega arith) (λ q g. g) (
       comes_then s first (λ q t. jumps_back target result h given there near t.2 (code_drop s.code k code rest at) t.1))
 
+  -- the address is where it was
+  address_kept : {live live' : VariableSet} {m : Moment} {c c' : Contents} (h : Ready plan live m c) (h' : Ready plan live' m c') → c'.register 1 ≡ c.register 1 → c'.register 2 ≡ c.register 2 → ((i : ℕ) → c'.word i ≡ c.word i) → return_address plan m.function c' h'.agrees.base ≡ return_address plan m.function c h.agrees.base
+  address_kept {m = m} {c = c} {c' = c'} h h' link two words = by (plan.leaf m.function) refl
+    where
+      by : (leaf : Bool) → plan.leaf m.function ≡ leaf → (if leaf then c'.register 1 else c'.word h'.agrees.base) ≡ (if leaf then c.register 1 else c.word h.agrees.base)
+      by true e = link
+      by false e =
+          let framed = calls_framed s plan variables fine m.function e in
+          let old = own_frame s plan variables fine h framed in let new = own_frame s plan variables fine h' framed in
+          let based : h'.agrees.base ≡ h.agrees.base = omega arith in
+          words h'.agrees.base ∙ ap c.word based
+
   -- to the address that the function returns to, whoever waits there
   pub leaves : {live : VariableSet} {m : Moment} {k : ℕ} {p : Processor} (y : Option Operand) (target : ℕ) (h : Stands plan live m k p) → IsWantedResult y → ((u : ℕ) → in_option y u ≡ true → live u ≡ true) → target < 2 ^ 29 → return_address plan m.function h.contents h.agrees.base ≡ 4 * target → k + length (leave_code plan.by_a (plan.leaf m.function) (plan.home m.function) y) < 2 ^ 29 → CodeAt s.code k (leave_code plan.by_a (plan.leaf m.function) (plan.home m.function) y) →
       Comes s (length (leave_code plan.by_a (plan.leaf m.function) (plan.home m.function) y)) p (Goes' m target (result_of y m.env) target)
@@ -147,9 +160,9 @@ module _ (s : Setting) (plan : Plan) (variables : ℕ → ℕ) (fine : Fits s pl
       let c2 : Contents = put 6 (value x m.env) c1 in
       let l2 = like_put 6 (value x m.env) c1 small like.fits in
       let h2 = ready_like s plan variables fine 6 (is_scratch plan 6 (omega arith) (omega arith)) l2 h1 in
-      let based : h2.agrees.base ≡ h0.agrees.base = base_is s plan variables fine to h2 h0.agrees.base (like.registers 2 (omega arith) ∙ h0.agrees.pointer) in
       runs_quiet s plan.private to (computes s plan.private to (Addi 6 r imm) 6 r 0 (λ x y. plus x (word imm)) refl (omega arith) plain (omega arith) (plus_small (c1.register r) (word imm))) (rw same (
-      let same_address : return_address plan m.function c2 h2.agrees.base ≡ 4 * target = subst (λ (b : ℕ). return_address plan m.function c2 b ≡ 4 * target) (sym based) (address_same s plan variables fine m.function h0.agrees.base h.contents c2 (l2.registers 1 (omega arith) ∙ like.registers 1 (omega arith)) (like.words h0.agrees.base) ∙ there) in
+      let same_address : return_address plan m.function c2 h2.agrees.base ≡ 4 * target =
+      address_kept h0 h2 (l2.registers 1 (omega arith) ∙ like.registers 1 (omega arith)) (l2.registers 2 (omega arith) ∙ like.registers 2 (omega arith)) (λ i. l2.words i ∙ like.words i) ∙ there in
       runs_nothing s plan.private to {env = m.env} (λ j q shows. (c2, shows, h2, refl, same_address)))))) in
       let first = run.from k (omega arith) (code_take s.code k code rest at) p h.shows in
       comes_map s (length (leave_code plan.by_a (plan.leaf m.function) (plan.home m.function) (Some x))) (omega arith) (λ q g. g) (
@@ -157,7 +170,7 @@ module _ (s : Setting) (plan : Plan) (variables : ℕ → ℕ) (fine : Fits s pl
 
   -- a return to the call that waits
   pub return_done : {live : VariableSet} {m : Moment} {k : ℕ} {p : Processor} (y : Option Operand) (w : Waiting) (ws : List Waiting) (h : Stands plan live m k p) → m.waiting ≡ w ∷ ws → IsWantedResult y → ((u : ℕ) → in_option y u ≡ true → live u ≡ true) → k + length (leave_code plan.by_a (plan.leaf m.function) (plan.home m.function) y) < 2 ^ 29 → CodeAt s.code k (leave_code plan.by_a (plan.leaf m.function) (plan.home m.function) y) →
-      Comes s (length (leave_code plan.by_a (plan.leaf m.function) (plan.home m.function) y)) p (Lands plan w ws (result_of y m.env))
+      Comes s (length (leave_code plan.by_a (plan.leaf m.function) (plan.home m.function) y)) p (Lands plan m.function w ws (result_of y m.env))
   return_done {live} {m} y w ws h is wanted reads small at =
       let waits : AreWaiting plan h.contents (return_address plan m.function h.contents h.agrees.base) h.agrees.base m.frame (w ∷ ws) = (let a = h.agrees.waiting in rw is at a) in
       comes_map s (length (leave_code plan.by_a (plan.leaf m.function) (plan.home m.function) y)) (omega arith) (λ q g.
@@ -166,7 +179,7 @@ module _ (s : Setting) (plan : Plan) (variables : ℕ → ℕ) (fine : Fits s pl
         shows = g.shows;
         base = g.base;
         frame = m.frame;
-        pointer = g.pointer;
+        pointer = (let z = g.pointer in rw is at z);
         begins = g.begins;
         low = g.low;
         depth = λ e. g.depth e ∙ (rw is (omega arith));
@@ -192,7 +205,8 @@ module _ (s : Setting) (plan : Plan) (variables : ℕ → ℕ) (fine : Fits s pl
         agrees = record {
           base = below;
           variables = λ u e. one u e (plan.home m.function u) refl;
-          pointer = restored.others 2 (among_not (plan.home m.function) (variables m.function) 2 w.live refl) ∙ moved.two;
+          pointer = restored.others 2 (among_not (plan.home m.function) (variables m.function) 2 w.live refl)
+              ∙ (moved.two ∙ sym (ap (λ (bare : Bool). 4 * (if bare then below - words_below plan m.waiting else below)) (calls_framed s plan variables fine m.function calls)));
           frame = restored.others 3 (among_not (plan.home m.function) (variables m.function) 3 w.live refl) ∙ moved.three;
           depth = λ e. restored.others 10 (among_not (plan.home m.function) (variables m.function) 10 w.live refl) ∙ (moved.others 10 (omega arith) (omega arith) (omega arith) ∙ (ten e ∙ sym counted));
           addresses = λ e. restored.others 4 (among_not (plan.home m.function) (variables m.function) 4 w.live refl) ∙ (moved.others 4 (omega arith) (omega arith) (omega arith) ∙ addresses e);
@@ -234,14 +248,14 @@ module _ (s : Setting) (plan : Plan) (variables : ℕ → ℕ) (fine : Fits s pl
       runs_quiet s plan.private to (computes s plan.private to (Addi (register_or 5 home) 6 (pos 0)) (register_or 5 home) 6 0 (λ x y. plus x (word (pos 0))) refl plain (omega arith) (omega arith) (plus_small (c.register 6) 0)) (rw same (
       goes_home s plan variables fine live behind m v x h ((λ u l ne. (rw l (grind (arith, nat_tests)), apart u v (grind (arith, nat_tests)) l ne)), scope v (grind (arith, nat_tests))) small))
 
-  pub resumes : {m : Moment} {p : Processor} (v : Option ℕ) (behind : VariableSet) (back : ℕ) (result : Option ℕ) → IsWithin plan m → IsAnswered v result → ((u : ℕ) → behind u ≡ true → is v u ≡ false → u < variables m.function) → ((x : ℕ) → is v x ≡ true → x < variables m.function) →
+  pub resumes : {m : Moment} {p : Processor} (v : Option ℕ) (g : ℕ) (behind : VariableSet) (back : ℕ) (result : Option ℕ) → IsWithin plan m → IsAnswered v result → ((u : ℕ) → behind u ≡ true → is v u ≡ false → u < variables m.function) → ((x : ℕ) → is v x ≡ true → x < variables m.function) →
       ((u x : ℕ) → is v x ≡ true → behind u ≡ true → u ≢ x → plan.home m.function u ≢ plan.home m.function x) → plan.leaf m.function ≡ false →
-      Lands plan (waiting_of v behind back m) m.waiting result p →
-      back + length (back_code plan m.function ++ (restore_code (registers_in (plan.home m.function) (variables m.function) (λ u. behind u && not (is v u))) ++ result_code (plan.home m.function) v)) < 2 ^ 29 →
-      CodeAt s.code back (back_code plan m.function ++ (restore_code (registers_in (plan.home m.function) (variables m.function) (λ u. behind u && not (is v u))) ++ result_code (plan.home m.function) v)) →
-      Comes s (length (back_code plan m.function ++ (restore_code (registers_in (plan.home m.function) (variables m.function) (λ u. behind u && not (is v u))) ++ result_code (plan.home m.function) v))) p
-      (Stands plan behind (with_env (with_result v result m.env) m) (back + length (back_code plan m.function ++ (restore_code (registers_in (plan.home m.function) (variables m.function) (λ u. behind u && not (is v u))) ++ result_code (plan.home m.function) v))))
-  resumes {m} {p} v behind back result within answered scope own apart calls l small at =
+      Lands plan g (waiting_of v behind back m) m.waiting result p →
+      back + length (back_code plan m.function g ++ (restore_code (registers_in (plan.home m.function) (variables m.function) (λ u. behind u && not (is v u))) ++ result_code (plan.home m.function) v)) < 2 ^ 29 →
+      CodeAt s.code back (back_code plan m.function g ++ (restore_code (registers_in (plan.home m.function) (variables m.function) (λ u. behind u && not (is v u))) ++ result_code (plan.home m.function) v)) →
+      Comes s (length (back_code plan m.function g ++ (restore_code (registers_in (plan.home m.function) (variables m.function) (λ u. behind u && not (is v u))) ++ result_code (plan.home m.function) v))) p
+      (Stands plan behind (with_env (with_result v result m.env) m) (back + length (back_code plan m.function g ++ (restore_code (registers_in (plan.home m.function) (variables m.function) (λ u. behind u && not (is v u))) ++ result_code (plan.home m.function) v))))
+  resumes {m} {p} v g behind back result within answered scope own apart calls l small at =
       let c : Contents = l.contents in
       let waits = l.waiting in
       let below : ℕ = waits.0 in
@@ -249,17 +263,22 @@ module _ (s : Setting) (plan : Plan) (variables : ℕ → ℕ) (fine : Fits s pl
       let to : ℕ → Env → Processor → Type 0 = To s plan variables fine kept_set behind m in
       let rs : List ℕ = registers_in (plan.home m.function) (variables m.function) kept_set in
       let long = fine.words m.function in let deep = within.depth in let lim = fine.limit in let most = fine.common in let wide = fine.private in let large = fine.largest m.function in
-      let two : c.register 2 ≡ 4 * (below + plan.words m.function) = l.pointer ∙ ap (λ n. 4 * n) waits.1 in
+      let two : c.register 2 ≡ 4 * (if plan.bare g then below else below + plan.words m.function) = l.pointer ∙ ap (λ n. 4 * n) (returned (plan.bare g) l.base below (plan.words m.function) waits.1) in
       let three : c.register 3 ≡ m.frame + plan.frame m.function = l.begins ∙ waits.2 in
       let room = waits.4 in let low = l.low in let begins = waits.2 in
       let once = times_least (plan.limit + 1 - (length m.waiting + 1)) plan.largest (omega arith) in
-      let run : Runs s plan.private to (back_code plan m.function ++ (restore_code rs ++ result_code (plan.home m.function) v)) c (Went (with_result v result m.env)) =
-      runs_back s plan to m.function below m.frame (restore_code rs ++ result_code (plan.home m.function) v) l.shows.zero l.shows.fits two three (omega arith) (omega arith) (λ c1 moved.
+      let run : Runs s plan.private to (back_code plan m.function g ++ (restore_code rs ++ result_code (plan.home m.function) v)) c (Went (with_result v result m.env)) =
+      runs_back s plan to m.function g below m.frame (restore_code rs ++ result_code (plan.home m.function) v) l.shows.zero l.shows.fits two three (omega arith) (omega arith) (λ c1 moved.
       runs_restore s plan variables fine to below rs (result_code (plan.home m.function) v) (λ q e. register_kept (plan.home m.function) (variables m.function) q kept_set e) moved.two (omega arith) moved.fits (λ i. rw (moved.words i) (l.shows.holds i)) (λ c2 restored.
       let h2 = back_again m (waiting_of v behind back m) l.base below c c1 c2 refl refl refl within (λ u e. scope u (front (behind u) (is v u) e) (rear (behind u) (is v u) e)) l.shows.zero l.shows.holds waits.7 calls waits.8 room l.depth l.addresses l.residents moved restored in
       finish m behind v result own answered h2 apart (λ x e. restored.others 6 (among_not (plan.home m.function) (variables m.function) 6 kept_set refl) ∙ (moved.others 6 (omega arith) (omega arith) (omega arith) ∙ l.given x e)))) in
       run.from back small at p l.shows
     where
+      -- a bare function has left x2 where it was
+      returned : (bare : Bool) (base below words : ℕ) → base ≡ below + words → (if bare then base - words else base) ≡ (if bare then below else below + words)
+      returned true base below words e = omega arith
+      returned false base below words e = e
+
       front : (a b : Bool) → (a && not b) ≡ true → a ≡ true
       front true b e = refl
       front false b e = absurd cc

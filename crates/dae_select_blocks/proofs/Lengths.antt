@@ -371,16 +371,20 @@ less_short r n =
     let l = number_short 5 n in let both = length-append (number_code 5 n) (Sub r r 5 ∷ []) in
     either_short (nat_eq n 0) _ _ 3 (omega arith) (either_short (is_immediate (minus 0 n)) _ (number_code 5 n ++ Sub r r 5 ∷ []) 3 (omega arith) (omega arith))
 
-deeper_short : (plan : Plan) (f : ℕ) → length (deeper_code plan f) ≤ 6
-deeper_short plan f =
-    let l1 = more_short 3 (plan.frame f % 2 ^ 32) in let l2 = more_short 2 (4 * plan.words f) in
-    let both = length-append (more_code 3 (plan.frame f % 2 ^ 32)) (more_code 2 (4 * plan.words f)) in
+deeper_short : (plan : Plan) (f g : ℕ) → length (deeper_code plan f g) ≤ 6
+deeper_short plan f g =
+    let own : List Inst = if plan.bare g then [] else more_code 2 (4 * plan.words f) in
+    let l1 = more_short 3 (plan.frame f % 2 ^ 32) in
+    let l2 = either_short (plan.bare g) [] (more_code 2 (4 * plan.words f)) 3 (omega arith) (more_short 2 (4 * plan.words f)) in
+    let both = length-append (more_code 3 (plan.frame f % 2 ^ 32)) own in
     omega arith
 
-returning_short : (plan : Plan) (f : ℕ) → length (back_code plan f) ≤ 6
-returning_short plan f =
-    let l1 = less_short 3 (plan.frame f % 2 ^ 32) in let l2 = less_short 2 (4 * plan.words f) in
-    let both = length-append (less_code 3 (plan.frame f % 2 ^ 32)) (less_code 2 (4 * plan.words f)) in
+returning_short : (plan : Plan) (f g : ℕ) → length (back_code plan f g) ≤ 6
+returning_short plan f g =
+    let own : List Inst = if plan.bare g then [] else less_code 2 (4 * plan.words f) in
+    let l1 = less_short 3 (plan.frame f % 2 ^ 32) in
+    let l2 = either_short (plan.bare g) [] (less_code 2 (4 * plan.words f)) 3 (omega arith) (less_short 2 (4 * plan.words f)) in
+    let both = length-append (less_code 3 (plan.frame f % 2 ^ 32)) own in
     omega arith
 
 -- the address to return to takes an instruction where it isn't a leaf's, and on A the depth another
@@ -397,23 +401,23 @@ return_short false false = omega arith
 pub entry_short : (plan : Plan) (g : ℕ) → length (entry_code plan g) ≤ 2
 entry_short plan g = prologue_short plan.by_a (plan.leaf g)
 
-pub prepared_short : (plan : Plan) (variables : ℕ → ℕ) (f g : ℕ) (xs : List Argument) (live : VariableSet) → length (arguments_code plan f g xs ++ (save_code (registers_in (plan.home f) (variables f) live) ++ (parameters_code plan f g xs ++ deeper_code plan f))) ≤ 24 + 6 * length xs
+pub prepared_short : (plan : Plan) (variables : ℕ → ℕ) (f g : ℕ) (xs : List Argument) (live : VariableSet) → length (arguments_code plan f g xs ++ (save_code (registers_in (plan.home f) (variables f) live) ++ (parameters_code plan f g xs ++ deeper_code plan f g))) ≤ 24 + 6 * length xs
 prepared_short plan variables f g xs live =
     let rs : List ℕ = registers_in (plan.home f) (variables f) live in
     let a = arguments_short plan f g xs in let c = saved_short (plan.home f) (variables f) live in
-    let d = deeper_short plan f in
-    let l1 = length-append (arguments_code plan f g xs) (save_code rs ++ (parameters_code plan f g xs ++ deeper_code plan f)) in
-    let l2 = length-append (save_code rs) (parameters_code plan f g xs ++ deeper_code plan f) in
-    let l3 = length-append (parameters_code plan f g xs) (deeper_code plan f) in
+    let d = deeper_short plan f g in
+    let l1 = length-append (arguments_code plan f g xs) (save_code rs ++ (parameters_code plan f g xs ++ deeper_code plan f g)) in
+    let l2 = length-append (save_code rs) (parameters_code plan f g xs ++ deeper_code plan f g) in
+    let l3 = length-append (parameters_code plan f g xs) (deeper_code plan f g) in
     omega arith
 
-pub resumed_short : (plan : Plan) (variables : ℕ → ℕ) (f : ℕ) (v : Option ℕ) (live : VariableSet) → length (back_code plan f ++ (restore_code (registers_in (plan.home f) (variables f) live) ++ result_code (plan.home f) v)) ≤ 28
-resumed_short plan variables f v live =
+pub resumed_short : (plan : Plan) (variables : ℕ → ℕ) (f g : ℕ) (v : Option ℕ) (live : VariableSet) → length (back_code plan f g ++ (restore_code (registers_in (plan.home f) (variables f) live) ++ result_code (plan.home f) v)) ≤ 28
+resumed_short plan variables f g v live =
     let rs : List ℕ = registers_in (plan.home f) (variables f) live in
     let c = restored_short (plan.home f) (variables f) live in
-    let d = returning_short plan f in
+    let d = returning_short plan f g in
     let e = result_short (plan.home f) v in
-    let l1 = length-append (restore_code rs) (result_code (plan.home f) v) in let l2 = length-append (back_code plan f) (restore_code rs ++ result_code (plan.home f) v) in
+    let l1 = length-append (restore_code rs) (result_code (plan.home f) v) in let l2 = length-append (back_code plan f g) (restore_code rs ++ result_code (plan.home f) v) in
     omega arith
   where
     result_short : (home : ℕ → Home) (v : Option ℕ) → length (result_code home v) ≤ 4

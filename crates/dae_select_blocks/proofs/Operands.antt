@@ -26,7 +26,7 @@ use Rattle.dae_select_blocks.proofs.Halves.{halves, immediate_word}
 use Rattle.dae_select_blocks.proofs.Plain.{computes, put_same, put_other}
 use Rattle.dae_select_blocks.proofs.Frames.{upper_small, runs_number, runs_load, runs_store}
 use Rattle.dae_select_blocks.proofs.Runs.{Runs, runs_quiet}
-use Rattle.dae_select_blocks.proofs.Agreement.{Ready, Like, Gets, home_register, frame_inside}
+use Rattle.dae_select_blocks.proofs.Agreement.{Ready, Like, Gets, home_register, frame_inside, slot_framed, own_frame}
 
 -- a scratch register that a block may use: not one that other code reads
 abbrev pub IsWork : ℕ → Type 0
@@ -92,7 +92,7 @@ module _ (s : Setting) (plan : Plan) (variables : ℕ → ℕ) (fine : Fits s pl
           let slot : i < variables m.function = rw e at good in
           let base : ℕ = h.agrees.base in
           let w : ℕ = c.word (base + slot_at i) in
-          runs_load s plan.private to base r (slot_at i) is h.agrees.pointer (λ same. work.2 (sym same)) work.0 work.1 (omega arith) fine.private
+          runs_load s plan.private to base r (slot_at i) is (own_frame s plan variables fine h (slot_framed s plan variables fine m.function v i e)) (λ same. work.2 (sym same)) work.0 work.1 (omega arith) fine.private
           (run (put r w c) (like_put r w c (h.small (base + slot_at i)) h.fits) (rw e (put_same r w c work.0 work.1 ∙ (rw e at a))))
 
   -- an operand of the moment goes into t, whatever t is: what writes t adds its immediate to a plain register, and the sum is the operand's value
@@ -165,12 +165,12 @@ module _ (s : Setting) (plan : Plan) (variables : ℕ → ℕ) (fine : Fits s pl
       one (Slot j) is other = word_other (base + slot_at j) (λ same. (let e : j ≡ i = omega arith in other (ap Slot e)))
 
   -- a result in its register, or in x5, goes home
-  pub runs_keep : {live : VariableSet} {m : Moment} {c : Contents} {d : Deed} (home : Home) (x : ℕ) (is : List Inst) (h : Ready plan live m c) → IsHome (variables m.function) home → x < 2 ^ 32 →
+  pub runs_keep : {live : VariableSet} {m : Moment} {c : Contents} {d : Deed} (home : Home) (x : ℕ) (is : List Inst) (h : Ready plan live m c) → IsHome (variables m.function) home → ((i : ℕ) → home ≡ Slot i → plan.bare m.function ≡ false) → x < 2 ^ 32 →
       ((c' : Contents) → Gets s plan variables fine (variables m.function) h.agrees.base home x c c' → Runs s plan.private to is c' d) → Runs s plan.private to (keep home ++ is) (put (register_or 5 home) x c) d
-  runs_keep {m = m} {c = c} (Register r) x is h good fits run = run (put r x c) (gets_register (variables m.function) h.agrees.base r x c good fits h.fits h.small)
-  runs_keep {m = m} {c = c} (Slot i) x is h good fits run =
+  runs_keep {m = m} {c = c} (Register r) x is h good framed fits run = run (put r x c) (gets_register (variables m.function) h.agrees.base r x c good fits h.fits h.small)
+  runs_keep {m = m} {c = c} (Slot i) x is h good framed fits run =
       let inside = frame_inside s plan variables fine h in
       let is_words = fine.words m.function in
       let base : ℕ = h.agrees.base in
-      runs_store s plan.private to base 5 (slot_at i) is h.agrees.pointer (omega arith) (omega arith) (omega arith) fine.private
+      runs_store s plan.private to base 5 (slot_at i) is (own_frame s plan variables fine h (framed i refl)) (omega arith) (omega arith) (omega arith) fine.private
       (λ u l. run (store (base + slot_at i) x (put 7 u (put 5 x c))) (gets_slot (variables m.function) base i x u c fits l h.fits h.small)) (h.fits 7)

@@ -40,10 +40,10 @@ module _ (short : Bool) (plan : Plan) (variables : ℕ → ℕ) (f : ℕ) where
   call_length : (v : Option ℕ) (g : ℕ) (xs : List Argument) (k : VariableSet) → length (call_code plan variables f v g xs k) ≤ 56 + 6 * length xs
   call_length v g xs k =
       let rs = registers_in (plan.home f) (variables f) k in
-      let A = arguments_code plan f g xs in let B = save_code rs in let D = deeper_code plan f in let E = enter_code plan.near (plan.entry g) in
-      let R = back_code plan f ++ (restore_code rs ++ result_code (plan.home f) v) in
+      let A = arguments_code plan f g xs in let B = save_code rs in let D = deeper_code plan f g in let E = enter_code plan.near (plan.entry g) in
+      let R = back_code plan f g ++ (restore_code rs ++ result_code (plan.home f) v) in
       let before' = prepared_short plan variables f g xs k in
-      let after' = resumed_short plan variables f v k in
+      let after' = resumed_short plan variables f g v k in
       let P = parameters_code plan f g xs in
       let one = length-append A (B ++ (P ++ (D ++ (E ++ R)))) in
       let two = length-append B (P ++ (D ++ (E ++ R))) in

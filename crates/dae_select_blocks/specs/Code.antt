@@ -54,8 +54,8 @@ registers_in home variables live = filtered (λ r. some_below variables (λ v. l
 
 abbrev pub call_code : Plan → (ℕ → ℕ) → ℕ → Option ℕ → ℕ → List Argument → VariableSet → List Inst
 call_code plan variables f v g xs live =
-    arguments_code plan f g xs ++ (save_code (registers_in (plan.home f) (variables f) live) ++ (parameters_code plan f g xs ++ (deeper_code plan f ++ (enter_code plan.near (plan.entry g)
-    ++ (back_code plan f ++ (restore_code (registers_in (plan.home f) (variables f) live) ++ result_code (plan.home f) v))))))
+    arguments_code plan f g xs ++ (save_code (registers_in (plan.home f) (variables f) live) ++ (parameters_code plan f g xs ++ (deeper_code plan f g ++ (enter_code plan.near (plan.entry g)
+    ++ (back_code plan f g ++ (restore_code (registers_in (plan.home f) (variables f) live) ++ result_code (plan.home f) v))))))
 
 -- the block of an action in the function f, behind which these variables are live, with the jumps to where a Break goes and a
 -- Continue

@@ -1,10 +1,10 @@
--- When a plan fits a processor: homes in their ranges, frames as long as the homes need, numbers that don't wrap, and registers
--- for numbers that are no variable's.
-use Rattle.std.specs.Prelude.{◌≡◌, ◌≢◌, ℕ, ◌^◌, ◌≤◌, ◌<◌, length, Some}
+-- When a plan fits a processor: homes in their ranges, frames as long as the homes need, none needed where there is none, numbers that
+-- don't wrap, and registers for numbers that are no variable's.
+use Rattle.std.specs.Prelude.{◌≡◌, ◌≢◌, ℕ, ◌^◌, ◌≤◌, ◌<◌, true, length, Some}
 use Rattle.std.specs.List.{AllByRecursion}
 use Rattle.dae_ir.specs.Programs.{side}
 use Rattle.dae_select_walks.specs.Walks.{Setting}
-use Rattle.dae_select_walks.specs.declared.Home.TheVariants.{Register}
+use Rattle.dae_select_walks.specs.declared.Home.TheVariants.{Register, Slot}
 use Rattle.dae_select_walks.specs.Homes.{IsHome, frame_words, number_key, resident_home, resident_register}
 use Rattle.dae_select_walks.specs.Agrees.{Plan}
 
@@ -21,4 +21,6 @@ pub record Fits (s : Setting) (plan : Plan) (variables : ℕ → ℕ) : Type 0 w
   pub residents : (f n : ℕ) → plan.home f (number_key n) ≡ resident_home 27 plan.residents n
   pub apart : (f v n r : ℕ) → v < variables f → resident_register (resident_home 27 plan.residents n) ≡ Some r → plan.home f v ≢ Register r
   pub few : length plan.residents ≤ 3
+  pub leaves : (f : ℕ) → plan.bare f ≡ true → plan.leaf f ≡ true
+  pub bare : (f v i : ℕ) → plan.bare f ≡ true → plan.home f v ≢ Slot i
   pub small : AllByRecursion (λ n. n < 2 ^ 32) plan.residents

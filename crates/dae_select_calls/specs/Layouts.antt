@@ -33,6 +33,10 @@ abbrev pub leaf_at : Option FunctionLayout → Bool
 leaf_at None = false
 leaf_at (Some layout) = layout.leaf
 
+abbrev pub bare_at : Option FunctionLayout → Bool
+bare_at None = false
+bare_at (Some layout) = layout.bare
+
 abbrev pub variables_of : Layouts → ℕ → ℕ
 variables_of all f = variables_at (slice_get all.functions f)
 
@@ -46,6 +50,7 @@ plan_of all = record {
   words = λ f. frame_words (variables_at (slice_get all.functions f));
   frame = λ f. frame_at (slice_get all.functions f);
   leaf = λ f. leaf_at (slice_get all.functions f);
+  bare = λ f. bare_at (slice_get all.functions f);
   near = is_jalr all.calls;
   finish = all.finish;
   largest = all.largest;

@@ -2,16 +2,14 @@
 
 ghost use Rattle.std.specs.Prelude.{◌≡◌, ◌+◌, ◌++◌, ◌∷◌, [], pos, ◌^◌, ◌%◌, ◌&&◌, nat_lt, IfOk, OnOk};
 ghost use Rattle.dae_encode.specs.declared.Inst.TheVariants.{Jalr};
-ghost use Rattle.dae_select_blocks.specs.Blocks.{is_register, save_code, restore_code, deeper_code, back_code, result_code, count_code, prologue_code, epilogue_code, leave_code};
+ghost use Rattle.dae_select_blocks.specs.Blocks.{is_register, save_code, restore_code, more_code, less_code, deeper_code, back_code, result_code, count_code, prologue_code, epilogue_code, leave_code};
 ghost use Rattle.dae_select_blocks.specs.Code.{some_below, filtered, registers_in, call_code};
-ghost use Rattle.dae_select_calls.specs.Layouts.{plan_of, AreSmall};
 ghost use Rattle.dae_select_calls.specs.Makings.{plan_by, variables_by, IsSound};
 ghost use Rattle.dae_select_walks.specs.Live.{with_all};
 ghost use Rattle.dae_select_values.specs.Sides.{is_a};
 ghost use Rattle.dae_select_values.specs.Tables.{AreNear, home_by};
 ghost use Rattle.dae_select_live.specs.Members.{member};
 
-use crate::layouts::Layouts;
 use crate::making::Making;
 use crate::passing::{arguments_code, kept_at, parameters_code};
 use dae_base::Side;
@@ -141,24 +139,60 @@ fn low_word(frame: u64) -> u32
     (frame % 4_294_967_296) as u32
 }
 
-/// The frames of the function that is called follow the caller's.
-fn deeper_code(code: &mut Vec<Inst>, layouts: &Layouts, function: u32) -> Result<(), AllocError>
-    requires { AreSmall layouts.now }
+/// The private frame of the function that is called follows the caller's, unless it has none.
+fn own_deeper_code(code: &mut Vec<Inst>, making: &Making, callee: u32) -> Result<(), AllocError>
+    requires { IsSound making.now }
     ensures { OnOk result (code.new.items ≡ code.old.items
-        ++ deeper_code (plan_of layouts.now) function) }
+        ++ (if (plan_by making.now).bare callee then []
+        else more_code 2 (4 * (plan_by making.now).words making.now.function))) }
 {
-    more_code(code, 3, low_word(layouts.frame(function)))?;
-    more_code(code, 2, 4 * (19 + layouts.variables(function)))
+    if making.layouts.bare(callee) {
+        Ok(())
+    } else {
+        more_code(
+            code,
+            2,
+            4 * (19 + making.layouts.variables(making.function)),
+        )
+    }
+}
+
+/// It is given up again.
+fn own_back_code(code: &mut Vec<Inst>, making: &Making, callee: u32) -> Result<(), AllocError>
+    requires { IsSound making.now }
+    ensures { OnOk result (code.new.items ≡ code.old.items
+        ++ (if (plan_by making.now).bare callee then []
+        else less_code 2 (4 * (plan_by making.now).words making.now.function))) }
+{
+    if making.layouts.bare(callee) {
+        Ok(())
+    } else {
+        less_code(
+            code,
+            2,
+            4 * (19 + making.layouts.variables(making.function)),
+        )
+    }
+}
+
+/// The frames of the function that is called follow the caller's.
+fn deeper_code(code: &mut Vec<Inst>, making: &Making, callee: u32) -> Result<(), AllocError>
+    requires { IsSound making.now }
+    ensures { OnOk result (code.new.items ≡ code.old.items
+        ++ deeper_code (plan_by making.now) making.now.function callee) }
+{
+    more_code(code, 3, low_word(making.layouts.frame(making.function)))?;
+    own_deeper_code(code, making, callee)
 }
 
 /// The frames are given up again.
-fn back_code(code: &mut Vec<Inst>, layouts: &Layouts, function: u32) -> Result<(), AllocError>
-    requires { AreSmall layouts.now }
+fn back_code(code: &mut Vec<Inst>, making: &Making, callee: u32) -> Result<(), AllocError>
+    requires { IsSound making.now }
     ensures { OnOk result (code.new.items ≡ code.old.items
-        ++ back_code (plan_of layouts.now) function) }
+        ++ back_code (plan_by making.now) making.now.function callee) }
 {
-    less_code(code, 3, low_word(layouts.frame(function)))?;
-    less_code(code, 2, 4 * (19 + layouts.variables(function)))
+    less_code(code, 3, low_word(making.layouts.frame(making.function)))?;
+    own_back_code(code, making, callee)
 }
 
 fn result_code(
@@ -206,9 +240,9 @@ pub fn call_code(
     let registers = registers_in(making.alloc, making.homes, variables, live)?;
     save_code(code, registers.as_slice())?;
     parameters_code(code, making, callee.function, arguments)?;
-    deeper_code(code, layouts, making.function)?;
+    deeper_code(code, making, callee.function)?;
     enter_code(code, layouts.calls, layouts.entry(callee.function))?;
-    back_code(code, layouts, making.function)?;
+    back_code(code, making, callee.function)?;
     restore_code(code, registers.as_slice())?;
     result_code(code, making.homes, callee.result)
 }

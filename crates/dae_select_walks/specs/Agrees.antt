@@ -11,10 +11,10 @@ use Rattle.dae_select_walks.specs.Homes.{Contents, held, kept, resident_home, re
 use Rattle.dae_select_walks.specs.declared.Home.{Home}
 
 -- what is settled before the code runs: the side, the number of functions and their homes; of each function the words at which it is entered and at which its actions
--- begin, the words of its private frame, the bytes of its frame in common memory, and whether it is a leaf, which makes no
--- call; whether one instruction enters them all; the word that main returns to; the most
--- words of a private frame and the words of private memory; the call limit; the size of common memory; and the numbers that stay
--- in registers
+-- begin, the words of its private frame, the bytes of its frame in common memory, whether it is a leaf, which makes no
+-- call, and whether it is bare, a leaf that needs no word of its private frame; whether one instruction enters them all; the word that
+-- main returns to; the most words of a private frame and the words of private memory; the call limit; the size of common memory; and
+-- the numbers that stay in registers
 pub record Plan : Type 0 where
   pub by_a : Bool
   pub functions : ℕ
@@ -24,6 +24,7 @@ pub record Plan : Type 0 where
   pub words : ℕ → ℕ
   pub frame : ℕ → ℕ
   pub leaf : ℕ → Bool
+  pub bare : ℕ → Bool
   pub near : Bool
   pub finish : ℕ
   pub largest : ℕ
@@ -72,6 +73,16 @@ AreResident plan c = (n r : ℕ) → resident_register (resident_home 27 plan.re
 abbrev pub return_address : Plan → ℕ → Contents → ℕ → ℕ
 return_address plan f c base = if plan.leaf f then c.register 1 else c.word base
 
+-- the words of the private frame of the call that waits first
+abbrev pub words_below : Plan → List Waiting → ℕ
+words_below plan [] = 0
+words_below plan (w ∷ ws) = plan.words w.function
+
+-- where x2 points in a function whose frame would begin at a word, above these calls: a bare one leaves it where the frame of the first
+-- of them begins
+abbrev pub pointed : Plan → ℕ → List Waiting → ℕ → ℕ
+pointed plan f ws base = if plan.bare f then base - words_below plan ws else base
+
 -- what A has counted in a function at a depth: a leaf isn't counted
 abbrev pub counted_depth : Plan → ℕ → ℕ → ℕ
 counted_depth plan f depth = if plan.leaf f then depth - 1 else depth
@@ -88,7 +99,7 @@ AreWaiting plan c address base frame (w ∷ ws) =
 pub record Agrees (plan : Plan) (live : VariableSet) (m : Moment) (c : Contents) : Type 0 where
   pub base : ℕ
   pub variables : AreIn (held c base) (plan.home m.function) live m.env
-  pub pointer : c.register 2 ≡ 4 * base
+  pub pointer : c.register 2 ≡ 4 * pointed plan m.function m.waiting base
   pub frame : c.register 3 ≡ m.frame
   pub depth : plan.by_a ≡ true → c.register 10 ≡ counted_depth plan m.function (depth_of m)
   pub addresses : plan.by_a ≡ true → c.register 4 ≡ plan.memory - 16

@@ -23,7 +23,7 @@ use Rattle.dae_select_walks.specs.Does.{Does, event}
 use Rattle.dae_select_walks.specs.Live.{Ways, ways, behind, live, is, turn, step_ways}
 use Rattle.dae_select_walks.specs.Facts.{Facts, Hold, facts_behind, facts_in_first, facts_in_second, facts_past_if, facts_at_turn, facts_at_step, facts_past_loop}
 use Rattle.dae_select_walks.specs.Homes.{Contents}
-use Rattle.dae_select_walks.specs.Agrees.{Plan, Moment, Waiting, depth_of, top_of, IsWithin, AreWaiting, AreResident, Shows, Stands}
+use Rattle.dae_select_walks.specs.Agrees.{Plan, Moment, Waiting, depth_of, top_of, pointed, IsWithin, AreWaiting, AreResident, Shows, Stands}
 
 -- where code goes on, as a word of the code; what is live there of what the processor holds; and how that stands to the moment
 pub record Exit : Type 0 where
@@ -74,13 +74,13 @@ MainEnds true y env D = D Plainly
 MainEnds false (Some x) env D = D (WithStatus (value x env))
 MainEnds false None env D = Unit {0}
 
--- a call has returned to the one that waits, with its result in x6: the processor stands just behind the jump
-pub record Lands (plan : Plan) (w : Waiting) (ws : List Waiting) (result : Option ℕ) (p : Processor) : Type 0 where
+-- a call of a function has returned to the one that waits, with its result in x6: the processor stands just behind the jump
+pub record Lands (plan : Plan) (f : ℕ) (w : Waiting) (ws : List Waiting) (result : Option ℕ) (p : Processor) : Type 0 where
   pub contents : Contents
   pub shows : Shows plan.private contents w.back p
   pub base : ℕ
   pub frame : ℕ
-  pub pointer : contents.register 2 ≡ 4 * base
+  pub pointer : contents.register 2 ≡ 4 * pointed plan f (w ∷ ws) base
   pub begins : contents.register 3 ≡ frame
   pub low : frame ≤ plan.memory
   pub depth : plan.by_a ≡ true → contents.register 10 ≡ length ws + 1
@@ -154,12 +154,12 @@ module _ (s : Setting) (plan : Plan) (program : Program) (entries : ℕ → Vari
       (back : ℕ)
       × ((m : Moment) (p : Processor) → At f here m p → IsWithin plan (called plan g xs (waiting_of v next.live back m) m)
       → Comes s (widest + 6 * length xs) p (At g (exit (plan.start g) (entries g)) (called plan g xs (waiting_of v next.live back m) m)))
-      × ((m : Moment) (result : Option ℕ) (p : Processor) → m.function ≡ f → IsWithin plan m → IsAnswered v result → Lands plan (waiting_of v next.live back m) m.waiting result p
+      × ((m : Moment) (result : Option ℕ) (p : Processor) → m.function ≡ f → IsWithin plan m → IsAnswered v result → Lands plan g (waiting_of v next.live back m) m.waiting result p
       → Comes s (3 * most) p (At f next (with_env (with_result v result m.env) m)))
   ActionDone f known (Return y) here next x =
       (m : Moment) (p : Processor) → At f here m p
       → ((m.waiting ≡ []) → MainEnds plan.by_a y m.env (λ quit. Does s most (Halts quit) (λ env q. ⊥) p))
-      × ((w : Waiting) (ws : List Waiting) → m.waiting ≡ w ∷ ws → Comes s most p (Lands plan w ws (result_of y m.env)))
+      × ((w : Waiting) (ws : List Waiting) → m.waiting ≡ w ∷ ws → Comes s most p (Lands plan f w ws (result_of y m.env)))
   ActionDone f known a here next x =
       (m : Moment) (w : World) (p : Processor) → At f here m p → IsWorldOf plan m w → Hold known m.env
       → Does s most (deed program plan.by_a a w m.env) (λ env. At f next (with_env env m)) p

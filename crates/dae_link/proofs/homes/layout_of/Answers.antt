@@ -8,6 +8,7 @@ use Rattle.dae_select_walks.specs.Live.{function_lives}
 use Rattle.dae_select_walks.specs.declared.Home.{Home}
 use Rattle.dae_regalloc.specs.Given.{AreFew, IsRegister}
 use Rattle.dae_regalloc.specs.Seen.{AreBelow, can_number}
+use Rattle.dae_link.specs.Settled.{is_frameless}
 use Rattle.dae_link.proofs.homes.layout_of.Goals as goal
 
 pub allocate-requires : goal.allocate-requires
@@ -32,6 +33,7 @@ returns-clause-layout c =
           (subst (λ (b : List Step). AreFew 18 (function_lives parameters (actions_of b)) → (v : ℕ) → IsRegister (home_in homes v)) c.as_slice.ensures c.in_ok-homes.ensures.registers);
       frame = refl;
       leaf = c.is_leaf_function.ensures;
+      bare = c.is_frameless-bare.ensures ∙ ap (is_frameless c.args.function.now) (c.as_slice-2.ensures.value ∙ sym c.from_vec.ensures);
       entry = refl;
     }
 
