@@ -7,7 +7,7 @@ ghost use Rattle.dae_select_calls.specs.Makings.{plan_by, IsSound};
 ghost use Rattle.dae_select_values.specs.Tables.{IsNear};
 ghost use Rattle.dae_select_walks.specs.Homes.{kept_at};
 
-use crate::layouts::Layouts;
+use crate::layouts::{Layouts, is_register};
 use crate::making::Making;
 use dae_encode::Inst;
 use dae_ir::{Argument, Operand};
@@ -25,15 +25,6 @@ pub fn kept_at(register: u8) -> u8
         register - 8
     } else {
         register - 9
-    }
-}
-
-fn is_register(register: u8, home: Home) -> bool
-    ensures { result ≡ is_register register home }
-{
-    match home {
-        Home::Register(other) => register == other,
-        Home::Slot(_) => false,
     }
 }
 
