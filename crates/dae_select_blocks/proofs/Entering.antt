@@ -97,7 +97,7 @@ module _ (s : Setting) (plan : Plan) (variables : ℕ → ℕ) (fine : Fits s pl
     where
       by : (home : Home) → IsHome (variables g) home → plan.home g u ≡ home → held c (base + b) home ≡ v
       by (Register t) good is = register t good is
-      by (Slot i) good is = let same : base + b + slot_at i ≡ base + (b + slot_at i) = omega arith in rw same (slot i is)
+      by (Slot i) good is = let same : base + b + slot_at i ≡ base + (b + slot_at i) = omega arith in subst (λ (n : ℕ). c.word n ≡ v) (sym same) (slot i is)
 
   pub prepares : {live : VariableSet} {m : Moment} {k : ℕ} {p : Processor} (v : Option ℕ) (behind : VariableSet) (g : ℕ) (xs : List Argument) (w : Waiting) (h : Stands plan live m k p) → w.live ≡ (λ u. behind u && not (is v u)) →
       ((u : ℕ) → in_arguments xs u ≡ true → live u ≡ true) → ((u : ℕ) → w.live u ≡ true → live u ≡ true) → ((u : ℕ) → live u ≡ true → u < variables m.function) → AreGiven xs → HaveHomes plan g (gives xs) → plan.leaf m.function ≡ false → IsWithin plan (called plan g xs w m) →

@@ -64,8 +64,8 @@ other_register : (given : ℕ → Home) (t : ℕ) (x : Argument) (xs : List Argu
 other_register given t x xs (Register r) b is e = turned (nat_eq r t) refl (not_one b (is_register r (given x.parameter)) (gives_register given xs r) e)
   where
     turned : (n : Bool) → nat_eq r t ≡ n → is_register r (given x.parameter) ≡ false → nat_eq t r ≡ false
-    turned false same no = grind (arith, nat_tests)
-    turned true same no = absurd (let yes : is_register r (given x.parameter) ≡ nat_eq r t = ap (is_register r) is in let both : true ≡ false = sym same ∙ (sym yes ∙ no) in cc)
+    turned false same other = grind (arith, nat_tests)
+    turned true same other = absurd (let told : is_register r (given x.parameter) ≡ nat_eq r t = ap (is_register r) is in let both : true ≡ false = sym same ∙ (sym told ∙ other) in cc)
 other_register given t x xs (Slot i) b is e = refl
 
 module _ (s : Setting) (plan : Plan) (variables : ℕ → ℕ) (fine : Fits s plan variables) (to : ℕ → Env → Processor → Type 0) where

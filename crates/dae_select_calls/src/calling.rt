@@ -1,11 +1,12 @@
 // The blocks of calls and returns, and the code that a function begins with.
 
-ghost use Rattle.std.specs.Prelude.{◌≡◌, ◌+◌, ◌++◌, ◌∷◌, [], pos, ◌^◌, ◌%◌, ◌&&◌, not, nat_lt, IfOk, OnOk};
+ghost use Rattle.std.specs.Prelude.{if◌then◌else◌, ◌≡◌, ◌+◌, ◌*◌, ◌++◌, ◌∷◌, [], pos, ◌^◌, ◌%◌, ◌&&◌, not, nat_lt, IfOk, OnOk};
 ghost use Rattle.dae_encode.specs.declared.Inst.TheVariants.{Jalr};
 ghost use Rattle.dae_select_blocks.specs.Blocks.{is_register, save_code, restore_code, more_code, less_code, deeper_code, back_code, result_code, count_code, prologue_code, epilogue_code, leave_code};
 ghost use Rattle.dae_select_blocks.specs.Code.{some_below, filtered, registers_in, call_code};
 ghost use Rattle.dae_select_calls.specs.Layouts.{plan_of};
 ghost use Rattle.dae_select_calls.specs.Makings.{plan_by, variables_by, kept_by, IsSound};
+ghost use Rattle.dae_select_calls.specs.Passing.{pass_code, resume_code};
 ghost use Rattle.dae_select_walks.specs.Live.{with_all};
 ghost use Rattle.dae_select_values.specs.Sides.{is_a};
 ghost use Rattle.dae_select_values.specs.Tables.{AreNear, home_by};
@@ -301,13 +302,15 @@ pub fn call_code(
     let layouts = making.layouts;
     arguments_code(code, making, callee.function, arguments)?;
     let registers = call_registers(making, callee.function, live)?;
-    save_code(code, registers.as_slice())?;
-    parameters_code(code, making, callee.function, arguments)?;
-    deeper_code(code, making, callee.function)?;
+    pass_code(
+        code,
+        making,
+        callee.function,
+        arguments,
+        registers.as_slice(),
+    )?;
     enter_code(code, layouts.calls, layouts.entry(callee.function))?;
-    back_code(code, making, callee.function)?;
-    restore_code(code, registers.as_slice())?;
-    result_code(code, making.homes, callee.result)
+    resume_code(code, making, callee, registers.as_slice())
 }
 
 /// A counts so much more.
