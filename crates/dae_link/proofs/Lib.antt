@@ -14,3 +14,4 @@ mod Ways
 mod Used
 mod Registers
 mod Mirroring
+mod Codes

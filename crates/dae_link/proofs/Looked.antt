@@ -108,7 +108,7 @@ right_at numbers (Some f) (Some l) is =
     among_right l.homes numbers l.variables (lives (actions_of f.body) nowhere) (omega arith) (rights (home_in l.homes) l.variables (lives (actions_of f.body) nowhere) is.homes.apart.1 is.inside.1)
 
 -- a leaf makes no call
-none_below_one : (n : ℕ) → nat_lt n 1 ≡ true → n ≡ 0
+pub none_below_one : (n : ℕ) → nat_lt n 1 ≡ true → n ≡ 0
 none_below_one n e = (let low : n < 1 = grind (arith, nat_tests) in omega arith)
 
 pub calls_at : (f : Option StreamFunction) (l : Option FunctionLayout) → IsLayoutAt f l → leaf_at l ≡ true → calls_in (body_in f) ≡ 0

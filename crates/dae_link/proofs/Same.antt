@@ -1,6 +1,6 @@
--- How long code is doesn't depend on the words at which functions are entered.
-use Rattle.std.proofs.Common.{◌≡◌, ℕ, ◌+◌, Bool, true, false, ◌||◌, List, [], ◌∷◌, ◌++◌, length, refl, ap, sym, ◌∙◌, length-append}
-use Rattle.std.specs.Prelude.{Option, if◌then◌else◌}
+-- How long code is doesn't depend on the words at which functions are entered, nor does code that makes no call.
+use Rattle.std.proofs.Common.{◌≡◌, ℕ, ◌+◌, Bool, true, false, ◌||◌, List, [], ◌∷◌, ◌++◌, length, refl, ap, sym, ◌∙◌, arith, length-append}
+use Rattle.std.specs.Prelude.{Option, Some, None, is_some, if◌then◌else◌}
 use Rattle.dae_encode.specs.declared.Inst.{Inst}
 use Rattle.dae_ir.specs.Code.{Done, Do, If, Loop}
 use Rattle.dae_ir.specs.Classes.{VariableSet}
@@ -18,10 +18,16 @@ use Rattle.dae_select_walks.specs.declared.Home.{Home}
 use Rattle.dae_select_walks.specs.declared.Home.TheVariants.{Register, Slot}
 use Rattle.dae_select_walks.specs.Agrees.{Plan}
 use Rattle.dae_select_blocks.specs.Blocks.{arguments_code, argument_code, save_code, deeper_code, check_code, enter_code, jump_words, jump_over, jump_back, argument_to, parameter_to, parameter_code, parameters_code}
-use Rattle.dae_select_blocks.specs.Sizes.{is_short}
+use Rattle.dae_select_blocks.specs.Sizes.{calls_in, is_short, one_call}
 use Rattle.dae_select_walks.specs.declared.Standing.{Standing}
 use Rattle.dae_select_walks.specs.declared.Standing.TheVariants.{Settled, Early, Late}
 use Rattle.dae_select_blocks.specs.Code.{registers_in, standing_behind, is_dead, needed_code, block_code, action_code, branch_code, does_nothing, past_code, call_code, back_branch, has_bottom, loop_code, bottom_code, code_of, function_code, entry_code, unspared}
+use Rattle.dae_select.specs.Grown.{Grown, acting, from_front, glue, in_front}
+use Rattle.dae_select.specs.Growing.{bottom_of, function_places, marked_code, marked_tail, turned, words_behind}
+use Rattle.dae_select.specs.declared.functions.FunctionCode.{FunctionCode}
+use Rattle.dae_select.specs.declared.making.PlacedBranch.{PlacedBranch}
+use Rattle.dae_select.proofs.Laws.{same_code}
+use Rattle.dae_link.specs.LeafCodes.{IsLeafCode}
 
 -- lists with parts that are as long are as long
 pub both_long : (xs xs' ys ys' : List Inst) → length xs ≡ length xs' → length ys ≡ length ys' → length (xs ++ ys) ≡ length (xs' ++ ys')
@@ -38,6 +44,17 @@ back_long false m n = refl
 pub enter_same : (near : Bool) (v w : ℕ) → length (enter_code near v) ≡ length (enter_code near w)
 enter_same true v w = refl
 enter_same false v w = refl
+
+-- what is nothing with something else is nothing
+first_none : (m n : ℕ) → m + n ≡ 0 → m ≡ 0
+first_none m n h = omega (arith, h)
+
+rest_none : (m n : ℕ) → m + n ≡ 0 → n ≡ 0
+rest_none m n h = omega (arith, h)
+
+either_same : (c : Bool) (x x' y y' : Grown) → x ≡ x' → y ≡ y' → (if c then x else y) ≡ (if c then x' else y')
+either_same true x x' y y' e h = e
+either_same false x x' y y' e h = h
 
 -- the plan with the functions at other words
 abbrev pub at_words : Plan → (ℕ → ℕ) → (ℕ → ℕ) → ℕ → Plan
@@ -212,3 +229,133 @@ module _ (p : Plan) (entry start : ℕ → ℕ) (finish : ℕ) (variables : ℕ 
 
   pub function_long : (code : Actions) → length (function_code q variables f code) ≡ length (function_code p variables f code)
   function_long code = both_long (entry_code p f) (entry_code p f) _ _ refl (code_long (is_short code) Settled unknown code nowhere 0 0 0 0)
+
+  -- ---- what makes no call
+
+  action_same : (a : Action) (k : VariableSet) (l s : List Inst) → one_call a ≡ 0 → action_code q variables f a k l s ≡ action_code p variables f a k l s
+  action_same (Compute v x) k l s h = refl
+  action_same (Issue kind x) k l s h = refl
+  action_same (Own v kind x) k l s h = refl
+  action_same (Receive v) k l s h = refl
+  action_same (Address width x) k l s h = refl
+  action_same (Datum x) k l s h = refl
+  action_same (Offer v) k l s h = refl
+  action_same (Accept v) k l s h = refl
+  action_same (Emit spelling x) k l s h = refl
+  action_same (Probe check) k l s h = check_same check
+  action_same (Tell x) k l s h = refl
+  action_same (Hear only) k l s h = refl
+  action_same (Stop x) k l s h = refl
+  action_same Break k l s h = refl
+  action_same Continue k l s h = refl
+  action_same (Call v g xs) k l s h = absurd (let no : 1 ≡ 0 = h in omega (arith, no))
+  action_same (Return x) k l s h = refl
+
+  needed_same : (need : Need) (a : Action) (k : VariableSet) (l s : List Inst) → one_call a ≡ 0 → needed_code q variables f need a k l s ≡ needed_code p variables f need a k l s
+  needed_same Nothing a k l s h = refl
+  needed_same Ends a k l s h = refl
+  needed_same All a k l s h = action_same a k l s h
+
+  block_same : (need : Need) (g : Standing) (a : Action) (g' : Standing) (k : VariableSet) (l s : List Inst) → one_call a ≡ 0 → block_code q variables f need g a g' k l s ≡ block_code p variables f need g a g' k l s
+  block_same need Settled a Settled k l s h = ap (λ (is : List Inst). if is_dead a k then [] else is) (needed_same need a k l s h)
+  block_same need Settled a (Early v x) k l s h = refl
+  block_same need Settled a (Late v x) k l s h = refl
+  block_same need (Early v x) a g' k l s h = refl
+  block_same need (Late v x) a g' k l s h = refl
+
+  module _ (short : Bool) where
+    -- a loop, from its parts
+    abbrev loop_of : Option PlacedBranch → (ℕ → ℕ → Grown) → (ℕ → ℕ → Grown) → (ℕ → ℕ → Grown) → Grown → Grown
+    loop_of test tail body step rest =
+        let words = words_behind (p.home f) short test in
+        let again = step words 0 in
+        let to = length again.code + words in
+        turned (p.home f) short test (if is_some test then tail to 0 else body to 0) again rest
+
+    looped_same : (test : Option PlacedBranch) (tail tail' body body' step step' : ℕ → ℕ → Grown) (rest rest' : Grown)
+        → ((l s : ℕ) → tail l s ≡ tail' l s) → ((l s : ℕ) → body l s ≡ body' l s) → ((l s : ℕ) → step l s ≡ step' l s) → rest ≡ rest'
+        → loop_of test tail body step rest ≡ loop_of test tail' body' step' rest'
+    looped_same test tail tail' body body' step step' rest rest' same_tail same_body same_step same_rest =
+        let words = words_behind (p.home f) short test in
+        let turn' : ℕ → Grown = λ to. if is_some test then tail' to 0 else body' to 0 in
+        let again = step words 0 in let again' = step' words 0 in
+        let to = length again.code + words in
+        let turn = if is_some test then tail to 0 else body to 0 in
+        let e : again ≡ again' = same_step words 0 in
+        let h : turn ≡ turn' (length again'.code + words) = either_same (is_some test) (tail to 0) (tail' to 0) (body to 0) (body' to 0) (same_tail to 0) (same_body to 0) ∙ ap (λ (z : Grown). turn' (length z.code + words)) e in
+        ap (λ (z : Grown). turned (p.home f) short test turn again z) same_rest
+        ∙ ap (λ (z : Grown). turned (p.home f) short test turn z rest') e
+        ∙ ap (λ (z : Grown). turned (p.home f) short test z again' rest') h
+
+    mutual
+      marked_same : (g : Standing) (known : Facts) (code : Actions) (x : Ways) → calls_in code ≡ 0 → (l s : ℕ) → marked_code short q variables f g known code x l s ≡ marked_code short p variables f g known code x l s
+      marked_same g known Done x none l s = refl
+      marked_same g known (Do m a k) x none l s =
+          let need = need_of p.memory known a k in let next = standing_behind a k x in let after = facts_behind p.memory a known in
+          let rest = marked_code short q variables f next after k x l s in
+          let block : Grown → List Inst = λ z. block_code p variables f need g a next (live k x) (jump_over short (length z.code + l)) (jump_over short (length z.code + s)) in
+          ap (λ (is : List Inst). in_front (acting m.place is) rest) (block_same need g a next (live k x) (jump_over short (length rest.code + l)) (jump_over short (length rest.code + s)) (first_none (one_call a) (calls_in k) none))
+          ∙ ap (λ (z : Grown). in_front (acting m.place (block z)) z) (marked_same next after k x (rest_none (one_call a) (calls_in k) none) l s)
+      marked_same g known (If m b c d k) x none l s =
+          let lists = rest_none 0 (calls_in c + (calls_in d + calls_in k)) none in
+          let behind_first = rest_none (calls_in c) (calls_in d + calls_in k) lists in
+          let y = behind (live k x) x in let nothing = does_nothing c in
+          let C = facts_in_first b known in let D = facts_in_second b known in let K = facts_past_if b c d known in
+          let past : ℕ → List Inst = past_code short (nothing || does_nothing d) in
+          let far : Grown → Grown → ℕ = λ v r. length (past (length v.code)) + length v.code + length r.code in
+          let whole : Grown → Grown → Grown → Grown = λ u v r.
+          in_front (acting m.place (branch_code (p.home f) short b nothing (if nothing then length v.code else length u.code + length (past (length v.code))))) (in_front u (in_front (glue (past (length v.code))) (in_front v r))) in
+          let rest = marked_code short q variables f Settled K k x l s in let rest' = marked_code short p variables f Settled K k x l s in
+          let e : rest ≡ rest' = marked_same Settled K k x (rest_none (calls_in d) (calls_in k) behind_first) l s in
+          let second = marked_code short q variables f Settled D d y (length rest.code + l) (length rest.code + s) in
+          let second' = marked_code short p variables f Settled D d y (length rest'.code + l) (length rest'.code + s) in
+          let h : second ≡ second' =
+          marked_same Settled D d y (first_none (calls_in d) (calls_in k) behind_first) (length rest.code + l) (length rest.code + s)
+          ∙ ap (λ (z : Grown). marked_code short p variables f Settled D d y (length z.code + l) (length z.code + s)) e in
+          let n = far second rest in
+          let first = marked_code short q variables f Settled C c y (n + l) (n + s) in
+          let first' = marked_code short p variables f Settled C c y (far second' rest' + l) (far second' rest' + s) in
+          let i : first ≡ first' =
+          marked_same Settled C c y (first_none (calls_in c) (calls_in d + calls_in k) lists) (n + l) (n + s)
+          ∙ ap (λ (z : Grown). marked_code short p variables f Settled C c y (far z rest + l) (far z rest + s)) h
+          ∙ ap (λ (z : Grown). marked_code short p variables f Settled C c y (far second' z + l) (far second' z + s)) e in
+          ap (λ (z : Grown). whole first second z) e ∙ ap (λ (z : Grown). whole first z rest') h ∙ ap (λ (z : Grown). whole z second' rest') i
+      marked_same g known (Loop m body step k) x none l s =
+          let behind_turn = rest_none (calls_in body) (calls_in step + calls_in k) none in
+          let in_body = first_none (calls_in body) (calls_in step + calls_in k) none in
+          let in_step = first_none (calls_in step) (calls_in k) behind_turn in
+          let y = body_ways body step (live k x) in let z = step_ways body step (live k x) in
+          let T = facts_at_turn p.memory body step known in let S = facts_at_step p.memory body step known in let K = facts_past_loop body step known in
+          looped_same (bottom_of body step) (marked_tail short q variables f T body y) (marked_tail short p variables f T body y) (marked_code short q variables f Settled T body y) (marked_code short p variables f Settled T body y)
+          (marked_code short q variables f Settled S step z) (marked_code short p variables f Settled S step z) (marked_code short q variables f Settled K k x l s) (marked_code short p variables f Settled K k x l s)
+          (λ l s. tail_same T body y in_body l s) (λ l s. marked_same Settled T body y in_body l s) (λ l s. marked_same Settled S step z in_step l s) (marked_same Settled K k x (rest_none (calls_in step) (calls_in k) behind_turn) l s)
+
+      tail_same : (known : Facts) (code : Actions) (x : Ways) → calls_in code ≡ 0 → (l s : ℕ) → marked_tail short q variables f known code x l s ≡ marked_tail short p variables f known code x l s
+      tail_same known Done x none l s = refl
+      tail_same known (Do m a k) x none l s = refl
+      tail_same known (If m b c d k) x none l s =
+          let lists = rest_none 0 (calls_in c + (calls_in d + calls_in k)) none in
+          let behind_first = rest_none (calls_in c) (calls_in d + calls_in k) lists in
+          marked_same Settled (facts_past_if b c d known) k x (rest_none (calls_in d) (calls_in k) behind_first) l s
+      tail_same known (Loop m body step k) x none l s = refl
+
+  function_same : (code : Actions) → calls_in code ≡ 0 → function_code q variables f code ≡ function_code p variables f code
+  function_same code none =
+      let short = is_short code in
+      ap (λ (is : List Inst). entry_code p f ++ is)
+      (sym (same_code short q variables f Settled unknown code nowhere 0 0) ∙ ap (λ (z : Grown). z.code) (marked_same short Settled unknown code nowhere none 0 0) ∙ same_code short p variables f Settled unknown code nowhere 0 0)
+
+  places_same : (code : Actions) → calls_in code ≡ 0 → function_places q variables f code ≡ function_places p variables f code
+  places_same code none =
+      ap (λ (z : Grown). from_front (length (entry_code p f) + length z.code) z.places) (marked_same (is_short code) Settled unknown code nowhere none 0 0)
+
+  -- so the code of a function that makes none is its code by this plan too
+  pub kept_same : (code : Actions) (kept : Option FunctionCode) → IsLeafCode p variables f code kept → IsLeafCode q variables f code kept
+  kept_same code None has = tt
+  kept_same code (Some made) has = record {
+    calls = has.calls;
+    code = has.code ∙ sym (function_same code has.calls);
+    entry = has.entry;
+    places = has.places ∙ sym (places_same code has.calls);
+    within = has.within;
+  }

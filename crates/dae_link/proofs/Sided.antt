@@ -1,7 +1,7 @@
 -- The code of a stream is a side of an image.
 use Rattle.std.proofs.Common.{◌≡◌, ℕ, ◌+◌, ◌-◌, ◌*◌, ◌≤◌, ◌<◌, ◌^◌, List, ◌∷◌, ◌++◌, length, map, refl, ap, sym, ◌∙◌, subst, arith, append_assoc, length-append, [], Bool}
 use Rattle.std.proofs.lemmas.List.{length-map, map-append}
-use Rattle.std.specs.Prelude.{slice_get, if◌then◌else◌}
+use Rattle.std.specs.Prelude.{Option, slice_get, if◌then◌else◌}
 use Rattle.std.specs.List.{AllByRecursion}
 use Rattle.std.proofs.Math.Path.{fun_ext}
 use Rattle.dae_base.specs.declared.Side.{Side}
@@ -32,14 +32,16 @@ use Rattle.dae_select_blocks.proofs.LawsOfBlocks.{words_are_code, fit_append, fu
 use Rattle.dae_select_values.specs.Tables.{IsNear}
 use Rattle.dae_select_values.specs.Sides.{is_a}
 use Rattle.dae_select_calls.specs.Layouts.{homes_at, variables_at, entry_at, start_at, frame_at, leaf_at, bare_at, spares_at, plan_of, variables_of, AreSmall}
+use Rattle.dae_select.specs.declared.functions.FunctionCode.{FunctionCode}
 use Rattle.dae_select_calls.specs.declared.layouts.FunctionLayout.{FunctionLayout}
 use Rattle.dae_select_calls.specs.declared.layouts.Layouts.{Layouts}
 use Rattle.dae_link_faithful.specs.Made.{IsSide, HasCode, HasStart, setting_of}
+use Rattle.dae_link.specs.LeafCodes.{IsLeafCode, AreLeafCodes, leaf_code_at}
 use Rattle.dae_link.specs.Settled.{AreUnplaced}
 use Rattle.dae_link.specs.Placed.{functions_code, opening_code, whole_code, placed}
 use Rattle.dae_link.specs.Sides.{HasLimits, IsCodeOf, IsReached, body_in, parameters_in, frame_in, at_places, code_at, end_of}
 use Rattle.dae_link.specs.Sizes.{most_words}
-use Rattle.dae_link.proofs.Same.{both_long, enter_same, at_words, function_long}
+use Rattle.dae_link.proofs.Same.{both_long, enter_same, at_words, function_long, kept_same}
 use Rattle.dae_link.proofs.Standing.{placed_long, placed_same, start_behind, functions_long, ends_within, entries_within, stands_there}
 use Rattle.dae_link.proofs.Sizes.{functions_length}
 use Rattle.dae_link.proofs.Residing.{residents_few, residents_within, residents_apart, among_is_home, among_no_slot}
@@ -146,6 +148,13 @@ module _ (stream : Stream) (old : Layouts) (unplaced : AreUnplaced stream old) w
 
   pub variables_are : variables_of (at_places stream old) ≡ variables
   variables_are = fun_ext (λ g. placed_same P variables variables_at (λ l entry start. refl) fs old.functions first 0 g long)
+
+  -- the codes of functions that make no call are those with the places
+  pub codes_placed : (codes : List (Option FunctionCode)) → AreLeafCodes old fs codes → AreLeafCodes (at_places stream old) fs codes
+  codes_placed codes are g =
+      let actions = body_in (slice_get fs g) in let kept = leaf_code_at (slice_get codes g) in
+      subst (λ (plan : Plan). IsLeafCode plan (variables_of (at_places stream old)) g actions kept) (sym plan_is)
+      (subst (λ (vs : ℕ → ℕ). IsLeafCode Q vs g actions kept) (sym variables_are) (kept_same P Q.entry Q.start Q.finish variables g actions kept (are g)))
 
   same : (f : ℕ) (code : Actions) → length (function_code Q variables f code) ≡ length (function_code P variables f code)
   same f code = function_long P Q.entry Q.start Q.finish variables f code

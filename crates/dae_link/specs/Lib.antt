@@ -5,3 +5,4 @@ pub mod Placed
 pub mod Sides
 pub mod Sizes
 pub mod Residents
+pub mod LeafCodes

@@ -8,6 +8,7 @@ pub use side::{SideCode, side_code};
 
 mod error;
 mod homes;
+mod leaf_codes;
 mod linking;
 mod marks;
 mod placing;

@@ -2,15 +2,17 @@
 
 ghost use Rattle.std.specs.Prelude.{◌≡◌, ◌≢◌, ◌+◌, ◌≤◌, ◌<◌, ◌^◌, length, IfOk, IfErr};
 ghost use Rattle.dae_select_calls.specs.Layouts.{AreSmall};
+ghost use Rattle.dae_link.specs.LeafCodes.{AreLeafCodes};
 ghost use Rattle.dae_link.specs.Placed.{moved};
 ghost use Rattle.dae_link.specs.Sides.{placed_by, word_behind};
 ghost use Rattle.dae_link.specs.declared.error.CodeError.TheVariants as errors;
 
 use crate::MOST_WORDS;
 use crate::error::CodeError;
+use crate::leaf_codes::code_of_function;
 use dae_base::Items;
 use dae_ir::StreamFunction;
-use dae_select::function_code;
+use dae_select::FunctionCode;
 use dae_select_calls::{FunctionLayout, Layouts};
 use std::alloc::{AllocError, Global};
 
@@ -53,11 +55,14 @@ fn layout_at(
 pub fn place(
     alloc: Global,
     layouts: &Layouts,
+    leaf_codes: &[Option<FunctionCode>],
     functions: &[StreamFunction],
     first: u32,
 ) -> Result<Vec<FunctionLayout>, CodeError>
     requires small { AreSmall layouts.now }
     requires count { length layouts.now.functions ≡ length functions.now }
+    requires codes { length leaf_codes.now ≡ length functions.now }
+    requires kept { AreLeafCodes layouts.now functions.now leaf_codes.now }
     requires few { length functions.now ≤ 2 ^ 25 }
     requires low { first ≤ 2 ^ 25 }
     ensures placed { IfOk result (λ all. all.items ≡ placed_by layouts.now first functions.now) }
@@ -71,7 +76,7 @@ pub fn place(
     let unplaced = layouts.functions.as_slice();
     for index in 0..functions.len() {
         let body = functions[index].body.as_slice();
-        let made = function_code(alloc, layouts, index as u32, body)?;
+        let made = code_of_function(alloc, layouts, &leaf_codes[index], index as u32, body)?;
         let behind = word_after(word, made.code.len())?;
         all.push(layout_at(alloc, &unplaced[index], word, made.entry as u32)?)?;
         word = behind;

@@ -8,6 +8,7 @@ ghost use Rattle.dae_link.specs.declared.error.CodeError.TheVariants as errors;
 
 use crate::error::CodeError;
 use crate::homes::unplaced_layouts;
+use crate::leaf_codes::leaf_codes_of;
 use crate::words::whole_code;
 use dae_ir::{Step, Stream, StreamFunction};
 use dae_select_calls::Layouts;
@@ -53,8 +54,11 @@ fn words_of(alloc: Global, layouts: &Layouts, stream: &Stream) -> Result<usize, 
     requires few { length stream.now.functions ≤ 2 ^ 25 }
     ensures { IfOk result (λ words. words ≡ end_of stream.now layouts.now) }
 {
+    let functions = stream.functions.as_slice();
+    let made = leaf_codes_of(alloc, layouts, functions)?;
+    let codes = made.as_slice();
     let mut places = Vec::new(alloc);
-    let code = whole_code(alloc, layouts, stream, &mut places)?;
+    let code = whole_code(alloc, layouts, codes, stream, &mut places)?;
     Ok(code.len())
 }
 

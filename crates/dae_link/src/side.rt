@@ -6,6 +6,7 @@ ghost use Rattle.dae_select_blocks.specs.Blocks.{residents_code};
 ghost use Rattle.dae_select_blocks.specs.Code.{start_code};
 ghost use Rattle.dae_select_calls.specs.Layouts.{plan_of, AreSmall};
 ghost use Rattle.dae_link.specs.declared.error.CodeError.TheVariants as errors;
+ghost use Rattle.dae_link.specs.LeafCodes.{AreLeafCodes};
 ghost use Rattle.dae_link.specs.Settled.{AreUnplaced, IsPrivateWithin, IsTooDeep};
 ghost use Rattle.dae_link.specs.Placed.{opening_code};
 ghost use Rattle.dae_link.specs.Sizes.{most_words};
@@ -14,13 +15,14 @@ ghost use Rattle.dae_link.specs.Sides.{HasLimits, HasPlaces, HasRegisters, HasUs
 use crate::MOST_WORDS;
 use crate::error::CodeError;
 use crate::homes::are_numberable;
+use crate::leaf_codes::leaf_codes_of;
 use crate::placing::place;
 use crate::reaching::settled_layouts;
 use crate::words::{encode_all, opening_code, whole_code};
 use dae_base::Items;
 use dae_encode::Inst;
 use dae_ir::Stream;
-use dae_select::PlacedWord;
+use dae_select::{FunctionCode, PlacedWord};
 use dae_select_calls::{Layouts, start_code};
 use std::alloc::{AllocError, Global};
 
@@ -56,9 +58,16 @@ fn first_of(alloc: Global, layouts: &Layouts, main: u32, frames: u32) -> Result<
 }
 
 /// The functions of a stream get their places.
-fn placed_layouts(alloc: Global, layouts: &Layouts, stream: &Stream) -> Result<Layouts, CodeError>
+fn placed_layouts(
+    alloc: Global,
+    layouts: &Layouts,
+    leaf_codes: &[Option<FunctionCode>],
+    stream: &Stream,
+) -> Result<Layouts, CodeError>
     requires unplaced { AreUnplaced stream.now layouts.now }
     requires few { length stream.now.functions ≤ 2 ^ 25 }
+    requires codes { length leaf_codes.now ≡ length stream.now.functions }
+    requires kept { AreLeafCodes layouts.now stream.now.functions leaf_codes.now }
     ensures places { IfOk result (λ new. new ≡ at_places stream.now layouts.now) }
     ensures ends { IfOk result (λ new. end_of stream.now layouts.now ≤ 2 ^ 25) }
     ensures err { IfErr result (λ e. e ≡ errors.Code → 2 ^ 25 < end_of stream.now layouts.now) }
@@ -66,7 +75,13 @@ fn placed_layouts(alloc: Global, layouts: &Layouts, stream: &Stream) -> Result<L
 {
     let finish = finish_of(alloc, layouts, stream.main, stream.frames)?;
     let first = first_of(alloc, layouts, stream.main, stream.frames)?;
-    let functions = place(alloc, layouts, stream.functions.as_slice(), first)?;
+    let functions = place(
+        alloc,
+        layouts,
+        leaf_codes,
+        stream.functions.as_slice(),
+        first,
+    )?;
     let mut residents = Vec::new(alloc);
     residents.extend_from_slice(layouts.residents.as_slice())?;
     Ok(Layouts {
@@ -98,8 +113,11 @@ fn placed_code(
     ensures err { IfErr result (λ e. e ≡ errors.Code → 2 ^ 25 < end_of stream.now layouts.now) }
     ensures private { IfErr result (λ e. e ≢ errors.Private) }
 {
-    let placed = placed_layouts(alloc, layouts, stream)?;
-    Ok(whole_code(alloc, &placed, stream, places)?)
+    let functions = stream.functions.as_slice();
+    let made = leaf_codes_of(alloc, layouts, functions)?;
+    let codes = made.as_slice();
+    let placed = placed_layouts(alloc, layouts, codes, stream)?;
+    Ok(whole_code(alloc, &placed, codes, stream, places)?)
 }
 
 /// The code of a stream. No variable is in the frame of a function that has registers for all of them. The code is too long

@@ -4,12 +4,14 @@ ghost use Rattle.std.specs.Prelude.{◌≡◌, ℕ, ◌≤◌, ◌<◌, ◌^◌,
 ghost use Rattle.std.specs.List.{All, AllByRecursion};
 ghost use Rattle.dae_encode.specs.Spelling.{InRange, encoded};
 ghost use Rattle.dae_select_calls.specs.Layouts.{plan_of, AreSmall};
+ghost use Rattle.dae_link.specs.LeafCodes.{AreLeafCodes};
 ghost use Rattle.dae_link.specs.Placed.{opening_code};
 ghost use Rattle.dae_link.specs.Sides.{functions_by, whole_by, begins_by, places_by};
 
+use crate::leaf_codes::code_of_function;
 use dae_encode::{Inst, encode};
 use dae_ir::{Stream, StreamFunction};
-use dae_select::{PlacedWord, add_places, function_code};
+use dae_select::{FunctionCode, PlacedWord, add_places};
 use dae_select_calls::{Layouts, finish_code, start_code};
 use std::alloc::{AllocError, Global};
 
@@ -19,10 +21,13 @@ fn add_functions(
     code: &mut Vec<Inst>,
     places: &mut Vec<PlacedWord>,
     layouts: &Layouts,
+    leaf_codes: &[Option<FunctionCode>],
     functions: &[StreamFunction],
 ) -> Result<(), AllocError>
     requires small { AreSmall layouts.now }
     requires few { length functions.now ≤ 2 ^ 25 }
+    requires codes { length leaf_codes.now ≡ length functions.now }
+    requires kept { AreLeafCodes layouts.now functions.now leaf_codes.now }
     ensures code { OnOk result (code.new.items
         ≡ code.old.items ++ functions_by layouts.now functions.now) }
     ensures places { OnOk result (places.new.items
@@ -30,7 +35,7 @@ fn add_functions(
 {
     for index in 0..functions.len() {
         let body = functions[index].body.as_slice();
-        let made = function_code(alloc, layouts, index as u32, body)?;
+        let made = code_of_function(alloc, layouts, &leaf_codes[index], index as u32, body)?;
         add_places(places, code.len(), made.places.as_slice())?;
         code.extend_from_slice(made.code.as_slice())?;
     }
@@ -56,11 +61,14 @@ pub fn opening_code(
 pub fn whole_code(
     alloc: Global,
     layouts: &Layouts,
+    leaf_codes: &[Option<FunctionCode>],
     stream: &Stream,
     places: &mut Vec<PlacedWord>,
 ) -> Result<Vec<Inst>, AllocError>
     requires small { AreSmall layouts.now }
     requires few { length stream.now.functions ≤ 2 ^ 25 }
+    requires codes { length leaf_codes.now ≡ length stream.now.functions }
+    requires kept { AreLeafCodes layouts.now stream.now.functions leaf_codes.now }
     ensures code { IfOk result (λ code. code.items ≡ whole_by layouts.now stream.now) }
     ensures places { OnOk result (places.new.items
         ≡ places.old.items ++ places_by layouts.now stream.now) }
@@ -71,6 +79,7 @@ pub fn whole_code(
         &mut code,
         places,
         layouts,
+        leaf_codes,
         stream.functions.as_slice(),
     )?;
     Ok(code)

@@ -4,3 +4,4 @@ mod Sizes
 mod InFront
 mod Words
 mod Untaken
+pub mod Laws

@@ -1,4 +1,6 @@
-use Rattle.std.proofs.Common.{length, ap, sym, ◌∙◌}
+use Rattle.std.proofs.Common.{List, length, ap, sym, subst, ◌∙◌}
+use Rattle.dae_ir.specs.declared.stream.StreamFunction.{StreamFunction}
+use Rattle.dae_link.specs.LeafCodes.{AreLeafCodes}
 use Rattle.dae_link.proofs.Looked.{zip_long}
 use Rattle.dae_link.proofs.Sided.{small_unplaced}
 use Rattle.dae_link.proofs.side.placed_layouts.Goals as goal
@@ -20,3 +22,10 @@ place-requires-clause-small c = small_unplaced c.args.stream.now c.args.layouts.
 
 pub place-requires-clause-count : goal.place-requires-clause-count
 place-requires-clause-count c = zip_long _ _ c.requires.unplaced.functions ∙ ap length (sym c.as_slice.ensures)
+
+pub place-requires-clause-codes : goal.place-requires-clause-codes
+place-requires-clause-codes c = c.requires.codes ∙ ap length (sym c.as_slice.ensures)
+
+pub place-requires-clause-kept : goal.place-requires-clause-kept
+place-requires-clause-kept c =
+    subst (λ (fs : List StreamFunction). AreLeafCodes c.args.layouts.now fs c.args.leaf_codes.now) (sym c.as_slice.ensures) c.requires.kept
