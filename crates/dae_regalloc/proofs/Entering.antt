@@ -1,11 +1,12 @@
 -- What is live at the place of an action, and at the entry of a function.
-use Rattle.std.proofs.Common.{◌≡◌, ℕ, ◌+◌, Bool, true, false, ◌||◌, refl, ap, sym, ◌∙◌, arith}
+use Rattle.std.proofs.Common.{◌≡◌, ℕ, ◌+◌, Bool, true, false, not, ◌&&◌, ◌||◌, refl, ap, sym, ◌∙◌, arith}
 use Rattle.std.proofs.Math.Path.{fun_ext}
-use Rattle.std.specs.Prelude.{nat_eq}
+use Rattle.std.specs.Prelude.{Some, nat_eq}
 use Rattle.std.proofs.lemmas.Bool.Decides.{nat_tests}
 use Rattle.dae_base.proofs.Laws.{or_nothing}
 use Rattle.dae_ir.specs.Classes.{VariableSet}
-use Rattle.dae_select_walks.specs.Live.{with_all, only, parameters_of}
+use Rattle.dae_select_walks.specs.Live.{with_all, only, is, parameters_of}
+use Rattle.dae_select_live.specs.Members.{without}
 
 or_swap : (a b : Bool) → a || b ≡ b || a
 or_swap true true = refl
@@ -18,6 +19,25 @@ with_none m = fun_ext (λ u. sym (or_nothing (m u)))
 
 pub with_one : (v : ℕ) (m : VariableSet) → with_all (only v) m ≡ with_all m (λ u. nat_eq u v)
 with_one v m = fun_ext (λ u. or_swap (nat_eq u v) (m u))
+
+also_in : (c b : Bool) → (b ≡ true → c ≡ true) → c || b ≡ c
+also_in true b h = refl
+also_in false true h = sym (h refl)
+also_in false false h = refl
+
+-- one that is there already
+pub with_same : (v : ℕ) (m s : VariableSet) → is (Some v) ≡ s → m v ≡ true → with_all m s ≡ m
+with_same v m s e there = ap (with_all m) (sym e) ∙ fun_ext (λ u. also_in (m u) (nat_eq u v) (λ h. (let same : u ≡ v = grind (arith, nat_tests) in ap m same ∙ there)))
+
+kept_out : (b c : Bool) → (b ≡ true → c ≡ false) → (b || c) && not b ≡ c
+kept_out true true h = sym (h refl)
+kept_out true false h = refl
+kept_out false true h = refl
+kept_out false false h = refl
+
+-- one that comes and goes again
+pub without_added : (v : ℕ) (m : VariableSet) → m v ≡ false → without v (with_all (only v) m) ≡ m
+without_added v m absent = fun_ext (λ u. kept_out (nat_eq u v) (m u) (λ h. (let same : u ≡ v = grind (arith, nat_tests) in ap m same ∙ absent)))
 
 no_parameters : (u : ℕ) → parameters_of 0 u ≡ false
 no_parameters u = grind (arith, nat_tests)

@@ -17,23 +17,23 @@ use Rattle.dae_select_walks.proofs.LawsOfWalks.{turn_again}
 use Rattle.dae_select_live.specs.Members.{member}
 use Rattle.dae_select_live.proofs.Laws.{onto_if, onto_loop}
 use Rattle.dae_regalloc.specs.declared.spans.Spans.{Spans}
-use Rattle.dae_regalloc.specs.Seen.{AreSeen, ArePlacesOf, ArePlacesOfStep}
+use Rattle.dae_regalloc.specs.Seen.{AreSeen, ArePlacesOf, ArePlacesOfStep, SeesPlace}
 
 -- one more place is seen
 abbrev SeesOne : VariableSet → Spans → Spans → Type 0
 SeesOne here old new = (places : List VariableSet) → AreSeen places old → AreSeen (here ∷ places) new
 
-pub acted : (s : Step) (m : Mark) (a : Action) (leaves skips next : List ℕ) (old new : Spans) (set here : List ℕ) → s ≡ step.Act m a
-    → ((n : VariableSet) → member set ≡ before a (member next) (ways n (member leaves) (member skips))) → member here ≡ with_all (member set) (sets a) → SeesOne (member here) old new → new.places ≡ old.places + 1
+pub acted : (s : Step) (m : Mark) (a : Action) (leaves skips next : List ℕ) (old new : Spans) (early set : List ℕ) → s ≡ step.Act m a
+    → ((n : VariableSet) → member early ≡ before a (member next) (ways n (member leaves) (member skips))) → member set ≡ member early → SeesPlace (with_all (member early) (sets a)) old new
     → ArePlacesOfStep s old next leaves skips new set
-acted s m a leaves skips next old new set here is found at more counted b k n h =
+acted s m a leaves skips next old new early set is found same more b k n h =
     let x = ways n (member leaves) (member skips) in
-    let lived : member set ≡ live (Do m a k) x = found n ∙ ap (λ (l : VariableSet). before a l x) h.live in
-    let same : member here ≡ with_all (live (Do m a k) x) (sets a) = at ∙ ap (λ (l : VariableSet). with_all l (sets a)) lived in
+    let lived : member early ≡ live (Do m a k) x = found n ∙ ap (λ (l : VariableSet). before a l x) h.live in
+    let counted = more.count in
     let before' = h.count in
     rw is (record {
-      seen = λ places sb. subst (λ (l : VariableSet). AreSeen (l ∷ (lives k x ++ places)) new) same (more (lives k x ++ places) (h.seen places sb));
-      live = lived;
+      seen = λ places sb. subst (λ (l : VariableSet). AreSeen (with_all l (sets a) ∷ (lives k x ++ places)) new) lived (more.seen (lives k x ++ places) (h.seen places sb));
+      live = same ∙ lived;
       count = omega (arith, counted, before');
     })
 

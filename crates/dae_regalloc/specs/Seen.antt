@@ -75,6 +75,11 @@ pub record AreSeen (places : List VariableSet) (seen : Spans) : Type 0 where
   pub ends : (place v : ℕ) → IsEnd seen place v → IsLiveAt places place v
   pub few : (n : ℕ) → AllByRecursion (AreBelow n) places → length seen.numbers ≤ n
 
+-- the next place is seen, where these variables are live
+pub record SeesPlace (here : VariableSet) (old new : Spans) : Type 0 where
+  pub seen : (places : List VariableSet) → AreSeen places old → AreSeen (here ∷ places) new
+  pub count : new.places ≡ old.places + 1
+
 -- spans that held a place hold it again, and those of these variables hold the next place
 pub record IsFurther (seen : ℕ → Type 0) (old new : Spans) : Type 0 where
   pub places : new.places ≡ old.places

@@ -1,12 +1,12 @@
 // The places of a function are seen, from the last to the first.
 
-ghost use Rattle.std.specs.Prelude.{◌≡◌, ◌+◌, ◌^◌, ◌<◌, true, IfOk};
+ghost use Rattle.std.specs.Prelude.{◌≡◌, ◌+◌, ◌^◌, ◌<◌, true, false, IfOk, IfSome, IfNone};
 ghost use Rattle.dae_ir.specs.Code.{Done};
 ghost use Rattle.dae_ir.specs.Streams.{actions_of, step_onto};
 ghost use Rattle.dae_select_live.specs.Members.{member};
 ghost use Rattle.dae_select_live.specs.Turns.{told_by, TellsTurns};
-ghost use Rattle.dae_select_walks.specs.Live.{ways, with_all, sets, parameters_of, function_lives};
-ghost use Rattle.dae_regalloc.specs.Seen.{AreSeen, ArePlacesOf, ArePlacesOfStep, can_number, count_places};
+ghost use Rattle.dae_select_walks.specs.Live.{ways, with_all, only, sets, parameters_of, function_lives};
+ghost use Rattle.dae_regalloc.specs.Seen.{AreSeen, ArePlacesOf, ArePlacesOfStep, SeesPlace, can_number, count_places};
 
 use crate::spans::Spans;
 use dae_ir::{Action, Step};
@@ -15,16 +15,52 @@ use dae_select_live::{
 };
 use std::alloc::{AllocError, Global};
 
-/// What is live at the place of an action: what is live before it, and what it sets.
-fn live_at_action(alloc: Global, action: &Action, before: &LiveSet) -> Result<LiveSet, AllocError>
-    ensures { IfOk result (λ set. member set ≡ with_all (member before.now) (sets action.now)) }
+/// The variable that an action sets, where it isn't among those that are live before it.
+fn added_by(action: &Action, before: &LiveSet) -> Option<u32>
+    ensures some { IfSome result (λ v. (member before.now v ≡ false)
+        × (with_all (only v) (member before.now) ≡ with_all (member before.now) (sets action.now))) }
+    ensures none { IfNone result
+        (with_all (member before.now) (sets action.now) ≡ member before.now) }
 {
-    let mut set = before.copy(alloc)?;
     match set_by(action) {
-        Some(variable) => set.insert(variable)?,
-        None => {}
+        Some(variable) => {
+            let there = before.contains(variable);
+            if there { None } else { Some(variable) }
+        }
+        None => None,
     }
+}
+
+/// The next place is seen, where the variables of the set are live and this one, which isn't among them. The set comes back
+/// as it was.
+fn see_with(spans: &mut Spans, before: LiveSet, variable: u32) -> Result<LiveSet, AllocError>
+    requires room { spans.old.places + 1 < 2 ^ 32 }
+    requires absent { member before variable ≡ false }
+    ensures same { IfOk result (λ set. member set ≡ member before) }
+    ensures seen { IfOk result (λ set.
+        SeesPlace (with_all (only variable) (member before)) spans.old spans.new) }
+{
+    let mut set = before;
+    set.insert(variable)?;
+    spans.see(&set)?;
+    set.remove(variable);
     Ok(set)
+}
+
+/// The place of an action is seen: there what is live before it is live, and what it sets. What is live before it comes back.
+fn see_action(spans: &mut Spans, action: &Action, before: LiveSet) -> Result<LiveSet, AllocError>
+    requires { spans.old.places + 1 < 2 ^ 32 }
+    ensures same { IfOk result (λ set. member set ≡ member before) }
+    ensures seen { IfOk result (λ set.
+        SeesPlace (with_all (member before) (sets action.now)) spans.old spans.new) }
+{
+    match added_by(action, &before) {
+        Some(variable) => see_with(spans, before, variable),
+        None => {
+            spans.see(&before)?;
+            Ok(before)
+        }
+    }
 }
 
 /// What is live at the entry of a function: what is live before its actions, and its parameters.
@@ -56,9 +92,8 @@ fn see_step(
     let alloc = turns.alloc;
     match step {
         Step::Act(_, action) => {
-            let set = live_before_action(alloc, action, next, leaves, skips)?;
-            let here = live_at_action(alloc, action, &set)?;
-            spans.see(&here)?;
+            let before = live_before_action(alloc, action, next, leaves, skips)?;
+            let set = see_action(spans, action, before)?;
             Ok(set)
         }
         Step::If(_, branch, p, q) => {

@@ -17,8 +17,8 @@ told_as turns xs ys e h = subst (λ (l : List Step). TellsTurns (told_by turns) 
 
 -- ---- room for the places
 
-pub see_step-see-requires : goal.see_step-see-requires
-see_step-see-requires t c = let room = rw c.in-Act.is at c.requires.room in omega (arith, room)
+pub see_step-see_action-requires : goal.see_step-see_action-requires
+see_step-see_action-requires t c = let room = rw c.in-Act.is at c.requires.room in omega (arith, room)
 
 pub see_step-see_steps-requires : goal.see_step-see_steps-requires
 see_step-see_steps-requires t c =
@@ -36,8 +36,8 @@ see_step-see_steps-requires-in-If t c =
     let told = told_in_if (told_by c.args.turns.now) c.args.step.now i.field-0 i.branch i.p i.q i.is c.requires.told in
     (search (rules, the_lemmas), (rw c.deref-in-If.ensures.value (omega (arith, room, e, more)), told_as c.args.turns.now _ _ c.deref-in-If.ensures.value told.0))
 
-pub see_step-see-requires-in-If : goal.see_step-see-requires-in-If
-see_step-see-requires-in-If t c =
+pub see_step-see-requires : goal.see_step-see-requires
+see_step-see-requires t c =
     let i = c.in-If in
     let room = rw i.is at c.requires.room in let e = if_places i.field-0 i.branch i.p i.q in
     let one = rw c.deref.ensures.value at c.in_ok-second-in-If.ensures in
@@ -93,10 +93,10 @@ see_step-live_at_turn-requires t c =
 
 -- ---- what is seen
 
-pub see_step-returns-in_ok-see-in-Act : goal.see_step-returns-in_ok-see-in-Act
-see_step-returns-in_ok-see-in-Act t c =
+pub see_step-returns-in_ok-set-in-Act : goal.see_step-returns-in_ok-set-in-Act
+see_step-returns-in_ok-set-in-Act t c =
     let a = c.args in let i = c.in-Act in
-    acted a.step.now i.field-0 i.action a.leaves.now a.skips.now a.next a.spans.now c.see.new.self c.in_ok-set-in-Act.set c.in_ok-here-in-Act.here i.is c.in_ok-set-in-Act.ensures c.in_ok-here-in-Act.ensures c.in_ok-see-in-Act.ensures.seen c.in_ok-see-in-Act.ensures.count
+    acted a.step.now i.field-0 i.action a.leaves.now a.skips.now a.next a.spans.now c.see_action.new.spans c.in_ok-before-in-Act.before c.in_ok-set-in-Act.set i.is c.in_ok-before-in-Act.ensures c.in_ok-set-in-Act.ensures.same c.in_ok-set-in-Act.ensures.seen
 
 pub see_step-returns-in_ok-see-in-If : goal.see_step-returns-in_ok-see-in-If
 see_step-returns-in_ok-see-in-If t c =
@@ -106,7 +106,7 @@ see_step-returns-in_ok-see-in-If t c =
     let mid = c.see_steps.new.spans in let last = c.see_steps-in-If.new.spans in
     let second = moved c.in_ok-copy-in-If.field-0 a.next lv lv sk sk c.deref.result.now i.q.items a.spans.now mid other c.in_ok-copy-in-If.ensures refl refl c.deref.ensures.value c.in_ok-second-in-If.ensures in
     let first = moved a.next a.next lv lv sk sk c.deref-in-If.result.now i.p.items mid last one refl refl refl c.deref-in-If.ensures.value c.in_ok-first-in-If.ensures in
-    branched a.step.now i.field-0 i.branch i.p i.q lv sk a.next a.spans.now mid last c.see-in-If.new.self one other c.in_ok-set-in-If.set i.is second first c.in_ok-set-in-If.ensures c.in_ok-see-in-If.ensures.seen c.in_ok-see-in-If.ensures.count
+    branched a.step.now i.field-0 i.branch i.p i.q lv sk a.next a.spans.now mid last c.see.new.self one other c.in_ok-set-in-If.set i.is second first c.in_ok-set-in-If.ensures c.in_ok-see-in-If.ensures.seen c.in_ok-see-in-If.ensures.count
 
 pub see_step-returns-in_ok-see-in-Loop : goal.see_step-returns-in_ok-see-in-Loop
 see_step-returns-in_ok-see-in-Loop t c =
