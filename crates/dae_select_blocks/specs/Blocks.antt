@@ -293,6 +293,16 @@ bounds_code width x = Addi 6 x (negsuc (16 - size width)) ∷ (Bltu 6 4 (pos 12)
 abbrev pub place_code : (ℕ → Home) → Width → Operand → List Inst
 place_code home width x = fetch home 5 x ++ (align_code width (source home 5 x) ++ bounds_code width (source home 5 x))
 
+-- the byte so many bytes behind an address is within them too. The 16 are taken away from the offset, and where nothing is left of
+-- it the address itself is compared
+abbrev pub offset_bounds_code : ℕ → ℕ → List Inst
+offset_bounds_code x offset =
+    if nat_eq offset 16 then Bltu x 4 (pos 12) ∷ fail_code true 2
+    else Addi 6 x (lower (minus offset 16)) ∷ (Bltu 6 4 (pos 12) ∷ fail_code true 2)
+
+abbrev pub in_bounds_code : (ℕ → Home) → Operand → ℕ → List Inst
+in_bounds_code home x offset = fetch home 5 x ++ offset_bounds_code (source home 5 x) offset
+
 abbrev pub zero_code : Bool → (ℕ → Home) → Operand → List Inst
 zero_code by_a home x = fetch home 5 x ++ Bne (source home 5 x) 0 (over by_a) ∷ fail_code by_a 1
 
