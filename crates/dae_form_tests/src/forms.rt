@@ -104,6 +104,7 @@ fn item_of(alloc: Global, text: &str) -> Result<Item, AllocError> {
     match word_in(text, 0) {
         "store" => Ok(Item::Store(width_of(word_in(text, 1)), x, y)),
         "good" => Ok(Item::Expect(Check::Place(width_of(word_in(text, 1)), x))),
+        "bounds" => Ok(Item::Expect(Check::InBounds(operand_in(text, 1), number_in(text, 2)))),
         "zero" => Ok(Item::Expect(Check::Zero(operand_in(text, 1)))),
         "room" => Ok(Item::Expect(Check::Room(number_in(text, 1)))),
         "deep" => Ok(Item::Expect(Check::Frame)),

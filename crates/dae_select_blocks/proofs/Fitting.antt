@@ -3,7 +3,7 @@ use Rattle.std.proofs.Common.{◌≡◌, ℕ, ◌+◌, ◌-◌, ◌%◌, ◌^◌
 use Rattle.std.specs.Prelude.{nat_lt, nat_eq, if◌then◌else◌, ℤ}
 use Rattle.std.proofs.lemmas.Option.{same_Some, cond_some}
 use Rattle.dae_ir.specs.declared.form.Check.{Check}
-use Rattle.dae_ir.specs.declared.form.Check.TheVariants.{Place, Zero, Room, Frame, Abort}
+use Rattle.dae_ir.specs.declared.form.Check.TheVariants.{Place, InBounds, Zero, Room, Frame, Abort}
 use Rattle.dae_ir.specs.declared.stream.Action.{Action}
 use Rattle.dae_ir.specs.declared.stream.Action.TheVariants.{Probe}
 use Rattle.dae_select_walks.specs.Agrees.{Plan, counted_depth}
@@ -360,6 +360,9 @@ check_fits plan n f (Place width x) good =
     let r : ℕ = source (plan.home f) 5 x in
     let low = source_fits n (plan.home f) good 5 x (omega arith) in
     fetched_fit n (plan.home f) good 5 x (align_code width r ++ bounds_code width r) (omega arith) (fit_append (align_code width r) (bounds_code width r) (align_fits width r low) (bounds_fit width r low))
+check_fits plan n f (InBounds x offset) good =
+    let r : ℕ = source (plan.home f) 5 x in
+    fetched_fit n (plan.home f) good 5 x (offset_bounds_code r offset) (omega arith) (offset_bounds_fit r offset (source_fits n (plan.home f) good 5 x (omega arith)))
 check_fits plan n f (Zero x) good = fetched_fit n (plan.home f) good 5 x _ (omega arith) (leads_fit plan.by_a (source (plan.home f) 5 x) (source_fits n (plan.home f) good 5 x (omega arith)), fail_fits plan.by_a 1 (omega arith))
 check_fits plan n f (Room g) good =
     let frames : List Inst = frames_room_code plan.memory (plan.frame f + plan.frame g) in

@@ -22,7 +22,7 @@ use Rattle.dae_ir.specs.declared.form.Test.{Test}
 use Rattle.dae_meaning.specs.declared.Spelling.{Spelling}
 use Rattle.dae_meaning.specs.declared.Spelling.TheVariants.{Byte, Signed, Unsigned, Hexadecimal}
 use Rattle.dae_ir.specs.declared.form.Check.{Check}
-use Rattle.dae_ir.specs.declared.form.Check.TheVariants.{Place, Zero, Room, Frame, Abort}
+use Rattle.dae_ir.specs.declared.form.Check.TheVariants.{Place, InBounds, Zero, Room, Frame, Abort}
 use Rattle.dae_ir.specs.declared.stream.Argument.{Argument}
 use Rattle.dae_ir.specs.declared.stream.Failure.{Failure}
 use Rattle.dae_ir.specs.Deeds.{failure_code}
@@ -324,6 +324,7 @@ frame_room_code memory own = if nat_lt memory own then fail_code true 4 else roo
 
 abbrev pub check_code : Plan → ℕ → Check → List Inst
 check_code plan f (Place width x) = place_code (plan.home f) width x
+check_code plan f (InBounds x offset) = in_bounds_code (plan.home f) x offset
 check_code plan f (Zero x) = zero_code plan.by_a (plan.home f) x
 check_code plan f (Room g) = call_room_code plan.memory (counted_depth plan f plan.limit) (plan.frame f) (plan.frame g)
 check_code plan f Frame = frame_room_code plan.memory (plan.frame f)

@@ -17,7 +17,7 @@ use Rattle.dae_ir.specs.declared.form.Function.{Function}
 use Rattle.dae_ir.specs.declared.form.Ir.{Ir}
 use Rattle.dae_ir.specs.declared.form.Item.{Item}
 use Rattle.dae_ir.specs.declared.form.Item.TheVariants.{Assign, Load, Store, Print, Expect, Break, Continue, Call, Return, Halt}
-use Rattle.dae_ir.specs.declared.form.Check.TheVariants.{Place as Good, Zero, Room, Frame, Abort}
+use Rattle.dae_ir.specs.declared.form.Check.TheVariants.{Place as Good, InBounds, Zero, Room, Frame, Abort}
 use Rattle.dae_ir.proofs.Laws.{KeepsArguments}
 use Rattle.dae_threads.specs.Forms.{IsThreadedFunction, AreThreadedFunctions, IsThreadingOf, HasNoMoreItems, FormsAreThreaded}
 use Rattle.dae_threads.specs.Laws.{CountsHeavy, ThreadingAddsNothing}
@@ -75,6 +75,7 @@ module _ (all new : List Function) (keeps : KeepsArguments all new) where
   item_in n (Store width x y) i = i
   item_in n (Print spelling x) i = i
   item_in n (Expect (Good width x)) i = i
+  item_in n (Expect (InBounds x offset)) i = i
   item_in n (Expect (Zero x)) i = i
   item_in n (Expect (Room g)) i = subst (λ (m : ℕ). g < m) (sym keeps.count) i
   item_in n (Expect Frame) i = tt
