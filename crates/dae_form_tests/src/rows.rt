@@ -2,7 +2,7 @@
 
 /// Small expressions and their code; forms with their loads reused, as an independent implementation has them; the variables that occur where
 /// they are renamed by webs, and where common subexpressions are eliminated; a statement where invariants of loops are held before
-/// them; and forms with conditions threaded.
+/// them; and forms with conditions threaded, and with checks of sums before the sums.
 pub const PASSES: &str = r#"lower|1;print c 10;halt 7|
 reuse|main 0 5 0;store 4 16 3;v4 = load 4 16;v0 = v4;v1 = v4;v2 = v0 * v1;store 4 20 v2;v3 = load 4 20;print d v3;print c 10;halt 0|main 0 4 0;store 4 16 3;v0 = load 4 16;v1 = load 4 16;v2 = v0 * v1;store 4 20 v2;v3 = load 4 20;print d v3;print c 10;halt 0
 reuse|main 0 10 0;v0 = 16;v1 = v0 + 4;good 4 v1;v8 = load 4 v1;v2 = v8;good 4 v2;v9 = load 4 v2;v3 = v9;v4 = v0 + 4;good 4 v4;v5 = v8;good 4 v5;v6 = v9;v7 = v3 + v6;halt v7|main 0 8 0;v0 = 16;v1 = v0 + 4;good 4 v1;v2 = load 4 v1;good 4 v2;v3 = load 4 v2;v4 = v0 + 4;good 4 v4;v5 = load 4 v4;good 4 v5;v6 = load 4 v5;v7 = v3 + v6;halt v7
@@ -44,7 +44,13 @@ threads|main 0 6 0;v1 = load 4 64;v2 = load 4 68;if v1 != 0;v3 = 1;else;if v2 !=
 threads|main 0 6 0;v1 = load 4 64;v2 = load 4 68;if v1 != 0;v3 = 1;else;if v2 != 0;v3 = 1;else;v3 = 0;end;end;if v3 != 0;v4 = load 4 72;else;end;halt 0|main 0 6 0;v1 = load 4 64;v2 = load 4 68;if v1 != 0;v3 = 1;else;if v2 != 0;v3 = 1;else;v3 = 0;end;end;if v3 != 0;v4 = load 4 72;else;end;halt 0
 threads|main 0 6 0;v1 = load 4 64;v2 = load 4 68;if v1 != 0;if v2 != 0;v3 = 1;else;v3 = 0;end;else;v3 = 0;end;if v1 != 0;print d 1;else;end;halt 0|main 0 6 0;v1 = load 4 64;v2 = load 4 68;if v1 != 0;if v2 != 0;v3 = 1;else;v3 = 0;end;else;v3 = 0;end;if v1 != 0;print d 1;else;end;halt 0
 threads|main 0 6 0;v1 = load 4 64;v2 = load 4 68;if v1 != 0;if v2 != 0;v3 = 1;else;v3 = 0;end;else;v3 = 0;end;if v3 < 1;print d 1;else;end;halt 0|main 0 6 0;v1 = load 4 64;v2 = load 4 68;if v1 != 0;if v2 != 0;v3 = 1;else;v3 = 0;end;else;v3 = 0;end;if v3 < 1;print d 1;else;end;halt 0
-threads|main 0 6 0;v1 = load 4 64;v2 = load 4 68;if v1 != 0;if v2 != 0;v3 = 1;else;v3 = 0;end;else;v3 = 0;end;store 4 64 7;if v3 != 0;print d 1;else;end;halt 0|main 0 6 0;v1 = load 4 64;v2 = load 4 68;if v1 != 0;if v2 != 0;v3 = 1;else;v3 = 0;end;else;v3 = 0;end;store 4 64 7;if v3 != 0;print d 1;else;end;halt 0"#;
+threads|main 0 6 0;v1 = load 4 64;v2 = load 4 68;if v1 != 0;if v2 != 0;v3 = 1;else;v3 = 0;end;else;v3 = 0;end;store 4 64 7;if v3 != 0;print d 1;else;end;halt 0|main 0 6 0;v1 = load 4 64;v2 = load 4 68;if v1 != 0;if v2 != 0;v3 = 1;else;v3 = 0;end;else;v3 = 0;end;store 4 64 7;if v3 != 0;print d 1;else;end;halt 0
+threads|main 0 5 0;v1 = load 4 64;bounds v1 16;v2 = v1 + 16;v3 = load 4 v2;store 4 64 v3;halt 0|main 0 5 0;v1 = load 4 64;v2 = v1 + 16;good 1 v2;v3 = load 4 v2;store 4 64 v3;halt 0
+threads|main 0 5 0;v1 = load 4 64;loop;bounds v1 2047;v2 = v1 + 2047;store 1 v2 7;step;v1 = v1 + 4;good 1 v1;end;halt 0|main 0 5 0;v1 = load 4 64;loop;v2 = v1 + 2047;good 1 v2;store 1 v2 7;step;v1 = v1 + 4;good 1 v1;end;halt 0
+threads|main 0 5 0;v1 = load 4 64;v2 = v1 + 2048;good 1 v2;v3 = load 4 v2;store 4 64 v3;halt 0|main 0 5 0;v1 = load 4 64;v2 = v1 + 2048;good 1 v2;v3 = load 4 v2;store 4 64 v3;halt 0
+threads|main 0 5 0;v1 = load 4 64;v2 = v1 + 16;good 1 v1;v3 = load 4 v2;store 4 64 v3;halt 0|main 0 5 0;v1 = load 4 64;v2 = v1 + 16;good 1 v1;v3 = load 4 v2;store 4 64 v3;halt 0
+threads|main 0 5 0;v1 = load 4 64;v2 = v1 + 16;good 4 v2;v3 = load 4 v2;store 4 64 v3;halt 0|main 0 5 0;v1 = load 4 64;v2 = v1 + 16;good 4 v2;v3 = load 4 v2;store 4 64 v3;halt 0
+threads|main 0 5 0;v1 = load 4 64;v2 = v1 - 16;good 1 v2;v3 = load 4 v2;store 4 64 v3;halt 0|main 0 5 0;v1 = load 4 64;v2 = v1 - 16;good 1 v2;v3 = load 4 v2;store 4 64 v3;halt 0"#;
 
 /// What reports count; and what two accesses have in common, asked both ways.
 pub const REPORTS: &str =
