@@ -130,6 +130,14 @@ image|0 0 0 0 1 1 0 Some(Final(Ended(0))) 98`|f 1 6 0;if v1 != 0;v2 = v1 - 1;roo
 image|0 0 0 0 1 1 0 Some(Final(Trapped(4))) |f 1 6 0;if v1 != 0;v2 = v1 - 1;room 0;call v3 0 v2;v4 = 1 + v3;v5 = v4;else;v5 = 0;end;return v5#main 0 2 0;room 0;call v1 0 99;print d v1;print c 10;halt 0|
 image|1 0 0 0 1 0 0 Some(Final(Ended(0))) 0`|main 0 3 0;v1 = 4095;good 1 v1;v2 = load u1 v1;print d v2;print c 10;halt 0|
 image|1 0 0 0 1 0 0 Some(Final(Trapped(2))) |main 0 3 0;v1 = 4096;good 1 v1;v2 = load u1 v1;print d v2;print c 10;halt 0|
+image|1 0 0 0 1 0 0 Some(Final(Ended(0))) 0`|main 0 4 0;v1 = 4079;bounds v1 16;v2 = v1 + 16;v3 = load u1 v2;print d v3;print c 10;halt 0|
+image|1 0 0 0 1 0 0 Some(Final(Trapped(2))) |main 0 4 0;v1 = 4080;bounds v1 16;v2 = v1 + 16;v3 = load u1 v2;print d v3;print c 10;halt 0|
+image|1 0 0 0 1 0 0 Some(Final(Ended(0))) 0`|main 0 4 0;v1 = 4063;bounds v1 32;v2 = v1 + 32;v3 = load u1 v2;print d v3;print c 10;halt 0|
+image|1 0 0 0 1 0 0 Some(Final(Trapped(2))) |main 0 4 0;v1 = 4064;bounds v1 32;v2 = v1 + 32;v3 = load u1 v2;print d v3;print c 10;halt 0|
+image|1 0 0 0 1 0 0 Some(Final(Ended(0))) 0`|main 0 4 0;v1 = 16;bounds v1 0;v2 = v1 + 0;v3 = load u1 v2;print d v3;print c 10;halt 0|
+image|1 0 0 0 1 0 0 Some(Final(Trapped(2))) |main 0 4 0;v1 = 15;bounds v1 0;v2 = v1 + 0;v3 = load u1 v2;print d v3;print c 10;halt 0|
+image|1 0 0 0 1 0 0 Some(Final(Ended(0))) 0`|main 0 4 0;v1 = 4294967280;bounds v1 32;v2 = v1 + 32;v3 = load u1 v2;print d v3;print c 10;halt 0|
+image|1 0 0 0 1 0 0 Some(Final(Trapped(2))) |main 0 4 0;v1 = 4294967280;bounds v1 31;v2 = v1 + 31;v3 = load u1 v2;print d v3;print c 10;halt 0|
 image|1 0 0 0 1 0 0 Some(Final(Trapped(2))) |main 0 3 0;v1 = 4096;good 4 v1;v2 = load 4 v1;print d v2;print c 10;halt 0|
 image|1 0 0 0 1 0 0 Some(Final(Trapped(3))) |main 0 3 0;v1 = 4094;good 4 v1;v2 = load 4 v1;print d v2;print c 10;halt 0|
 registers|true|f 1 19 0;v18 = v1 + 1;v2 = v18;v18 = v1 + 2;v3 = v18;v18 = v1 + 3;v4 = v18;v18 = v1 + 4;v5 = v18;v18 = v1 + 5;v6 = v18;v18 = v1 + 6;v7 = v18;v18 = v1 + 7;v8 = v18;v18 = v1 + 8;v9 = v18;v18 = v1 + 9;v10 = v18;v18 = v1 + 10;v11 = v18;v18 = v1 + 11;v12 = v18;v18 = v1 + 12;v13 = v18;v18 = v1 + 13;v14 = v18;v18 = v1 + 14;v15 = v18;v18 = v1 + 15;v16 = v18;v18 = v1 + 16;v17 = v18;v18 = v2;v18 = v18 + v3;v18 = v18 + v4;v18 = v18 + v5;v18 = v18 + v6;v18 = v18 + v7;v18 = v18 + v8;v18 = v18 + v9;v18 = v18 + v10;v18 = v18 + v11;v18 = v18 + v12;v18 = v18 + v13;v18 = v18 + v14;v18 = v18 + v15;v18 = v18 + v16;v18 = v18 + v17;return v18#main 0 2 0;room 0;call v1 0 3;print d v1;print c 10;halt 0
