@@ -13,3 +13,4 @@ mod Sided
 mod Ways
 mod Used
 mod Registers
+mod Mirroring

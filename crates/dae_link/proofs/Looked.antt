@@ -1,6 +1,6 @@
 -- What is settled of the function of a number.
-use Rattle.std.proofs.Common.{◌≡◌, ℕ, zero, suc, ◌≤◌, ◌<◌, ◌^◌, Bool, true, false, List, [], ◌∷◌, length, refl, ap, sym, subst, arith, ◌∙◌}
-use Rattle.std.specs.Prelude.{Option, Some, None, slice_get, nat_lt}
+use Rattle.std.proofs.Common.{◌≡◌, ℕ, zero, suc, ◌≤◌, ◌<◌, ◌^◌, Bool, true, false, List, [], ◌∷◌, length, refl, ap, sym, subst, arith, ◌∙◌, ◌≢◌}
+use Rattle.std.specs.Prelude.{Option, Some, None, slice_get, nat_lt, not}
 use Rattle.std.specs.List.{AllByRecursion, AllZip}
 use Rattle.std.proofs.lemmas.Bool.Decides.{nat_tests}
 use Rattle.std.proofs.lemmas.Bool.{or_right, and_parts}
@@ -16,11 +16,11 @@ use Rattle.dae_select_blocks.specs.Sizes.{calls_in, is_leaf}
 use Rattle.dae_select_blocks.specs.Wanted.{IsRight}
 use Rattle.dae_regalloc.specs.Seen.{AreBelow}
 use Rattle.dae_select_values.specs.Tables.{IsNear}
-use Rattle.dae_select_calls.specs.Layouts.{homes_at, variables_at, entry_at, frame_at, leaf_at, bare_at}
+use Rattle.dae_select_calls.specs.Layouts.{homes_at, variables_at, entry_at, frame_at, leaf_at, bare_at, has_home, spares_at}
 use Rattle.dae_select_calls.specs.declared.layouts.FunctionLayout.{FunctionLayout}
 use Rattle.dae_link.specs.Settled.{IsLayoutOf, IsFrameWithin, have_registers}
 use Rattle.dae_link.specs.Sides.{body_in, parameters_in, frame_in}
-use Rattle.dae_link.proofs.Residing.{among_apart}
+use Rattle.dae_link.proofs.Residing.{among_apart, among_no_home}
 
 pub zip_long : (fs : List StreamFunction) (ls : List FunctionLayout) → AllZip IsLayoutOf fs ls → length ls ≡ length fs
 zip_long [] [] h = refl
@@ -129,6 +129,23 @@ bare_in_registers None None is e = absurd (let no : false ≡ true = e in cc)
 bare_in_registers None (Some l) is e = absurd is
 bare_in_registers (Some f) None is e = absurd is
 bare_in_registers (Some f) (Some l) is e = (and_parts (is_leaf (actions_of f.body)) (have_registers l.homes) (sym is.bare ∙ e)).1
+
+-- and where a function spares a register it is a leaf with no variable there
+pub spares_as_leaf : (l : Option FunctionLayout) (r : ℕ) → spares_at l r ≡ true → leaf_at l ≡ true
+spares_as_leaf None r e = absurd (let no : false ≡ true = e in cc)
+spares_as_leaf (Some l) r e = (and_parts l.leaf (not (has_home r l.homes)) e).0
+
+pub spares_apart : (numbers : List ℕ) (f : Option StreamFunction) (l : Option FunctionLayout) → IsLayoutAt f l → (v r : ℕ) → v < variables_at l → spares_at l r ≡ true → home_among (homes_at l) numbers v ≢ Register r
+spares_apart numbers None None is v r lt e = absurd (let no : false ≡ true = e in cc)
+spares_apart numbers None (Some l) is v r lt e = absurd is
+spares_apart numbers (Some f) None is v r lt e = absurd is
+spares_apart numbers (Some f) (Some l) is v r lt e =
+    let count = is.count in let few = is.few in
+    among_no_home l.homes numbers r v (omega arith) (omega arith) (absent (has_home r l.homes) (and_parts l.leaf (not (has_home r l.homes)) e).1)
+  where
+    absent : (b : Bool) → not b ≡ true → b ≡ false
+    absent true h = absurd (let no : false ≡ true = h in cc)
+    absent false h = refl
 
 pub parameters_at : (f : Option StreamFunction) (l : Option FunctionLayout) → IsLayoutAt f l → (u : ℕ) → parameters_set (parameters_in f) u ≡ true → u < variables_at l
 parameters_at None None is u h = absurd (grind (arith, nat_tests))

@@ -3,6 +3,7 @@ use Rattle.std.proofs.Common.{◌≡◌, ◌≢◌, ◌⊎◌, inl, inr, ℕ, ze
 use Rattle.std.specs.Prelude.{nat_lt, nat_eq, if◌then◌else◌, slice_get}
 use Rattle.std.specs.List.{AllByRecursion}
 use Rattle.std.proofs.lemmas.Bool.Decides.{nat_tests}
+use Rattle.std.proofs.lemmas.Bool.{or_parts}
 use Rattle.dae_base.proofs.Laws.{and_true}
 use Rattle.dae_ir.specs.Classes.{VariableSet}
 use Rattle.dae_regalloc.specs.Seen.{AreBelow}
@@ -11,9 +12,9 @@ use Rattle.dae_select_walks.specs.declared.Home.TheVariants.{Register, Slot}
 use Rattle.dae_select_walks.specs.Homes.{IsHome, AreApart, home_in, home_among, resident_home, resident_register}
 use Rattle.dae_select_walks.proofs.LawsOfWalks.{variable_home}
 use Rattle.dae_encode.specs.declared.Inst.TheVariants.{Lui, Addi}
-use Rattle.dae_select_blocks.specs.Blocks.{upper, lower, number_code, is_immediate, residents_code}
+use Rattle.dae_select_blocks.specs.Blocks.{upper, lower, number_code, is_immediate, is_register, residents_code}
 use Rattle.dae_select_blocks.proofs.LawsOfBlocks.{resident_high}
-use Rattle.dae_select_calls.specs.Layouts.{homes_at}
+use Rattle.dae_select_calls.specs.Layouts.{homes_at, has_home}
 use Rattle.dae_select_calls.specs.declared.layouts.FunctionLayout.{FunctionLayout}
 use Rattle.dae_link.specs.Residents.{IsWord, is_low, all_low, each_low}
 use Rattle.dae_link.specs.Settled.{has_register, have_registers}
@@ -78,6 +79,19 @@ among_no_slot homes numbers e v i = by (nat_lt v (2 ^ 32))
     by : (b : Bool) → (if b then home_in homes v else resident_home 27 numbers (v - 2 ^ 32)) ≢ Slot i
     by true = home_no_slot homes e v i
     by false = resident_no_slot 27 numbers (v - 2 ^ 32) i
+
+-- where none of the homes is a register, no variable is there
+no_home : (homes : List Home) (r v : ℕ) → v < length homes → has_home r homes ≡ false → home_in homes v ≢ Register r
+no_home [] r v l e = absurd (omega arith)
+no_home (h ∷ hs) r zero l e = by h (or_parts (is_register r h) (has_home r hs) e).0
+  where
+    by : (g : Home) → is_register r g ≡ false → g ≢ Register r
+    by (Register q) other = λ is. (let same : q ≡ r = cc in let yes : nat_eq r q ≡ true = grind (arith, nat_tests) in let no : true ≡ false = sym yes ∙ other in cc)
+    by (Slot i) other = λ is. (let no : Slot i ≡ Register r = is in cc)
+no_home (h ∷ hs) r (suc v) l e = no_home hs r v (omega arith) (or_parts (is_register r h) (has_home r hs) e).1
+
+pub among_no_home : (homes : List Home) (numbers : List ℕ) (r v : ℕ) → v < length homes → v < 2 ^ 32 → has_home r homes ≡ false → home_among homes numbers v ≢ Register r
+among_no_home homes numbers r v l few e = λ same. no_home homes r v l e (sym (variable_home homes numbers v few) ∙ same)
 
 -- the homes of variables that are below a number are what they are alone
 pub among_apart : (homes : List Home) (numbers : List ℕ) (count : ℕ) (lives : VariableSet) → count ≤ 2 ^ 26 → AreBelow count lives → AreApart (home_in homes) lives → AreApart (home_among homes numbers) lives

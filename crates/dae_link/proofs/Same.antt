@@ -21,7 +21,7 @@ use Rattle.dae_select_blocks.specs.Blocks.{arguments_code, argument_code, save_c
 use Rattle.dae_select_blocks.specs.Sizes.{is_short}
 use Rattle.dae_select_walks.specs.declared.Standing.{Standing}
 use Rattle.dae_select_walks.specs.declared.Standing.TheVariants.{Settled, Early, Late}
-use Rattle.dae_select_blocks.specs.Code.{registers_in, standing_behind, is_dead, needed_code, block_code, action_code, branch_code, does_nothing, past_code, call_code, back_branch, has_bottom, loop_code, bottom_code, code_of, function_code, entry_code}
+use Rattle.dae_select_blocks.specs.Code.{registers_in, standing_behind, is_dead, needed_code, block_code, action_code, branch_code, does_nothing, past_code, call_code, back_branch, has_bottom, loop_code, bottom_code, code_of, function_code, entry_code, unspared}
 
 -- lists with parts that are as long are as long
 pub both_long : (xs xs' ys ys' : List Inst) → length xs ≡ length xs' → length ys ≡ length ys' → length (xs ++ ys) ≡ length (xs' ++ ys')
@@ -51,6 +51,7 @@ at_words p entry start finish = record {
   frame = p.frame;
   leaf = p.leaf;
   bare = p.bare;
+  spares = p.spares;
   near = p.near;
   finish = finish;
   largest = p.largest;
@@ -99,7 +100,7 @@ module _ (p : Plan) (entry start : ℕ → ℕ) (finish : ℕ) (variables : ℕ 
   call_long : (v : Option ℕ) (g : ℕ) (xs : List Argument) (k : VariableSet) → length (call_code q variables f v g xs k) ≡ length (call_code p variables f v g xs k)
   call_long v g xs k =
       both_long (arguments_code q f g xs) (arguments_code p f g xs) _ _ (ap length (arguments_same g xs))
-      (both_long (save_code (registers_in (p.home f) (variables f) k)) (save_code (registers_in (p.home f) (variables f) k)) _ _ refl
+      (both_long (save_code (registers_in (p.home f) (variables f) (unspared p f g k))) (save_code (registers_in (p.home f) (variables f) (unspared p f g k))) _ _ refl
       (both_long (parameters_code q f g xs) (parameters_code p f g xs) _ _ (ap length (parameters_same g xs))
       (both_long (deeper_code q f g) (deeper_code p f g) _ _ refl (both_long (enter_code p.near (entry g)) (enter_code p.near (p.entry g)) _ _ (enter_same p.near (entry g) (p.entry g)) refl))))
 

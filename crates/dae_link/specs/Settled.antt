@@ -1,5 +1,5 @@
 -- What is settled of a side before its functions have places: homes, frames, private memory, and numbers that stay in registers.
-use Rattle.std.specs.Prelude.{◌≡◌, ◌⊎◌, ℕ, ◌-◌, ◌*◌, ◌^◌, ◌≤◌, ◌<◌, Bool, true, false, ◌&&◌, List, [], ◌∷◌, length}
+use Rattle.std.specs.Prelude.{◌≡◌, ◌⊎◌, ℕ, ◌-◌, ◌*◌, ◌^◌, ◌≤◌, ◌<◌, Bool, true, false, ◌&&◌, ◌||◌, nat_lt, nat_eq, if◌then◌else◌, List, [], ◌∷◌, length, map}
 use Rattle.std.specs.List.{AllByRecursion, AllZip}
 use Rattle.dae_ir.specs.Streams.{actions_of}
 use Rattle.dae_ir.specs.declared.stream.Stream.{Stream}
@@ -30,6 +30,30 @@ have_registers (home ∷ homes) = has_register home && have_registers homes
 -- a leaf whose variables all have registers needs no private frame
 abbrev pub is_frameless : StreamFunction → List Home → Bool
 is_frameless f homes = is_leaf (actions_of f.body) && have_registers homes
+
+-- ---- leaves take registers from the other end, so that what is live at their calls is seldom in these
+
+-- as far from x24 as the register is from x8. What would be x10 or x17 stays itself, and so do x25 to x27, where numbers may stay
+abbrev pub mirrored : ℕ → ℕ
+mirrored r = if (nat_eq r 15 || nat_eq r 22) || nat_lt 24 r then r else 32 - r
+
+abbrev pub mirrored_home : Home → Home
+mirrored_home (Register r) = Register (mirrored r)
+mirrored_home (Slot i) = Slot i
+
+-- the homes of a function's variables, from those that they are given by their places
+abbrev pub own_homes : StreamFunction → List Home → List Home
+own_homes f homes = if is_leaf (actions_of f.body) then map mirrored_home homes else homes
+
+-- the homes are right, a variable that is live anywhere in the function has one of them, and each has a register where around no place
+-- more than 18 are live
+pub record AreHomesOf (f : StreamFunction) (homes : List Home) : Type 0 where
+  pub homes : (variables : ℕ) → AreHomes variables (function_lives f.parameters (actions_of f.body)) (home_in homes)
+  pub inside : AllByRecursion (AreBelow (length homes)) (function_lives f.parameters (actions_of f.body))
+  pub least : (n : ℕ) → AllByRecursion (AreBelow n) (function_lives f.parameters (actions_of f.body)) → length homes ≤ n
+  pub registers : AreFew 18 (function_lives f.parameters (actions_of f.body)) → (v : ℕ) → IsRegister (home_in homes v)
+
+-- ---- layouts
 
 -- where around no place of the function more than 18 variables are live, each has a register
 abbrev pub KeepsInRegisters : StreamFunction → FunctionLayout → Type 0

@@ -1,11 +1,11 @@
 // What is settled of a side before its functions have places: homes, frames, private memory, and numbers that stay in registers.
 
-ghost use Rattle.std.specs.Prelude.{◌≡◌, true, ◌≢◌, ℕ, ◌-◌, ◌*◌, ◌≤◌, ◌<◌, ◌^◌, ◌∷◌, [], length, IfOk, IfErr};
+ghost use Rattle.std.specs.Prelude.{◌≡◌, true, ◌≢◌, ℕ, ◌-◌, ◌*◌, ◌≤◌, ◌<◌, ◌^◌, ◌∷◌, [], length, map, IfOk, IfErr};
 ghost use Rattle.std.specs.List.{AllByRecursion, AllZip, list_all};
 ghost use Rattle.dae_ir.specs.Streams.{actions_of};
 ghost use Rattle.dae_select_blocks.specs.Sizes.{is_leaf};
 ghost use Rattle.dae_select_calls.specs.Layouts.{AreSmall};
-ghost use Rattle.dae_link.specs.Settled.{IsLayoutOf, IsFrameWithin, AreTooMany, IsTooDeep, AreUnplaced, is_numberable, has_register, have_registers, is_frameless};
+ghost use Rattle.dae_link.specs.Settled.{IsLayoutOf, IsFrameWithin, AreTooMany, IsTooDeep, AreUnplaced, is_numberable, has_register, have_registers, is_frameless, mirrored, mirrored_home, own_homes, AreHomesOf};
 ghost use Rattle.dae_link.specs.declared.error.CodeError.TheVariants as errors;
 
 use crate::error::CodeError;
@@ -18,7 +18,7 @@ use dae_select::is_leaf;
 use dae_select_calls::{FunctionLayout, Layouts};
 use dae_select_values::CallForm;
 use dae_select_walks::Home;
-use std::alloc::Global;
+use std::alloc::{AllocError, Global};
 
 /// The words that a private frame has besides the slots.
 const KEPT_WORDS: u32 = 19;
@@ -86,6 +86,61 @@ fn is_frameless(function: &StreamFunction, homes: &[Home]) -> bool
     is_leaf_function(function) && have_registers(homes)
 }
 
+/// The register that is as far from x24 as this one is from x8. What would be x10 or x17, where no variable is, stays itself, and
+/// so do x25 to x27, where numbers may stay.
+fn mirrored(register: u8) -> u8
+    ensures { result ≡ mirrored register }
+{
+    if register == 15 || register == 22 || register > 24 {
+        register
+    } else {
+        32 - register
+    }
+}
+
+fn mirrored_home(home: Home) -> Home
+    ensures { result ≡ mirrored_home home }
+{
+    match home {
+        Home::Register(register) => Home::Register(mirrored(register)),
+        Home::Slot(slot) => Home::Slot(slot),
+    }
+}
+
+fn mirrored_homes(alloc: Global, homes: &[Home]) -> Result<Vec<Home>, AllocError>
+    ensures { IfOk result (λ all. all.items ≡ map mirrored_home homes.now) }
+{
+    let mut all = Vec::new(alloc);
+    for home in homes {
+        all.push(mirrored_home(*home))?;
+    }
+    Ok(all)
+}
+
+/// The homes of a function's variables, from those that they are given by their places. A leaf takes registers from the other
+/// end, so that its callers seldom have to keep theirs.
+fn own_homes(
+    alloc: Global,
+    function: &StreamFunction,
+    homes: Vec<Home>,
+) -> Result<Vec<Home>, AllocError>
+    ensures { IfOk result (λ own. own.items ≡ own_homes function.now homes.items) }
+{
+    if is_leaf_function(function) {
+        return mirrored_homes(alloc, homes.as_slice());
+    }
+    Ok(homes)
+}
+
+/// A home for each variable of a function.
+fn function_homes(alloc: Global, function: &StreamFunction) -> Result<Vec<Home>, AllocError>
+    requires { is_numberable function.now ≡ true }
+    ensures { IfOk result (λ homes. AreHomesOf function.now homes.items) }
+{
+    let homes = allocate(alloc, function.parameters, function.body.as_slice())?;
+    own_homes(alloc, function, homes)
+}
+
 /// The homes of a function's variables, at first at word 0.
 fn layout_of(alloc: Global, function: &StreamFunction) -> Result<FunctionLayout, CodeError>
     requires { is_numberable function.now ≡ true }
@@ -93,7 +148,7 @@ fn layout_of(alloc: Global, function: &StreamFunction) -> Result<FunctionLayout,
     ensures code { IfErr result (λ e. e ≢ errors.Code) }
     ensures private { IfErr result (λ e. e ≡ errors.Private → AreTooMany (function.now ∷ [])) }
 {
-    let homes = allocate(alloc, function.parameters, function.body.as_slice())?;
+    let homes = function_homes(alloc, function)?;
     let bare = is_frameless(function, homes.as_slice());
     Ok(FunctionLayout {
         variables: count_of(homes.len())?,

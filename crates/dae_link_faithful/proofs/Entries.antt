@@ -70,7 +70,7 @@ module _ (ir : Ir) (tables : List (List Class)) (cap : ℕ) (closed : AreClosed 
 -- what the parameters' homes are, so are those of the arguments
 pub arguments_homes : (plan : Plan) (g : ℕ) (callee : VariableSet) (xs : List Operand) (count : ℕ) → length xs ≡ count → HaveHomes plan g (parameters_set count) → HaveHomes plan g (gives (arguments_in callee 1 xs))
 arguments_homes plan g callee xs count same homes =
-    record { apart = λ u v hu hv other. homes.apart u v (inside u hu) (inside v hv) other; free = λ u n r hu. homes.free u n r (inside u hu) }
+    record { apart = λ u v hu hv other. homes.apart u v (inside u hu) (inside v hv) other; free = λ u n r hu. homes.free u n r (inside u hu); unspared = λ u r hu. homes.unspared u r (inside u hu) }
   where
     inside : (u : ℕ) → gives (arguments_in callee 1 xs) u ≡ true → parameters_set count u ≡ true
     inside u h =

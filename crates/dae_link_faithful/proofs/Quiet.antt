@@ -27,7 +27,7 @@ use Rattle.dae_select_walks.specs.Agrees.{Plan}
 use Rattle.dae_select_walks.specs.declared.Home.{Home}
 use Rattle.dae_select_walks.specs.declared.Home.TheVariants.{Register, Slot}
 use Rattle.dae_select_blocks.specs.Blocks.{upper, lower, is_immediate, more_code, less_code, number_code, load_code, store_code, register_or, source, fetch_home, fetch, move_code, keep, operation_code, exponent, power_code, immediate_code, commutes, exchanged_code, behind_or, combine_registers, binary_code, extend_code, compare_code, compare_number_code, tell_number_code, compare_registers, compare_operands, test_code, value_code, system_code, stop_code, jump_by, enter_code, arguments_code, save_code, restore_code, deeper_code, back_code, result_code, leave_code, jump_words, jump_over, jump_back, branch_inst, opposite, goes_by, goes_code, number_or, fetch_number, as_immediate, residents_code, prologue_code, epilogue_code, is_overwritten, argument_to, copy_code, parameter_to, parameters_code}
-use Rattle.dae_select_blocks.specs.Code.{call_code, entry_code, start_code, finish_code, past_code}
+use Rattle.dae_select_blocks.specs.Code.{call_code, entry_code, start_code, finish_code, past_code, unspared}
 use Rattle.dae_select_blocks.proofs.LawsOfBlocks.{AreBelowQueues, live_registers, number_below}
 use Rattle.dae_link_faithful.proofs.Access.{IsPlain}
 
@@ -397,7 +397,7 @@ module _ (plan : Plan) (variables : ℕ → ℕ) (good : (f v : ℕ) → IsHome 
 
   pub call_plain : (f : ℕ) (v : Option ℕ) (g : ℕ) (xs : List Argument) (live : VariableSet) → AllPlain (call_code plan variables f v g xs live)
   call_plain f v g xs live =
-      let rs = live_registers plan (variables f) f live in
+      let rs = live_registers plan (variables f) f (unspared plan f g live) in
       plain_append _ _ (arguments_plain f g xs) (plain_append _ _ (save_plain _ rs) (plain_append _ _ (parameters_plain f g xs) (plain_append (deeper_code plan f g) _ (deeper_plain f g) (plain_append (enter_code plan.near (plan.entry g)) _ (enter_plain plan.near (plan.entry g))
       (plain_append (back_code plan f g) _ (back_plain f g) (plain_append _ _ (restore_plain _ rs) (result_plain (variables f) (plan.home f) (good f) v)))))))
 

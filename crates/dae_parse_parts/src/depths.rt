@@ -26,7 +26,7 @@ impl Depths {
     }
 
     /// The nodes of these parts, and of others behind them.
-    pub fn beside(self, other: &Depths) -> Result<Depths, AllocError>
+    fn beside(self, other: &Depths) -> Result<Depths, AllocError>
         ensures { IfOk result
             (λ d. d.places.items
             ≡ self.places.items ++ drop (length self.places.items) other.now.places.items) }
@@ -38,6 +38,19 @@ impl Depths {
             places.extend_from_slice(&others[known..])?;
         }
         Ok(Depths { places })
+    }
+
+    /// The nodes of these parts, and of others behind them. Where these have none, the others' memory is theirs.
+    pub fn joined(self, others: Depths) -> Result<Depths, AllocError>
+        ensures { IfOk result
+            (λ d. d.places.items
+            ≡ self.places.items ++ drop (length self.places.items) others.places.items) }
+    {
+        if self.places.is_empty() {
+            Ok(others)
+        } else {
+            self.beside(&others)
+        }
     }
 
     /// A node at this place that holds these.

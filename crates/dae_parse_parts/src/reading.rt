@@ -49,7 +49,7 @@ pub fn beside<T: Drop, U: Drop>(left: Read<T>, right: Read<U>) -> Result<Read<(T
         tree: other,
         depths: others,
     } = right;
-    let depths = depths.beside(&others)?;
+    let depths = depths.joined(others)?;
     match (tree, other) {
         (Some(tree), Some(other)) => Ok(Read {
             tree: Some((tree, other)),

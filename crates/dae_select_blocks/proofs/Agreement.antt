@@ -1,5 +1,5 @@
 -- What keeps the agreement with a moment: work in scratch registers, and a result that goes home.
-use Rattle.std.proofs.Common.{◌≡◌, ◌≢◌, ℕ, ◌+◌, ◌-◌, ◌^◌, ◌<◌, ◌≤◌, Bool, true, false, ◌&&◌, List, [], ◌∷◌, Some, None, refl, sym, ap, ◌∙◌, subst, arith, ◌*◌}
+use Rattle.std.proofs.Common.{◌≡◌, ◌≢◌, ℕ, zero, ◌+◌, ◌-◌, ◌^◌, ◌<◌, ◌≤◌, Bool, true, false, ◌&&◌, List, [], ◌∷◌, Some, None, refl, sym, ap, ◌∙◌, arith, ◌*◌}
 use Rattle.std.specs.Prelude.{nat_eq, nat_lt, if◌then◌else◌}
 use Rattle.std.proofs.lemmas.Bool.Decides.{nat_tests}
 use Rattle.std.proofs.lemmas.Option.{same_Some}
@@ -10,7 +10,7 @@ use Rattle.dae_meaning.specs.Variables as form
 use Rattle.dae_select_walks.specs.declared.Home.{Home}
 use Rattle.dae_select_walks.specs.declared.Home.TheVariants.{Register, Slot}
 use Rattle.dae_select_walks.specs.Walks.{Setting}
-use Rattle.dae_select_walks.specs.Homes.{Contents, held, kept, is_home_register, IsHome, kept_at, slot_at, frame_words, number_key, resident_home, resident_register}
+use Rattle.dae_select_walks.specs.Homes.{Contents, held, kept, is_home_register, IsHome, kept_at, slot_at, frame_words, number_key, resident_home, resident_register, none_spared}
 use Rattle.dae_select_walks.specs.Agrees.{Plan, Moment, Waiting, depth_of, Agrees, AreWaiting, return_address, words_below}
 use Rattle.dae_select_walks.specs.Compiled.{with_env}
 use Rattle.dae_select_blocks.specs.Fits.{Fits}
@@ -66,10 +66,11 @@ pub record Like (r : ℕ) (c c' : Contents) : Type 0 where
   pub fits : (j : ℕ) → c'.register j < 2 ^ 32
 
 module _ (s : Setting) (plan : Plan) (variables : ℕ → ℕ) (fine : Fits s plan variables) where
-  -- the waiting calls are kept in the words up to the frame's first, and the address that is returned to
-  pub waiting_same : (c c' : Contents) (address address' base frame : ℕ) (ws : List Waiting) → address' ≡ address → ((i : ℕ) → i ≤ base → c'.word i ≡ c.word i) → AreWaiting plan c address base frame ws → AreWaiting plan c' address' base frame ws
-  waiting_same c c' address address' base frame [] returns same h = (h.0, h.1, returns ∙ h.2)
-  waiting_same c c' address address' base frame (w ∷ ws) returns same h =
+  -- the waiting calls are kept in the words up to the frame's first, in registers that are spared, and the address that is returned to
+  pub waiting_same : (c c' : Contents) (spared spared' : ℕ → Bool) (address address' base frame : ℕ) (ws : List Waiting) → address' ≡ address → ((i : ℕ) → i ≤ base → c'.word i ≡ c.word i) → ((r : ℕ) → spared' r ≡ spared r) →
+      ((r : ℕ) → is_home_register r ≡ true → spared r ≡ true → c'.register r ≡ c.register r) → AreWaiting plan c spared address base frame ws → AreWaiting plan c' spared' address' base frame ws
+  waiting_same c c' spared spared' address address' base frame [] returns same alike registers h = (h.0, h.1, returns ∙ h.2)
+  waiting_same c c' spared spared' address address' base frame (w ∷ ws) returns same alike registers h =
       let below = h.0 in let base_is = h.1 in
       let is = fine.words w.function in (
         below,
@@ -80,11 +81,17 @@ module _ (s : Setting) (plan : Plan) (variables : ℕ → ℕ) (fine : Fits s pl
         h.5,
         returns ∙ h.6,
         (λ v l. one below v base_is is (plan.home w.function v) (fine.homes w.function v) ∙ h.7 v l),
-        waiting_same c c' (c.word below) (c'.word below) below w.frame ws (same below (omega arith)) (λ i l. same i (omega arith)) h.8,
+        waiting_same c c' none_spared none_spared (c.word below) (c'.word below) below w.frame ws (same below (omega arith)) (λ i l. same i (omega arith)) (λ r. refl) (λ r good e. absurd (let no : false ≡ true = e in cc)) h.8,
       )
     where
-      one : (below v : ℕ) → base ≡ below + plan.words w.function → plan.words w.function ≡ frame_words (variables w.function) → (home : Home) → IsHome (variables w.function) home → kept c' below home ≡ kept c below home
-      one below v at is (Register r) good = let l = kept_small r good in same (below + kept_at r) (omega arith)
+      place : (below r : ℕ) → is_home_register r ≡ true → c'.word (below + kept_at r) ≡ c.word (below + kept_at r) → (x y : Bool) → spared' r ≡ x → spared r ≡ y → (if x then c'.register r else c'.word (below + kept_at r)) ≡ (if y then c.register r else c.word (below + kept_at r))
+      place below r good word true true e f = registers r good f
+      place below r good word false false e f = word
+      place below r good word true false e f = absurd (let no : true ≡ false = sym e ∙ (alike r ∙ f) in cc)
+      place below r good word false true e f = absurd (let no : false ≡ true = sym e ∙ (alike r ∙ f) in cc)
+
+      one : (below v : ℕ) → base ≡ below + plan.words w.function → plan.words w.function ≡ frame_words (variables w.function) → (home : Home) → IsHome (variables w.function) home → kept spared' c' below home ≡ kept spared c below home
+      one below v at is (Register r) good = let l = kept_small r good in place below r good (same (below + kept_at r) (omega arith)) (spared' r) (spared r) refl refl
       one below v at is (Slot i) good = same (below + slot_at i) (omega arith)
 
   -- a function that makes calls has a frame of its own, and so has one with a slot
@@ -115,13 +122,24 @@ module _ (s : Setting) (plan : Plan) (variables : ℕ → ℕ) (fine : Fits s pl
       by true = link
       by false = first
 
-  pub waiting_stays : (f : ℕ) (c c' : Contents) (base frame : ℕ) (ws : List Waiting) → c'.register 1 ≡ c.register 1 → ((i : ℕ) → i ≤ base → c'.word i ≡ c.word i) → AreWaiting plan c (return_address plan f c base) base frame ws → AreWaiting plan c' (return_address plan f c' base) base frame ws
-  waiting_stays f c c' base frame ws link same h =
-      waiting_same c c' (return_address plan f c base) (return_address plan f c' base) base frame ws (address_same f base c c' link (same base (omega arith))) same h
+  pub waiting_stays : (f : ℕ) (c c' : Contents) (base frame : ℕ) (ws : List Waiting) → c'.register 1 ≡ c.register 1 → ((i : ℕ) → i ≤ base → c'.word i ≡ c.word i) → ((r : ℕ) → is_home_register r ≡ true → plan.spares f r ≡ true → c'.register r ≡ c.register r) →
+      AreWaiting plan c (plan.spares f) (return_address plan f c base) base frame ws → AreWaiting plan c' (plan.spares f) (return_address plan f c' base) base frame ws
+  waiting_stays f c c' base frame ws link same registers h =
+      waiting_same c c' (plan.spares f) (plan.spares f) (return_address plan f c base) (return_address plan f c' base) base frame ws (address_same f base c c' link (same base (omega arith))) same (λ r. refl) registers h
 
-  -- where a function that is no leaf has it
-  pub waiting_kept : (f : ℕ) (c : Contents) (base frame : ℕ) (ws : List Waiting) → plan.leaf f ≡ false → AreWaiting plan c (return_address plan f c base) base frame ws → AreWaiting plan c (c.word base) base frame ws
-  waiting_kept f c base frame ws calls h = subst (λ (leaf : Bool). AreWaiting plan c (if leaf then c.register 1 else c.word base) base frame ws) calls h
+  -- a function that makes calls spares no register
+  pub calls_spare : (f r : ℕ) → plan.leaf f ≡ false → plan.spares f r ≡ false
+  calls_spare f r calls = by (plan.spares f r) refl
+    where
+      by : (spared : Bool) → plan.spares f r ≡ spared → spared ≡ false
+      by true e = absurd (let leaf = fine.spares f r e in let no : true ≡ false = sym leaf ∙ calls in cc)
+      by false e = refl
+
+  -- and has the address in its frame
+  pub waiting_kept : (f : ℕ) (c : Contents) (base frame : ℕ) (ws : List Waiting) → plan.leaf f ≡ false → AreWaiting plan c (plan.spares f) (return_address plan f c base) base frame ws → AreWaiting plan c none_spared (c.word base) base frame ws
+  waiting_kept f c base frame ws calls h =
+      let found : return_address plan f c base ≡ c.word base = ap (λ (leaf : Bool). if leaf then c.register 1 else c.word base) calls in
+      waiting_same c c (plan.spares f) none_spared (return_address plan f c base) (c.word base) base frame ws (sym found) (λ i l. refl) (λ r. sym (calls_spare f r calls)) (λ r good e. refl) h
 
   pub held_like : (r base n : ℕ) (c c' : Contents) (home : Home) → IsScratch plan r → Like r c c' → IsHome n home → held c' base home ≡ held c base home
   held_like r base n c c' (Register h) scratch like good = let e = scratch.home in like.registers h (λ same. other_bool h r good e same)
@@ -145,7 +163,7 @@ module _ (s : Setting) (plan : Plan) (variables : ℕ → ℕ) (fine : Fits s pl
           depth = λ by_a. like.registers 10 (scratch.depth by_a) ∙ a.depth by_a;
           addresses = λ by_a. like.registers 4 (scratch.addresses by_a) ∙ a.addresses by_a;
           residents = λ n q e. held_like r a.base 0 c c' (Register q) scratch like (resident_good (resident_home 27 plan.residents n) q e) ∙ a.residents n q e;
-          waiting = waiting_stays m.function c c' a.base m.frame m.waiting (like.registers 1 scratch.link) (λ i l. like.words i) a.waiting;
+          waiting = waiting_stays m.function c c' a.base m.frame m.waiting (like.registers 1 scratch.link) (λ i l. like.words i) (λ q good e. held_like r a.base 0 c c' (Register q) scratch like good) a.waiting;
           room = a.room;
           within = a.within;
         };
@@ -182,7 +200,7 @@ module _ (s : Setting) (plan : Plan) (variables : ℕ → ℕ) (fine : Fits s pl
           depth = λ by_a. g.depth by_a ∙ a.depth by_a;
           addresses = λ by_a. g.addresses by_a ∙ a.addresses by_a;
           residents = λ n q e. g.others (Register q) (resident_good (resident_home 27 plan.residents n) q e) (λ same. fine.apart m.function v n q scope e (sym same)) ∙ a.residents n q e;
-          waiting = waiting_stays m.function c c' a.base m.frame m.waiting g.link g.below a.waiting;
+          waiting = waiting_stays m.function c c' a.base m.frame m.waiting g.link g.below (λ q good e. g.others (Register q) good (λ same. fine.spared m.function v q scope e (sym same))) a.waiting;
           room = a.room;
           within = record { depth = a.within.depth; frame = a.within.frame };
         };

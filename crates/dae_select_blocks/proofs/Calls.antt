@@ -1,8 +1,8 @@
 -- A call keeps what is live behind it; arguments go to slots, or wait; a return brings back.
-use Rattle.std.proofs.Common.{◌≡◌, ◌≢◌, ℕ, zero, suc, ◌+◌, ◌*◌, ◌^◌, ◌<◌, ◌≤◌, ◌⊎◌, inl, inr, Bool, true, false, ◌&&◌, ◌||◌, List, [], ◌∷◌, ◌++◌, refl, sym, ap, ◌∙◌, subst, arith, append_assoc}
+use Rattle.std.proofs.Common.{◌≡◌, ◌≢◌, ℕ, zero, suc, ◌+◌, ◌*◌, ◌^◌, ◌<◌, ◌≤◌, ◌⊎◌, inl, inr, Bool, true, false, ◌&&◌, ◌||◌, List, [], ◌∷◌, ◌++◌, refl, sym, ap, ◌∙◌, subst, arith, append_assoc, not}
 use Rattle.std.specs.Prelude.{nat_eq, if◌then◌else◌}
 use Rattle.std.proofs.lemmas.Bool.Decides.{nat_tests}
-use Rattle.dae_base.proofs.Laws.{or_true}
+use Rattle.dae_base.proofs.Laws.{or_true, and_false}
 use Rattle.dae_encode.specs.declared.Inst.{Inst}
 use Rattle.dae_encode.specs.Processor.{Processor}
 use Rattle.dae_ir.specs.Classes.{VariableSet}
@@ -19,7 +19,7 @@ use Rattle.dae_select_walks.specs.Agrees.{Plan, Moment}
 use Rattle.dae_select_walks.specs.Compiled.{given}
 use Rattle.dae_select_walks.proofs.LawsOfWalks.{put, store}
 use Rattle.dae_select_blocks.specs.Blocks.{source, store_code, is_register, gives_register, is_overwritten, argument_to, argument_code, arguments_code, save_code, restore_code}
-use Rattle.dae_select_blocks.specs.Code.{some_below, filtered, home_registers, registers_in}
+use Rattle.dae_select_blocks.specs.Code.{some_below, filtered, home_registers, registers_in, is_spared, unspared}
 use Rattle.dae_select_blocks.specs.Fits.{Fits}
 use Rattle.dae_select_blocks.specs.Wanted.{IsNumber, AreGiven, gives}
 use Rattle.dae_select_blocks.proofs.Plain.{put_same, put_other}
@@ -112,6 +112,22 @@ among_other home n r live h =
         last true e = absurd (ne (let same : q ≡ r = grind (arith, nat_tests) in ap Register same))
         last false e = refl
     elsewhere true (Slot i) ne = refl
+
+-- nor is a register that the called function spares
+pub among_spared : (plan : Plan) (n f g r : ℕ) (live : VariableSet) → plan.spares g r ≡ true → among r (registers_in (plan.home f) n (unspared plan f g live)) ≡ false
+unfolding registers_in
+among_spared plan n f g r live e =
+    not_filtered (λ r. some_below n (λ v. unspared plan f g live v && is_register r (plan.home f v))) r home_registers
+    (none_below n (λ v. unspared plan f g live v && is_register r (plan.home f v)) (λ v l. away (live v) (plan.home f v)))
+  where
+    by : (q : ℕ) (t : Bool) → nat_eq r q ≡ t → (not (plan.spares g q) && t) ≡ false
+    by q true s = let same : q ≡ r = grind (arith, nat_tests) in let spared : plan.spares g q ≡ true = ap (plan.spares g) same ∙ e in rw spared refl
+    by q false s = and_false (not (plan.spares g q))
+
+    away : (b : Bool) (home : Home) → ((b && not (is_spared (plan.spares g) home)) && is_register r home) ≡ false
+    away false home = refl
+    away true (Register q) = by q (nat_eq r q) refl
+    away true (Slot i) = refl
 
 kept_apart : (q r : ℕ) → is_home_register q ≡ true → is_home_register r ≡ true → q ≢ r → kept_at q ≢ kept_at r
 kept_apart q r a b ne e = grind (arith, nat_tests)
@@ -255,7 +271,7 @@ module _ (s : Setting) (plan : Plan) (variables : ℕ → ℕ) (fine : Fits s pl
           depth = λ by_a. registers 10 (omega arith) ∙ a.depth by_a;
           addresses = λ by_a. registers 4 (omega arith) ∙ a.addresses by_a;
           residents = λ n q e. registers q (let high = resident_high (resident_home 27 plan.residents n) q e in omega arith) ∙ a.residents n q e;
-          waiting = waiting_stays s plan variables fine m.function c c' a.base m.frame m.waiting (registers 1 (omega arith)) (λ i l. words i (inl l) (omega arith)) a.waiting;
+          waiting = waiting_stays s plan variables fine m.function c c' a.base m.frame m.waiting (registers 1 (omega arith)) (λ i l. words i (inl l) (omega arith)) (λ q good e. registers q (let low = home_register q good in omega arith)) a.waiting;
           room = a.room;
           within = a.within;
         };
@@ -283,6 +299,19 @@ module _ (s : Setting) (plan : Plan) (variables : ℕ → ℕ) (fine : Fits s pl
       by : (b : Bool) → is_register r (plan.home g x.parameter) ≡ b → (b || gives_register (plan.home g) xs r) ≡ true → (gives_register (plan.home g) xs r ≡ true → is_home_register r ≡ true) → is_home_register r ≡ true
       by true same e later = in_home (plan.home g x.parameter) (fine.homes g x.parameter) same
       by false same e later = later e
+
+  -- arguments don't go into a register in which none of their variables is
+  pub not_given : (g r : ℕ) (xs : List Argument) → ((u : ℕ) → gives xs u ≡ true → plan.home g u ≢ Register r) → gives_register (plan.home g) xs r ≡ false
+  not_given g r [] h = refl
+  not_given g r (x ∷ xs) h = by (is_register r (plan.home g x.parameter)) refl (not_given g r xs (λ u e. h u (rw e (or_true (nat_eq u x.parameter)))))
+    where
+      there : (home : Home) → is_register r home ≡ true → home ≡ Register r
+      there (Register q) e = let same : q ≡ r = grind (arith, nat_tests) in ap Register same
+      there (Slot i) e = absurd (let no : false ≡ true = e in cc)
+
+      by : (b : Bool) → is_register r (plan.home g x.parameter) ≡ b → gives_register (plan.home g) xs r ≡ false → (b || gives_register (plan.home g) xs r) ≡ false
+      by true e rest = absurd (h x.parameter (grind (arith, nat_tests)) (there (plan.home g x.parameter) e))
+      by false e rest = rest
 
   pub wait_on : (f g base : ℕ) (c c' : Contents) (xs : List Argument) → ((q : ℕ) → is_home_register q ≡ true → c.word (base + kept_at q) ≡ c.register q → c'.word (base + kept_at q) ≡ c'.register q) → Wait plan f g base c xs → Wait plan f g base c' xs
   wait_on f g base c c' [] step w = tt

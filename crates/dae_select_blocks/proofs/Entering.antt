@@ -1,5 +1,5 @@
 -- A call's walk: from its block over the jump and the entry code to where the called function's actions begin.
-use Rattle.std.proofs.Common.{◌≡◌, ◌≢◌, ℕ, zero, suc, ◌+◌, ◌-◌, ◌*◌, ◌/◌, ◌^◌, ◌<◌, ◌≤◌, inl, inr, Bool, true, false, not, ◌&&◌, List, [], ◌∷◌, ◌++◌, Option, Some, length, refl, sym, ap, ◌∙◌, subst, arith, append-nil, ◌⊎◌}
+use Rattle.std.proofs.Common.{◌≡◌, ◌≢◌, ℕ, zero, suc, ◌+◌, ◌-◌, ◌*◌, ◌/◌, ◌^◌, ◌<◌, ◌≤◌, inl, inr, Bool, true, false, not, ◌&&◌, List, [], ◌∷◌, ◌++◌, Option, Some, length, refl, sym, ap, ◌∙◌, subst, arith, ◌⊎◌}
 use Rattle.std.specs.Prelude.{nat_eq, pos, if◌then◌else◌}
 use Rattle.std.proofs.lemmas.Bool.Decides.{nat_tests}
 use Rattle.dae_base.specs.Words.{plus, word}
@@ -17,13 +17,13 @@ use Rattle.dae_select_walks.specs.declared.Home.TheVariants.{Register, Slot}
 use Rattle.dae_select_walks.specs.Walks.{Setting, Comes}
 use Rattle.dae_select_walks.specs.Layout.{CodeAt}
 use Rattle.dae_select_walks.specs.Live.{in_arguments, is}
-use Rattle.dae_select_walks.specs.Homes.{Contents, held, kept, IsHome, is_home_register, kept_at, slot_at, resident_home, resident_register}
+use Rattle.dae_select_walks.specs.Homes.{Contents, held, kept, IsHome, is_home_register, kept_at, slot_at, resident_home, resident_register, none_spared}
 use Rattle.dae_select_walks.specs.Agrees.{Plan, Moment, Waiting, Agrees, Shows, Stands, AreIn, AreWaiting, AreResident, IsWithin, depth_of, top_of, return_address, counted_depth}
 use Rattle.dae_select_walks.specs.Compiled.{given, called, waiting_of}
 use Rattle.dae_select_walks.proofs.LawsOfWalks.{comes_here, comes_more, comes_then}
 use Rattle.dae_select_walks.proofs.LawsOfWalks.{put, store, step}
 use Rattle.dae_select_blocks.specs.Blocks.{upper, lower, arguments_code, save_code, count_code, prologue_code, deeper_code, enter_code, enter_words, is_immediate, parameters_code}
-use Rattle.dae_select_blocks.specs.Code.{registers_in, entry_code}
+use Rattle.dae_select_blocks.specs.Code.{registers_in, entry_code, is_spared, unspared}
 use Rattle.dae_select_blocks.specs.Fits.{Fits}
 use Rattle.dae_select_blocks.specs.Wanted.{AreGiven, gives, IsLinked, HaveHomes}
 use Rattle.dae_select_blocks.proofs.Halves.{halves, immediate_word}
@@ -32,7 +32,7 @@ use Rattle.dae_select_blocks.proofs.Frames.{upper_small}
 use Rattle.dae_select_blocks.proofs.Runs.{Runs, runs_nothing, runs_quiet, runs_alone}
 use Rattle.dae_select_blocks.proofs.Agreement.{Ready, resident_high, kept_small, waiting_same, waiting_kept, Like, home_register, calls_framed, own_frame}
 use Rattle.dae_select_blocks.proofs.Operands.{like_put, like_itself}
-use Rattle.dae_select_blocks.proofs.Calls.{among, kept_register, register_kept, Saved, runs_arguments, runs_save, ready_far, wait_on}
+use Rattle.dae_select_blocks.proofs.Calls.{among, kept_register, register_kept, Saved, runs_arguments, runs_save, ready_far, wait_on, not_given}
 use Rattle.dae_select_blocks.proofs.Parameters.{runs_parameters}
 use Rattle.dae_select_blocks.proofs.Deeper.{runs_deeper, runs_count}
 use Rattle.dae_select_blocks.proofs.Jumps.{ready}
@@ -47,8 +47,8 @@ pub record Prepared (plan : Plan) (m : Moment) (w : Waiting) (base g : ℕ) (xs 
   pub residents : AreResident plan contents
   pub ten : plan.by_a ≡ true → contents.register 10 ≡ depth_of m
   pub given : (u : ℕ) → gives xs u ≡ true → held contents (base + plan.words m.function) (plan.home g u) ≡ given xs m.env u
-  pub variables : AreIn (kept contents base) (plan.home m.function) w.live m.env
-  pub waiting : AreWaiting plan contents (contents.word base) base m.frame m.waiting
+  pub variables : AreIn (kept (plan.spares g) contents base) (plan.home m.function) w.live m.env
+  pub waiting : AreWaiting plan contents none_spared (contents.word base) base m.frame m.waiting
 
 module _ (s : Setting) (plan : Plan) (variables : ℕ → ℕ) (fine : Fits s plan variables) (entries : ℕ → VariableSet) (linked : IsLinked s plan) where
   -- within the call limit there is room for one frame more
@@ -63,14 +63,22 @@ module _ (s : Setting) (plan : Plan) (variables : ℕ → ℕ) (fine : Fits s pl
       product (suc zero) k h = absurd (omega arith)
       product (suc (suc n)) k h = omega arith
 
-  -- what is kept of a variable
-  one : {live : VariableSet} {m : Moment} (base u : ℕ) (kept' : VariableSet) (c1 c2 c3 : Contents) (h1 : Ready plan live m c1) → h1.agrees.base ≡ base → Saved (registers_in (plan.home m.function) (variables m.function) kept') base c1 c2 → ((i : ℕ) → c3.word i ≡ c2.word i) → kept' u ≡ true → live u ≡ true → u < variables m.function →
-      (home : Home) → plan.home m.function u ≡ home → kept c3 base home ≡ m.env u
-  one {m = m} base u kept' c1 c2 c3 h1 based saved words k l below (Register r) e =
-      let good : is_home_register r ≡ true = (let g = fine.homes m.function u in rw e at g) in
+  -- what is kept of a variable, or stays where it is
+  one : {live : VariableSet} {m : Moment} (base g u : ℕ) (kept' : VariableSet) (c1 c2 c3 : Contents) (h1 : Ready plan live m c1) → h1.agrees.base ≡ base → Saved (registers_in (plan.home m.function) (variables m.function) (unspared plan m.function g kept')) base c1 c2 → ((i : ℕ) → c3.word i ≡ c2.word i) →
+      ((r : ℕ) → is_home_register r ≡ true → plan.spares g r ≡ true → c3.register r ≡ c1.register r) → kept' u ≡ true → live u ≡ true → u < variables m.function → (home : Home) → plan.home m.function u ≡ home → kept (plan.spares g) c3 base home ≡ m.env u
+  one {m = m} base g u kept' c1 c2 c3 h1 based saved words stays k l below (Register r) e =
+      let good : is_home_register r ≡ true = (let z = fine.homes m.function u in rw e at z) in
       let a = h1.agrees.variables u l in
-      words (base + kept_at r) ∙ (saved.kept r good (kept_register (plan.home m.function) (variables m.function) u r kept' below k e good) ∙ (rw e at a))
-  one {m = m} base u kept' c1 c2 c3 h1 based saved words k l below (Slot i) e =
+      let has : c1.register r ≡ m.env u = rw e at a in
+      by good has (plan.spares g r) refl
+    where
+      by : is_home_register r ≡ true → c1.register r ≡ m.env u → (b : Bool) → plan.spares g r ≡ b → (if b then c3.register r else c3.word (base + kept_at r)) ≡ m.env u
+      by good has true f = stays r good f ∙ has
+      by good has false f =
+          let spare : is_spared (plan.spares g) (plan.home m.function u) ≡ false = ap (is_spared (plan.spares g)) e ∙ f in
+          let still : unspared plan m.function g kept' u ≡ true = rw (k, spare) refl in
+          words (base + kept_at r) ∙ (saved.kept r good (kept_register (plan.home m.function) (variables m.function) u r (unspared plan m.function g kept') below still e good) ∙ has)
+  one {m = m} base g u kept' c1 c2 c3 h1 based saved words stays k l below (Slot i) e =
       let a = h1.agrees.variables u l in
       let b : c1.word (h1.agrees.base + slot_at i) ≡ m.env u = rw e at a in
       words (base + slot_at i) ∙ (saved.others (base + slot_at i) (inr (omega arith)) ∙ (rw based at b))
@@ -93,15 +101,15 @@ module _ (s : Setting) (plan : Plan) (variables : ℕ → ℕ) (fine : Fits s pl
 
   pub prepares : {live : VariableSet} {m : Moment} {k : ℕ} {p : Processor} (v : Option ℕ) (behind : VariableSet) (g : ℕ) (xs : List Argument) (w : Waiting) (h : Stands plan live m k p) → w.live ≡ (λ u. behind u && not (is v u)) →
       ((u : ℕ) → in_arguments xs u ≡ true → live u ≡ true) → ((u : ℕ) → w.live u ≡ true → live u ≡ true) → ((u : ℕ) → live u ≡ true → u < variables m.function) → AreGiven xs → HaveHomes plan g (gives xs) → plan.leaf m.function ≡ false → IsWithin plan (called plan g xs w m) →
-      k + length (arguments_code plan m.function g xs ++ (save_code (registers_in (plan.home m.function) (variables m.function) w.live) ++ (parameters_code plan m.function g xs ++ deeper_code plan m.function g))) < 2 ^ 29 →
-      CodeAt s.code k (arguments_code plan m.function g xs ++ (save_code (registers_in (plan.home m.function) (variables m.function) w.live) ++ (parameters_code plan m.function g xs ++ deeper_code plan m.function g))) →
-      Comes s (length (arguments_code plan m.function g xs ++ (save_code (registers_in (plan.home m.function) (variables m.function) w.live) ++ (parameters_code plan m.function g xs ++ deeper_code plan m.function g)))) p
-      (Prepared plan m w h.agrees.base g xs (k + length (arguments_code plan m.function g xs ++ (save_code (registers_in (plan.home m.function) (variables m.function) w.live) ++ (parameters_code plan m.function g xs ++ deeper_code plan m.function g)))))
+      k + length (arguments_code plan m.function g xs ++ (save_code (registers_in (plan.home m.function) (variables m.function) (unspared plan m.function g w.live)) ++ (parameters_code plan m.function g xs ++ deeper_code plan m.function g))) < 2 ^ 29 →
+      CodeAt s.code k (arguments_code plan m.function g xs ++ (save_code (registers_in (plan.home m.function) (variables m.function) (unspared plan m.function g w.live)) ++ (parameters_code plan m.function g xs ++ deeper_code plan m.function g))) →
+      Comes s (length (arguments_code plan m.function g xs ++ (save_code (registers_in (plan.home m.function) (variables m.function) (unspared plan m.function g w.live)) ++ (parameters_code plan m.function g xs ++ deeper_code plan m.function g)))) p
+      (Prepared plan m w h.agrees.base g xs (k + length (arguments_code plan m.function g xs ++ (save_code (registers_in (plan.home m.function) (variables m.function) (unspared plan m.function g w.live)) ++ (parameters_code plan m.function g xs ++ deeper_code plan m.function g)))))
   prepares {live} {m} {k} {p} v behind g xs w h is_live reads keeps scope numbers homes calls within small at =
       let to : ℕ → Env → Processor → Type 0 = λ j env q. Prepared plan m w h.agrees.base g xs j q in
       let h0 = ready s plan variables fine h in
       let base : ℕ = h.agrees.base in
-      let rs : List ℕ = registers_in (plan.home m.function) (variables m.function) w.live in
+      let rs : List ℕ = registers_in (plan.home m.function) (variables m.function) (unspared plan m.function g w.live) in
       let passed : List Inst = parameters_code plan m.function g xs in
       let deep = within.depth in let top = within.frame in let long = fine.words m.function in let wide = fine.private in let most = fine.common in let lim = fine.limit in
       let inside = room_for h0 g (omega arith) in
@@ -110,11 +118,11 @@ module _ (s : Setting) (plan : Plan) (variables : ℕ → ℕ) (fine : Fits s pl
       runs_arguments s plan variables fine to g xs (save_code rs ++ (passed ++ deeper_code plan m.function g)) h0 calls reads numbers homes.apart inside (λ c1 gave.
       let h1 = gave.ready in
       let p1 : c1.register 2 ≡ 4 * base = own_frame s plan variables fine h1 (calls_framed s plan variables fine m.function calls) ∙ ap (λ n. 4 * n) gave.based in
-      runs_save s plan variables fine to base rs (passed ++ deeper_code plan m.function g) (λ q a. register_kept (plan.home m.function) (variables m.function) q w.live a) p1 (omega arith) h1.fits h1.small (λ c2 saved.
+      runs_save s plan variables fine to base rs (passed ++ deeper_code plan m.function g) (λ q a. register_kept (plan.home m.function) (variables m.function) q (unspared plan m.function g w.live) a) p1 (omega arith) h1.fits h1.small (λ c2 saved.
       let p2 : c2.register 2 ≡ 4 * base = saved.registers 2 (omega arith) ∙ p1 in
       let h2 = ready_far s plan variables fine to h1 (λ i far near. saved.others i (subst (λ (b : ℕ). (i ≤ b) ⊎ (b + 19 ≤ i)) gave.based far)) saved.registers saved.fits saved.small in
       let waits = wait_on s plan variables fine to m.function g base c1 c2 xs (still_waits rs base c1 c2 saved) gave.waits in
-      runs_parameters s plan variables fine to base g xs (deeper_code plan m.function g) h2 reads numbers homes p2 (omega arith) waits (λ c3 handed.
+      runs_parameters s plan variables fine to base g xs (deeper_code plan m.function g) h2 calls reads numbers homes p2 (omega arith) waits (λ c3 handed.
       let h3 = handed.ready in
       let last : Runs s plan.private to (deeper_code plan m.function g ++ []) c3 (Went m.env) = runs_deeper s plan to m.function g base m.frame [] h3.zero h3.fits (handed.two ∙ p2) h3.agrees.frame (omega arith) (omega arith) (λ c4 moved.
       runs_nothing s plan.private to {env = m.env} (λ j q shows. record {
@@ -130,10 +138,11 @@ module _ (s : Setting) (plan : Plan) (variables : ℕ → ℕ) (fine : Fits s pl
         given = λ u e. in_home base (plan.words m.function) g u (given xs m.env u) c4
             (λ t good which. (let low = home_register t good in moved.others t (omega arith) (omega arith) (omega arith) ∙ handed.given u e t which))
             (λ i which. moved.words (base + (plan.words m.function + slot_at i)) ∙ (handed.words (base + (plan.words m.function + slot_at i)) ∙ (saved.others (base + (plan.words m.function + slot_at i)) (inr (omega arith)) ∙ gave.slots u e i which)));
-        variables = λ u e. one base u w.live c1 c2 c4 h1 gave.based saved (λ i. moved.words i ∙ handed.words i) e (keeps u e) (scope u (keeps u e)) (plan.home m.function u) refl;
-        waiting = waiting_same s plan variables fine c1 c4 (c1.word base) (c4.word base) base m.frame m.waiting (moved.words base ∙ (handed.words base ∙ saved.others base (inl (omega arith)))) (λ i l. moved.words i ∙ (handed.words i ∙ saved.others i (inl l)))
-            (subst (λ (b : ℕ). AreWaiting plan c1 (c1.word b) b m.frame m.waiting) gave.based (waiting_kept s plan variables fine m.function c1 h1.agrees.base m.frame m.waiting calls h1.agrees.waiting));
-      })) in rw append-nil at last))) in
+        variables = λ u e. one base g u w.live c1 c2 c4 h1 gave.based saved (λ i. moved.words i ∙ handed.words i)
+            (λ r good f. (let low = home_register r good in moved.others r (omega arith) (omega arith) (omega arith) ∙ (handed.others r (not_given s plan variables fine to g r xs (λ z some. homes.unspared z r some f)) ∙ saved.registers r (omega arith)))) e (keeps u e) (scope u (keeps u e)) (plan.home m.function u) refl;
+        waiting = waiting_same s plan variables fine c1 c4 none_spared none_spared (c1.word base) (c4.word base) base m.frame m.waiting (moved.words base ∙ (handed.words base ∙ saved.others base (inl (omega arith)))) (λ i l. moved.words i ∙ (handed.words i ∙ saved.others i (inl l))) (λ r. refl) (λ r good f. absurd (let no : false ≡ true = f in cc))
+            (subst (λ (b : ℕ). AreWaiting plan c1 none_spared (c1.word b) b m.frame m.waiting) gave.based (waiting_kept s plan variables fine m.function c1 h1.agrees.base m.frame m.waiting calls h1.agrees.waiting));
+      })) in runs_alone s plan.private to (deeper_code plan m.function g) last))) in
       run.from k small at p h.shows
 
   -- ---- the jump, and the entry code
@@ -207,7 +216,7 @@ module _ (s : Setting) (plan : Plan) (variables : ℕ → ℕ) (fine : Fits s pl
           small,
           a.back,
           (λ u e. below u (plan.home m.function u) (fine.homes m.function u) ∙ q.variables u e),
-          waiting_same s plan variables fine q.contents c (q.contents.word h.agrees.base) (c.word h.agrees.base) h.agrees.base m.frame m.waiting (a.words h.agrees.base (omega arith)) (λ i l. a.words i (omega arith)) q.waiting,
+          waiting_same s plan variables fine q.contents c none_spared none_spared (q.contents.word h.agrees.base) (c.word h.agrees.base) h.agrees.base m.frame m.waiting (a.words h.agrees.base (omega arith)) (λ i l. a.words i (omega arith)) (λ r. refl) (λ r good e. absurd (let no : false ≡ true = e in cc)) q.waiting,
         );
         room = rw (← next) (omega arith);
         within = within;
@@ -222,8 +231,12 @@ module _ (s : Setting) (plan : Plan) (variables : ℕ → ℕ) (fine : Fits s pl
       parameter (Register r) good = a.registers r good
       parameter (Slot i) good = a.words (h.agrees.base + plan.words m.function + slot_at i) (omega arith)
 
-      below : (u : ℕ) (home : Home) → IsHome (variables m.function) home → kept c h.agrees.base home ≡ kept q.contents h.agrees.base home
-      below u (Register r) good = let long = fine.words m.function in let l = kept_small r good in a.words (h.agrees.base + kept_at r) (omega arith)
+      below : (u : ℕ) (home : Home) → IsHome (variables m.function) home → kept (plan.spares g) c h.agrees.base home ≡ kept (plan.spares g) q.contents h.agrees.base home
+      below u (Register r) good = by (plan.spares g r)
+        where
+          by : (b : Bool) → (if b then c.register r else c.word (h.agrees.base + kept_at r)) ≡ (if b then q.contents.register r else q.contents.word (h.agrees.base + kept_at r))
+          by true = a.registers r good
+          by false = let long = fine.words m.function in let l = kept_small r good in a.words (h.agrees.base + kept_at r) (omega arith)
       below u (Slot i) good = let long = fine.words m.function in a.words (h.agrees.base + slot_at i) (omega arith)
 
   -- what a function begins with: the address to return to, which is in x1, is where the function looks for it, and the function

@@ -27,7 +27,7 @@ use Rattle.dae_select_walks.specs.declared.Need.{Need}
 use Rattle.dae_select_walks.specs.declared.Need.TheVariants.{All, Ends, Nothing}
 use Rattle.dae_select_walks.specs.Agrees.{Plan}
 use Rattle.dae_select_blocks.specs.Blocks.{lower, is_immediate, more_code, less_code, is_register, number_code, register_or, source, call_number, jump_over, jump_back, enter_code, arguments_code, save_code, restore_code, deeper_code, back_code, jump_words, residents_code, prologue_code, issue_code, address_code, take_code, fetch, load_code, store_code, is_overwritten, argument_to, copy_code, parameter_to, parameters_code}
-use Rattle.dae_select_blocks.specs.Code.{some_below, filtered, home_registers, registers_in, call_code, action_code, branch_code, standing_behind, with_home, early_code, late_code, needed_code, block_code, code_of, entry_code, function_code, finish_code, start_code, does_nothing, past_code, tail_of, has_bottom, leaves_first, is_near, bottom_test, is_dead}
+use Rattle.dae_select_blocks.specs.Code.{some_below, filtered, home_registers, registers_in, call_code, action_code, branch_code, standing_behind, with_home, early_code, late_code, needed_code, block_code, code_of, entry_code, function_code, finish_code, start_code, does_nothing, past_code, tail_of, has_bottom, leaves_first, is_near, bottom_test, is_dead, unspared}
 use Rattle.dae_select_blocks.proofs.Ranges.{AllFit, fit_append, fit_either, lui_fits, jalr_fits, addi_fits, addi_small, sw_small, add_fits, number_fits, load_fits, store_fits, register_fits, fetch_fits, move_fits, keep_fits, over_fits, back_fits}
 use Rattle.dae_select_blocks.proofs.Fitting.{ecall_fits, no_offset, issue_fits, address_fits, reach_fits, source_fits, value_fit, value_fits, take_fits, branch_fits, back_branch_fits, system_fits, stop_fits, leave_fits, result_fits, hear_fits, placed_fits, check_fits}
 use Rattle.dae_select_blocks.proofs.Agreement.{home_register}
@@ -141,7 +141,7 @@ module _ (plan : Plan) (variables : ℕ → ℕ) (good : (f v : ℕ) → IsHome 
 
   call_fits : (f : ℕ) (v : Option ℕ) (g : ℕ) (xs : List Argument) (live : VariableSet) → AllFit (call_code plan variables f v g xs live)
   call_fits f v g xs live =
-      let rs = live_registers plan (variables f) f live in
+      let rs = live_registers plan (variables f) f (unspared plan f g live) in
       fit_append _ _ (arguments_fit f g xs) (fit_append _ _ (save_fits _ rs) (fit_append _ _ (parameters_fit f g xs) (fit_append (deeper_code plan f g) _ (deeper_fits f g) (fit_append (enter_code plan.near (plan.entry g)) _ (enter_fits plan.near (plan.entry g))
       (fit_append (back_code plan f g) _ (returning_fits f g) (fit_append _ _ (restore_fits _ rs) (result_fits (variables f) (plan.home f) (good f) v)))))))
 

@@ -11,7 +11,7 @@ use Rattle.dae_select_walks.specs.Facts.{unknown}
 use Rattle.dae_select_walks.specs.declared.Standing.TheVariants.{Settled}
 use Rattle.dae_select_walks.specs.Compiled.{Exits, exit, exits, ways_of}
 use Rattle.dae_select_walks.proofs.LawsOfWalks.{comes_here}
-use Rattle.dae_select_blocks.specs.Code.{code_of}
+use Rattle.dae_select_blocks.specs.Code.{code_of, unspared}
 use Rattle.dae_select_blocks.specs.Laws.{CodeDoes}
 use Rattle.dae_select_blocks.proofs.Whole.{Stood, Done', code_done}
 use Rattle.dae_select_blocks.proofs.Joined.{calls_done, returns_done}
@@ -39,8 +39,8 @@ code_does s plan variables program entries fine is_plan linked f code stands =
           (λ f b way n. (let l = branch_short (plan.home f) (is_short code) b way n in omega arith))
           (λ f b way n. (let l = back_branch_short (plan.home f) b way n in omega arith))
           (λ f g v xs k x leaves skips here t. calls_done s plan variables fine program is_plan entries linked 14 46 (is_short code) f g v xs k x leaves skips here
-          (let l1 = prepared_short plan variables f g xs (λ u. k u && not (is v u)) in let l2 = entry_short plan g in omega arith)
-          (let l = resumed_short plan variables f g v (λ u. k u && not (is v u)) in omega arith) t)
+          (let l1 = prepared_short plan variables f g xs (unspared plan f g (λ u. k u && not (is v u))) in let l2 = entry_short plan g in omega arith)
+          (let l = resumed_short plan variables f g v (unspared plan f g (λ u. k u && not (is v u))) in omega arith) t)
           returns (plan.start f) end (omega arith) (λ e. (let long = code_length (is_short code) plan variables f Settled unknown code nowhere 0 0 in let few = short_is code e in omega arith)) (omega arith)
           f Settled unknown code x 0 0 (plan.start f) tt tt (record { leaves = refl; skips = refl }) stands.wanted stands.right stands.there (omega arith) (omega arith) (omega arith) (omega arith) (omega arith) (omega arith)
           (λ m p h. comes_here s h),

@@ -28,7 +28,7 @@ use Rattle.dae_select_walks.specs.Compiled.{Exits, exit, ways_of, At, MainEnds, 
 use Rattle.dae_select_walks.proofs.LawsOfWalks.{nears_here, comes_map, comes_then, comes_does, does_map}
 use Rattle.dae_select_walks.proofs.LawsOfWalks.{put, step_ends, step_stops}
 use Rattle.dae_select_blocks.specs.Blocks.{arguments_code, save_code, restore_code, deeper_code, enter_code, back_code, result_code, leave_code, enter_words, parameters_code}
-use Rattle.dae_select_blocks.specs.Code.{registers_in, entry_code, finish_code, call_code}
+use Rattle.dae_select_blocks.specs.Code.{registers_in, entry_code, finish_code, call_code, unspared}
 use Rattle.dae_select_blocks.specs.Fits.{Fits}
 use Rattle.dae_select_blocks.specs.Wanted.{IsLinked, IsPlanOf}
 use Rattle.dae_select_blocks.proofs.Plain.{computes}
@@ -74,17 +74,17 @@ module _ (s : Setting) (plan : Plan) (variables : ℕ → ℕ) (fine : Fits s pl
       let brief : length (leave_code plan.by_a (plan.leaf m.function) (plan.home m.function) y) + 3 ≤ most = rw h.0 brief' in
       let reads : (u : ℕ) → in_option y u ≡ true → before (Return y) k (ways_of x) u ≡ true = λ u e. rw e refl in
       let low = linked.low in (
-        (λ none. (let a = h.1.agrees.waiting in let b : AreWaiting plan h.1.contents (return_address plan m.function h.1.contents h.1.agrees.base) h.1.agrees.base m.frame [] = rw none at a in
+        (λ none. (let a = h.1.agrees.waiting in let b : AreWaiting plan h.1.contents (plan.spares m.function) (return_address plan m.function h.1.contents h.1.agrees.base) h.1.agrees.base m.frame [] = rw none at a in
             finishes m y p (length (leave_code plan.by_a (plan.leaf m.function) (plan.home m.function) y)) (leaves s plan variables fine y plan.finish h.1 t.wanted reads (omega arith) b.2 small stands) brief plan.by_a refl linked.finish)),
         (λ w ws is. comes_map s most (omega arith) (λ q g. subst (λ (z : ℕ). Lands plan z w ws (result_of y m.env) q) h.0 g) (return_done s plan variables fine y w ws h.1 is t.wanted reads small stands)),
       )
 
   -- a call, up to the jump, and from the word behind it
   abbrev prepared_code : ℕ → ℕ → List Argument → VariableSet → List Inst
-  prepared_code f g xs live = arguments_code plan f g xs ++ (save_code (registers_in (plan.home f) (variables f) live) ++ (parameters_code plan f g xs ++ deeper_code plan f g))
+  prepared_code f g xs live = arguments_code plan f g xs ++ (save_code (registers_in (plan.home f) (variables f) (unspared plan f g live)) ++ (parameters_code plan f g xs ++ deeper_code plan f g))
 
   abbrev resumed_code : ℕ → ℕ → Option ℕ → VariableSet → List Inst
-  resumed_code f g v live = back_code plan f g ++ (restore_code (registers_in (plan.home f) (variables f) live) ++ result_code (plan.home f) v)
+  resumed_code f g v live = back_code plan f g ++ (restore_code (registers_in (plan.home f) (variables f) (unspared plan f g live)) ++ result_code (plan.home f) v)
 
   abbrev without : Option ℕ → VariableSet → VariableSet
   without v k u = k u && not (is v u)
@@ -94,7 +94,7 @@ module _ (s : Setting) (plan : Plan) (variables : ℕ → ℕ) (fine : Fits s pl
 
   whole_length : (f g : ℕ) (v : Option ℕ) (xs : List Argument) (k : VariableSet) → length (call_code plan variables f v g xs (without v k)) ≡ length (prepared_code f g xs (without v k)) + enter_words plan.near + length (resumed_code f g v (without v k))
   whole_length f g v xs k =
-      let rs = registers_in (plan.home f) (variables f) (without v k) in
+      let rs = registers_in (plan.home f) (variables f) (unspared plan f g (without v k)) in
       let rest : List Inst = resumed_code f g v (without v k) in
       let jumped : List Inst = enter_code plan.near (plan.entry g) ++ rest in
       let passed : List Inst = parameters_code plan f g xs in
@@ -110,9 +110,9 @@ module _ (s : Setting) (plan : Plan) (variables : ℕ → ℕ) (fine : Fits s pl
       omega arith
 
   -- up to the jump, and on
-  parted : (f g : ℕ) (xs : List Argument) (live : VariableSet) (is : List Inst) → prepared_code f g xs live ++ is ≡ arguments_code plan f g xs ++ (save_code (registers_in (plan.home f) (variables f) live) ++ (parameters_code plan f g xs ++ (deeper_code plan f g ++ is)))
+  parted : (f g : ℕ) (xs : List Argument) (live : VariableSet) (is : List Inst) → prepared_code f g xs live ++ is ≡ arguments_code plan f g xs ++ (save_code (registers_in (plan.home f) (variables f) (unspared plan f g live)) ++ (parameters_code plan f g xs ++ (deeper_code plan f g ++ is)))
   parted f g xs live is =
-      let kept : List Inst = save_code (registers_in (plan.home f) (variables f) live) in
+      let kept : List Inst = save_code (registers_in (plan.home f) (variables f) (unspared plan f g live)) in
       let passed : List Inst = parameters_code plan f g xs in
       append_assoc (arguments_code plan f g xs) (kept ++ (passed ++ deeper_code plan f g)) is
       ∙ (ap (λ (code : List Inst). arguments_code plan f g xs ++ code) (append_assoc kept (passed ++ deeper_code plan f g) is)

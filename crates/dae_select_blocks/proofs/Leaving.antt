@@ -1,5 +1,5 @@
 -- A return's walk: to just behind the call's jump, and from there to the end of the call's block.
-use Rattle.std.proofs.Common.{◌≡◌, ◌≢◌, ℕ, ◌+◌, ◌-◌, ◌*◌, ◌/◌, ◌^◌, ◌<◌, ◌≤◌, Bool, true, false, not, ◌&&◌, List, [], ◌∷◌, ◌++◌, Option, Some, None, length, refl, sym, ap, ◌∙◌, arith, length-append}
+use Rattle.std.proofs.Common.{◌≡◌, ◌≢◌, ℕ, zero, ◌+◌, ◌-◌, ◌*◌, ◌/◌, ◌^◌, ◌<◌, ◌≤◌, Bool, true, false, not, ◌&&◌, List, [], ◌∷◌, ◌++◌, Option, Some, None, length, refl, sym, ap, ◌∙◌, arith, length-append}
 use Rattle.std.specs.Prelude.{nat_eq, pos, negsuc, if◌then◌else◌}
 use Rattle.std.proofs.lemmas.Bool.Decides.{nat_tests}
 use Rattle.dae_base.specs.Words.{plus, word}
@@ -18,22 +18,22 @@ use Rattle.dae_select_walks.specs.declared.Home.TheVariants.{Register, Slot}
 use Rattle.dae_select_walks.specs.Walks.{Setting, Comes}
 use Rattle.dae_select_walks.specs.Layout.{CodeAt}
 use Rattle.dae_select_walks.specs.Live.{in_option, is}
-use Rattle.dae_select_walks.specs.Homes.{Contents, held, kept, is_home_register, kept_at, slot_at, resident_home}
+use Rattle.dae_select_walks.specs.Homes.{Contents, held, kept, is_home_register, kept_at, slot_at, resident_home, none_spared}
 use Rattle.dae_select_walks.specs.Agrees.{Plan, Moment, Waiting, Shows, Stands, AreIn, AreWaiting, AreResident, IsWithin, depth_of, return_address, counted_depth, pointed, words_below}
 use Rattle.dae_select_walks.specs.Compiled.{Lands, IsAnswered, with_result, waiting_of, result_of, with_env}
 use Rattle.dae_select_walks.proofs.LawsOfWalks.{comes_here, comes_map, comes_more, comes_then}
 use Rattle.dae_select_walks.proofs.LawsOfWalks.{put, step}
 use Rattle.dae_select_blocks.specs.Blocks.{register_or, move_code, back_code, restore_code, result_code, count_code, epilogue_code, leave_code}
-use Rattle.dae_select_blocks.specs.Code.{registers_in}
+use Rattle.dae_select_blocks.specs.Code.{registers_in, is_spared, unspared}
 use Rattle.dae_select_blocks.specs.Fits.{Fits}
 use Rattle.dae_select_blocks.specs.Wanted.{IsWantedResult}
 use Rattle.dae_select_blocks.proofs.Plain.{plain_computes, put_nowhere, put_same, put_other, computes, loads_word}
 use Rattle.dae_select_blocks.proofs.Runs.{Runs, runs_nothing, runs_quiet, code_take, code_drop, runs_alone}
-use Rattle.dae_select_blocks.proofs.Agreement.{Ready, ready_like, resident_high, frame_inside, waiting_same, calls_framed, own_frame}
+use Rattle.dae_select_blocks.proofs.Agreement.{Ready, ready_like, resident_high, frame_inside, waiting_same, calls_framed, own_frame, home_register, calls_spare}
 use Rattle.dae_select_blocks.proofs.Operands.{like_put, runs_move}
 use Rattle.dae_select_blocks.proofs.Computing.{plus_zero, is_scratch, register_plain}
 use Rattle.dae_select_blocks.proofs.Actions.{To, ends, ready_stays, kept as goes_home}
-use Rattle.dae_select_blocks.proofs.Calls.{kept_register, register_kept, Restored, runs_restore, among_not, among_other}
+use Rattle.dae_select_blocks.proofs.Calls.{kept_register, register_kept, Restored, runs_restore, among_not, among_other, among_spared}
 use Rattle.dae_select_blocks.proofs.Deeper.{Moved, runs_count, runs_back}
 use Rattle.dae_select_blocks.proofs.Jumps.{ready}
 
@@ -49,7 +49,7 @@ module _ (s : Setting) (plan : Plan) (variables : ℕ → ℕ) (fine : Fits s pl
     pub depth : plan.by_a ≡ true → contents.register 10 ≡ length m.waiting
     pub addresses : plan.by_a ≡ true → contents.register 4 ≡ plan.memory - 16
     pub residents : AreResident plan contents
-    pub waiting : AreWaiting plan contents (4 * target) base m.frame m.waiting
+    pub waiting : AreWaiting plan contents (plan.spares m.function) (4 * target) base m.frame m.waiting
     pub given : (x : ℕ) → result ≡ Some x → contents.register 6 ≡ x
 
   -- what a function ends with: the address comes into x1, where it isn't there, and the function isn't counted any more
@@ -107,7 +107,8 @@ module _ (s : Setting) (plan : Plan) (variables : ℕ → ℕ) (fine : Fits s pl
         residents = λ n r e.
             let high = resident_high (resident_home 27 plan.residents n) r e in
             closed.registers r (omega arith) (omega arith) ∙ a.residents n r e;
-        waiting = waiting_same s plan variables fine c c1 (return_address plan m.function c a.base) (4 * target) a.base m.frame m.waiting (sym there) (λ i l. closed.words i) a.waiting;
+        waiting = waiting_same s plan variables fine c c1 (plan.spares m.function) (plan.spares m.function) (return_address plan m.function c a.base) (4 * target) a.base m.frame m.waiting (sym there) (λ i l. closed.words i) (λ r. refl)
+            (λ r good e. (let low = home_register r good in closed.registers r (omega arith) low.2)) a.waiting;
         given = λ x e. closed.registers 6 (omega arith) (omega arith) ∙ given x e;
       }
 
@@ -172,7 +173,7 @@ module _ (s : Setting) (plan : Plan) (variables : ℕ → ℕ) (fine : Fits s pl
   pub return_done : {live : VariableSet} {m : Moment} {k : ℕ} {p : Processor} (y : Option Operand) (w : Waiting) (ws : List Waiting) (h : Stands plan live m k p) → m.waiting ≡ w ∷ ws → IsWantedResult y → ((u : ℕ) → in_option y u ≡ true → live u ≡ true) → k + length (leave_code plan.by_a (plan.leaf m.function) (plan.home m.function) y) < 2 ^ 29 → CodeAt s.code k (leave_code plan.by_a (plan.leaf m.function) (plan.home m.function) y) →
       Comes s (length (leave_code plan.by_a (plan.leaf m.function) (plan.home m.function) y)) p (Lands plan m.function w ws (result_of y m.env))
   return_done {live} {m} y w ws h is wanted reads small at =
-      let waits : AreWaiting plan h.contents (return_address plan m.function h.contents h.agrees.base) h.agrees.base m.frame (w ∷ ws) = (let a = h.agrees.waiting in rw is at a) in
+      let waits : AreWaiting plan h.contents (plan.spares m.function) (return_address plan m.function h.contents h.agrees.base) h.agrees.base m.frame (w ∷ ws) = (let a = h.agrees.waiting in rw is at a) in
       comes_map s (length (leave_code plan.by_a (plan.leaf m.function) (plan.home m.function) y)) (omega arith) (λ q g.
       record {
         contents = g.contents;
@@ -193,29 +194,30 @@ module _ (s : Setting) (plan : Plan) (variables : ℕ → ℕ) (fine : Fits s pl
   -- ---- the rest of the call's block
 
   -- the caller's frames are back, and what it kept is in its registers
-  back_again : (m : Moment) (w : Waiting) (base below : ℕ) (c c1 c2 : Contents) → w.function ≡ m.function → w.env ≡ m.env → w.frame ≡ m.frame → IsWithin plan m → ((u : ℕ) → w.live u ≡ true → u < variables m.function) →
-      c.register 0 ≡ 0 → ((i : ℕ) → c.word i < 2 ^ 32) → AreIn (kept c below) (plan.home w.function) w.live w.env → plan.leaf m.function ≡ false → AreWaiting plan c (c.word below) below w.frame m.waiting → below + (plan.limit + 1 - (length m.waiting + 1)) * plan.largest ≤ plan.private →
-      (plan.by_a ≡ true → c.register 10 ≡ depth_of m) → (plan.by_a ≡ true → c.register 4 ≡ plan.memory - 16) → AreResident plan c → Moved below m.frame c c1 → Restored (registers_in (plan.home m.function) (variables m.function) w.live) below c1 c2 → Ready plan w.live m c2
-  back_again m w base below c c1 c2 is_function is_env is_frame within scope none small variables' calls waiting room ten addresses residents moved restored =
+  back_again : (m : Moment) (w : Waiting) (g base below : ℕ) (c c1 c2 : Contents) → w.function ≡ m.function → w.env ≡ m.env → w.frame ≡ m.frame → IsWithin plan m → ((u : ℕ) → w.live u ≡ true → u < variables m.function) →
+      c.register 0 ≡ 0 → ((i : ℕ) → c.word i < 2 ^ 32) → AreIn (kept (plan.spares g) c below) (plan.home w.function) w.live w.env → plan.leaf m.function ≡ false → AreWaiting plan c none_spared (c.word below) below w.frame m.waiting → below + (plan.limit + 1 - (length m.waiting + 1)) * plan.largest ≤ plan.private →
+      (plan.by_a ≡ true → c.register 10 ≡ depth_of m) → (plan.by_a ≡ true → c.register 4 ≡ plan.memory - 16) → AreResident plan c → Moved below m.frame c c1 → Restored (registers_in (plan.home m.function) (variables m.function) (unspared plan m.function g w.live)) below c1 c2 → Ready plan w.live m c2
+  back_again m w g base below c c1 c2 is_function is_env is_frame within scope none small variables' calls waiting room ten addresses residents moved restored =
       let counted : counted_depth plan m.function (depth_of m) ≡ depth_of m = ap (λ (leaf : Bool). if leaf then depth_of m - 1 else depth_of m) calls in
       record {
-        zero = restored.others 0 (among_not (plan.home m.function) (variables m.function) 0 w.live refl) ∙ (moved.others 0 (omega arith) (omega arith) (omega arith) ∙ none);
+        zero = restored.others 0 (among_not (plan.home m.function) (variables m.function) 0 (unspared plan m.function g w.live) refl) ∙ (moved.others 0 (omega arith) (omega arith) (omega arith) ∙ none);
         fits = restored.fits;
         small = λ i. rw (restored.words i, moved.words i) (small i);
         agrees = record {
           base = below;
           variables = λ u e. one u e (plan.home m.function u) refl;
-          pointer = restored.others 2 (among_not (plan.home m.function) (variables m.function) 2 w.live refl)
+          pointer = restored.others 2 (among_not (plan.home m.function) (variables m.function) 2 (unspared plan m.function g w.live) refl)
               ∙ (moved.two ∙ sym (ap (λ (bare : Bool). 4 * (if bare then below - words_below plan m.waiting else below)) (calls_framed s plan variables fine m.function calls)));
-          frame = restored.others 3 (among_not (plan.home m.function) (variables m.function) 3 w.live refl) ∙ moved.three;
-          depth = λ e. restored.others 10 (among_not (plan.home m.function) (variables m.function) 10 w.live refl) ∙ (moved.others 10 (omega arith) (omega arith) (omega arith) ∙ (ten e ∙ sym counted));
-          addresses = λ e. restored.others 4 (among_not (plan.home m.function) (variables m.function) 4 w.live refl) ∙ (moved.others 4 (omega arith) (omega arith) (omega arith) ∙ addresses e);
+          frame = restored.others 3 (among_not (plan.home m.function) (variables m.function) 3 (unspared plan m.function g w.live) refl) ∙ moved.three;
+          depth = λ e. restored.others 10 (among_not (plan.home m.function) (variables m.function) 10 (unspared plan m.function g w.live) refl) ∙ (moved.others 10 (omega arith) (omega arith) (omega arith) ∙ (ten e ∙ sym counted));
+          addresses = λ e. restored.others 4 (among_not (plan.home m.function) (variables m.function) 4 (unspared plan m.function g w.live) refl) ∙ (moved.others 4 (omega arith) (omega arith) (omega arith) ∙ addresses e);
           residents = λ n r e.
               let high = resident_high (resident_home 27 plan.residents n) r e in
-              restored.others r (among_other (plan.home m.function) (variables m.function) r w.live (λ v l. fine.apart m.function v n r l e))
+              restored.others r (among_other (plan.home m.function) (variables m.function) r (unspared plan m.function g w.live) (λ v l. fine.apart m.function v n r l e))
               ∙ (moved.others r (omega arith) (omega arith) (omega arith) ∙ residents n r e);
-          waiting = waiting_same s plan variables fine c c2 (c.word below) (return_address plan m.function c2 below) below m.frame m.waiting
-              (ap (λ (leaf : Bool). if leaf then c2.register 1 else c2.word below) calls ∙ (restored.words below ∙ moved.words below)) (λ i l. restored.words i ∙ moved.words i) (rw is_frame at waiting);
+          waiting = waiting_same s plan variables fine c c2 none_spared (plan.spares m.function) (c.word below) (return_address plan m.function c2 below) below m.frame m.waiting
+              (ap (λ (leaf : Bool). if leaf then c2.register 1 else c2.word below) calls ∙ (restored.words below ∙ moved.words below)) (λ i l. restored.words i ∙ moved.words i) (λ r. calls_spare s plan variables fine m.function r calls)
+              (λ r good e. absurd (let no : false ≡ true = e in cc)) (rw is_frame at waiting);
           room = room;
           within = within;
         };
@@ -223,10 +225,19 @@ module _ (s : Setting) (plan : Plan) (variables : ℕ → ℕ) (fine : Fits s pl
     where
       one : (u : ℕ) → w.live u ≡ true → (home : Home) → plan.home m.function u ≡ home → held c2 below home ≡ m.env u
       one u e (Register r) is =
-          let good : is_home_register r ≡ true = (let g = fine.homes m.function u in rw is at g) in
+          let good : is_home_register r ≡ true = (let z = fine.homes m.function u in rw is at z) in
           let a = variables' u e in
-          let b : c.word (below + kept_at r) ≡ m.env u = rw (is_function, is, is_env) at a in
-          restored.kept r (kept_register (plan.home m.function) (variables m.function) u r w.live (scope u e) e is good) ∙ (moved.words (below + kept_at r) ∙ b)
+          let b : kept (plan.spares g) c below (Register r) ≡ m.env u = rw (is_function, is, is_env) at a in
+          by good (plan.spares g r) refl b
+        where
+          by : is_home_register r ≡ true → (spared : Bool) → plan.spares g r ≡ spared → (if spared then c.register r else c.word (below + kept_at r)) ≡ m.env u → c2.register r ≡ m.env u
+          by good true f here =
+              let low = home_register r good in
+              restored.others r (among_spared plan (variables m.function) m.function g r w.live f) ∙ (moved.others r (omega arith) (omega arith) (omega arith) ∙ here)
+          by good false f here =
+              let spare : is_spared (plan.spares g) (plan.home m.function u) ≡ false = ap (is_spared (plan.spares g)) is ∙ f in
+              let still : unspared plan m.function g w.live u ≡ true = rw (e, spare) refl in
+              restored.kept r (kept_register (plan.home m.function) (variables m.function) u r (unspared plan m.function g w.live) (scope u e) still is good) ∙ (moved.words (below + kept_at r) ∙ here)
       one u e (Slot i) is =
           let a = variables' u e in
           let b : c.word (below + slot_at i) ≡ m.env u = rw (is_function, is, is_env) at a in
@@ -251,17 +262,17 @@ module _ (s : Setting) (plan : Plan) (variables : ℕ → ℕ) (fine : Fits s pl
   pub resumes : {m : Moment} {p : Processor} (v : Option ℕ) (g : ℕ) (behind : VariableSet) (back : ℕ) (result : Option ℕ) → IsWithin plan m → IsAnswered v result → ((u : ℕ) → behind u ≡ true → is v u ≡ false → u < variables m.function) → ((x : ℕ) → is v x ≡ true → x < variables m.function) →
       ((u x : ℕ) → is v x ≡ true → behind u ≡ true → u ≢ x → plan.home m.function u ≢ plan.home m.function x) → plan.leaf m.function ≡ false →
       Lands plan g (waiting_of v behind back m) m.waiting result p →
-      back + length (back_code plan m.function g ++ (restore_code (registers_in (plan.home m.function) (variables m.function) (λ u. behind u && not (is v u))) ++ result_code (plan.home m.function) v)) < 2 ^ 29 →
-      CodeAt s.code back (back_code plan m.function g ++ (restore_code (registers_in (plan.home m.function) (variables m.function) (λ u. behind u && not (is v u))) ++ result_code (plan.home m.function) v)) →
-      Comes s (length (back_code plan m.function g ++ (restore_code (registers_in (plan.home m.function) (variables m.function) (λ u. behind u && not (is v u))) ++ result_code (plan.home m.function) v))) p
-      (Stands plan behind (with_env (with_result v result m.env) m) (back + length (back_code plan m.function g ++ (restore_code (registers_in (plan.home m.function) (variables m.function) (λ u. behind u && not (is v u))) ++ result_code (plan.home m.function) v))))
+      back + length (back_code plan m.function g ++ (restore_code (registers_in (plan.home m.function) (variables m.function) (unspared plan m.function g (λ u. behind u && not (is v u)))) ++ result_code (plan.home m.function) v)) < 2 ^ 29 →
+      CodeAt s.code back (back_code plan m.function g ++ (restore_code (registers_in (plan.home m.function) (variables m.function) (unspared plan m.function g (λ u. behind u && not (is v u)))) ++ result_code (plan.home m.function) v)) →
+      Comes s (length (back_code plan m.function g ++ (restore_code (registers_in (plan.home m.function) (variables m.function) (unspared plan m.function g (λ u. behind u && not (is v u)))) ++ result_code (plan.home m.function) v))) p
+      (Stands plan behind (with_env (with_result v result m.env) m) (back + length (back_code plan m.function g ++ (restore_code (registers_in (plan.home m.function) (variables m.function) (unspared plan m.function g (λ u. behind u && not (is v u)))) ++ result_code (plan.home m.function) v))))
   resumes {m} {p} v g behind back result within answered scope own apart calls l small at =
       let c : Contents = l.contents in
       let waits = l.waiting in
       let below : ℕ = waits.0 in
       let kept_set : VariableSet = λ u. behind u && not (is v u) in
       let to : ℕ → Env → Processor → Type 0 = To s plan variables fine kept_set behind m in
-      let rs : List ℕ = registers_in (plan.home m.function) (variables m.function) kept_set in
+      let rs : List ℕ = registers_in (plan.home m.function) (variables m.function) (unspared plan m.function g kept_set) in
       let long = fine.words m.function in let deep = within.depth in let lim = fine.limit in let most = fine.common in let wide = fine.private in let large = fine.largest m.function in
       let two : c.register 2 ≡ 4 * (if plan.bare g then below else below + plan.words m.function) = l.pointer ∙ ap (λ n. 4 * n) (returned (plan.bare g) l.base below (plan.words m.function) waits.1) in
       let three : c.register 3 ≡ m.frame + plan.frame m.function = l.begins ∙ waits.2 in
@@ -269,9 +280,9 @@ module _ (s : Setting) (plan : Plan) (variables : ℕ → ℕ) (fine : Fits s pl
       let once = times_least (plan.limit + 1 - (length m.waiting + 1)) plan.largest (omega arith) in
       let run : Runs s plan.private to (back_code plan m.function g ++ (restore_code rs ++ result_code (plan.home m.function) v)) c (Went (with_result v result m.env)) =
       runs_back s plan to m.function g below m.frame (restore_code rs ++ result_code (plan.home m.function) v) l.shows.zero l.shows.fits two three (omega arith) (omega arith) (λ c1 moved.
-      runs_restore s plan variables fine to below rs (result_code (plan.home m.function) v) (λ q e. register_kept (plan.home m.function) (variables m.function) q kept_set e) moved.two (omega arith) moved.fits (λ i. rw (moved.words i) (l.shows.holds i)) (λ c2 restored.
-      let h2 = back_again m (waiting_of v behind back m) l.base below c c1 c2 refl refl refl within (λ u e. scope u (front (behind u) (is v u) e) (rear (behind u) (is v u) e)) l.shows.zero l.shows.holds waits.7 calls waits.8 room l.depth l.addresses l.residents moved restored in
-      finish m behind v result own answered h2 apart (λ x e. restored.others 6 (among_not (plan.home m.function) (variables m.function) 6 kept_set refl) ∙ (moved.others 6 (omega arith) (omega arith) (omega arith) ∙ l.given x e)))) in
+      runs_restore s plan variables fine to below rs (result_code (plan.home m.function) v) (λ q e. register_kept (plan.home m.function) (variables m.function) q (unspared plan m.function g kept_set) e) moved.two (omega arith) moved.fits (λ i. rw (moved.words i) (l.shows.holds i)) (λ c2 restored.
+      let h2 = back_again m (waiting_of v behind back m) g l.base below c c1 c2 refl refl refl within (λ u e. scope u (front (behind u) (is v u) e) (rear (behind u) (is v u) e)) l.shows.zero l.shows.holds waits.7 calls waits.8 room l.depth l.addresses l.residents moved restored in
+      finish m behind v result own answered h2 apart (λ x e. restored.others 6 (among_not (plan.home m.function) (variables m.function) 6 (unspared plan m.function g kept_set) refl) ∙ (moved.others 6 (omega arith) (omega arith) (omega arith) ∙ l.given x e)))) in
       run.from back small at p l.shows
     where
       -- a bare function has left x2 where it was

@@ -2,7 +2,7 @@
 use Rattle.std.proofs.Common.{◌≡◌, ◌≢◌, ℕ, ◌+◌, ◌*◌, ◌^◌, ◌<◌, ◌≤◌, Bool, true, false, not, ◌&&◌, ◌||◌, List, [], ◌∷◌, ◌++◌, Option, Some, None, refl, sym, ap, ◌∙◌, subst, arith, append_assoc}
 use Rattle.std.specs.Prelude.{nat_eq, if◌then◌else◌, pos}
 use Rattle.std.proofs.lemmas.Bool.Decides.{nat_tests}
-use Rattle.std.proofs.lemmas.Bool.{and_parts}
+use Rattle.std.proofs.lemmas.Bool.{and_parts, or_parts}
 use Rattle.dae_base.specs.Words.{plus, word}
 use Rattle.dae_base.proofs.Laws.{plus_small, or_true}
 use Rattle.dae_encode.specs.declared.Inst.{Inst}
@@ -29,7 +29,7 @@ use Rattle.dae_select_blocks.specs.Wanted.{IsNumber, AreGiven, gives, HaveHomes}
 use Rattle.dae_select_blocks.proofs.Plain.{computes, put_same}
 use Rattle.dae_select_blocks.proofs.Frames.{runs_load}
 use Rattle.dae_select_blocks.proofs.Runs.{Runs, runs_quiet}
-use Rattle.dae_select_blocks.proofs.Agreement.{Ready, Like, home_register, kept_small, waiting_stays}
+use Rattle.dae_select_blocks.proofs.Agreement.{Ready, Like, home_register, kept_small, waiting_stays, calls_spare}
 use Rattle.dae_select_blocks.proofs.Operands.{like_put, runs_fetch}
 use Rattle.dae_select_blocks.proofs.Computing.{plus_zero, source_plain}
 use Rattle.dae_select_blocks.proofs.Actions.{ready_stays}
@@ -87,8 +87,8 @@ module _ (s : Setting) (plan : Plan) (variables : ℕ → ℕ) (fine : Fits s pl
       by false e good = from (resident_register (plan.home m.function (number_key n))) refl good
 
   -- a register that variables may have gets a word: what was there is lost
-  ready_lost : {live live' : VariableSet} {m : Moment} {c c' : Contents} (t : ℕ) → is_home_register t ≡ true → ((n r : ℕ) → resident_register (resident_home 27 plan.residents n) ≡ Some r → r ≢ t) → Like t c c' → Ready plan live m c → ((u : ℕ) → live' u ≡ true → (live u ≡ true) × (is_register t (plan.home m.function u) ≡ false)) → Ready plan live' m c'
-  ready_lost {live} {live'} {m} {c} {c'} t good free like h stays =
+  ready_lost : {live live' : VariableSet} {m : Moment} {c c' : Contents} (t : ℕ) → plan.leaf m.function ≡ false → is_home_register t ≡ true → ((n r : ℕ) → resident_register (resident_home 27 plan.residents n) ≡ Some r → r ≢ t) → Like t c c' → Ready plan live m c → ((u : ℕ) → live' u ≡ true → (live u ≡ true) × (is_register t (plan.home m.function u) ≡ false)) → Ready plan live' m c'
+  ready_lost {live} {live'} {m} {c} {c'} t calls good free like h stays =
       let a = h.agrees in let low = home_register t good in
       record {
         zero = like.registers 0 (omega arith) ∙ h.zero;
@@ -102,7 +102,8 @@ module _ (s : Setting) (plan : Plan) (variables : ℕ → ℕ) (fine : Fits s pl
           depth = λ by_a. like.registers 10 (λ same. low.2 (sym same)) ∙ a.depth by_a;
           addresses = λ by_a. like.registers 4 (omega arith) ∙ a.addresses by_a;
           residents = λ n r e. like.registers r (free n r e) ∙ a.residents n r e;
-          waiting = waiting_stays s plan variables fine m.function c c' a.base m.frame m.waiting (like.registers 1 (omega arith)) (λ i l. like.words i) a.waiting;
+          waiting = waiting_stays s plan variables fine m.function c c' a.base m.frame m.waiting (like.registers 1 (omega arith)) (λ i l. like.words i)
+              (λ q home e. absurd (let no : true ≡ false = sym e ∙ calls_spare s plan variables fine m.function q calls in cc)) a.waiting;
           room = a.room;
           within = a.within;
         };
@@ -120,18 +121,24 @@ module _ (s : Setting) (plan : Plan) (variables : ℕ → ℕ) (fine : Fits s pl
     pub ready : Ready plan (still_live (plan.home m.function) (plan.home g) xs live) m c'
     pub words : (i : ℕ) → c'.word i ≡ c.word i
     pub two : c'.register 2 ≡ c.register 2
+    pub others : (r : ℕ) → gives_register (plan.home g) xs r ≡ false → c'.register r ≡ c.register r
     pub given : (u : ℕ) → gives xs u ≡ true → (t : ℕ) → plan.home g u ≡ Register t → c'.register t ≡ given xs m.env u
 
-  handed_one : {live : VariableSet} {m : Moment} {c0 c c' : Contents} (g t : ℕ) (x : Argument) (xs : List Argument) → plan.home g x.parameter ≡ Register t → ((u : ℕ) → u ≢ x.parameter → gives xs u ≡ true → plan.home g u ≢ plan.home g x.parameter) →
+  handed_one : {live : VariableSet} {m : Moment} {c0 c c' : Contents} (g t : ℕ) (x : Argument) (xs : List Argument) → plan.leaf m.function ≡ false → plan.home g x.parameter ≡ Register t → ((u : ℕ) → u ≢ x.parameter → gives xs u ≡ true → plan.home g u ≢ plan.home g x.parameter) →
       ((n r : ℕ) → resident_register (resident_home 27 plan.residents n) ≡ Some r → plan.home g x.parameter ≢ Register r) → Handed live m g xs c0 c → Like t c c' → c'.register t ≡ value x.operand m.env → Handed live m g (x ∷ xs) c0 c'
-  handed_one {live} {m} {c0} {c} {c'} g t x xs e apart free gave like here =
+  handed_one {live} {m} {c0} {c} {c'} g t x xs calls e apart free gave like here =
       let good : is_home_register t ≡ true = (let h = fine.homes g x.parameter in rw e at h) in
       let low = home_register t good in
       record {
-        ready = ready_lost t good (λ n r o same. free n r o (e ∙ ap Register (sym same))) like gave.ready
+        ready = ready_lost t calls good (λ n r o same. free n r o (e ∙ ap Register (sym same))) like gave.ready
             (λ u l. (fewer_live (plan.home g) x xs (plan.home m.function u) (live u) l, other_register (plan.home g) t x xs (plan.home m.function u) (live u) e l));
         words = λ i. like.words i ∙ gave.words i;
         two = like.registers 2 (omega arith) ∙ gave.two;
+        others = λ r none.
+            let parts = or_parts (is_register r (plan.home g x.parameter)) (gives_register (plan.home g) xs r) none in
+            let it : nat_eq r t ≡ false = sym (ap (is_register r) e) ∙ parts.0 in
+            let ne : r ≢ t = grind (arith, nat_tests) in
+            like.registers r ne ∙ gave.others r parts.1;
         given = given_more m.env x xs (λ (u v : ℕ). (r : ℕ) → plan.home g u ≡ Register r → c'.register r ≡ v)
             (λ r which. (let both : Register t ≡ Register r = sym e ∙ which in let same : t ≡ r = cc in subst (λ (q : ℕ). c'.register q ≡ value x.operand m.env) same here))
             (λ u ne some r which. like.registers r (λ same. apart u ne some (which ∙ (ap Register same ∙ sym e))) ∙ gave.given u some r which);
@@ -150,11 +157,11 @@ module _ (s : Setting) (plan : Plan) (variables : ℕ → ℕ) (fine : Fits s pl
       by (Register r) is = let o' : gives_register (plan.home g) xs (register_or 5 (plan.home f v)) ≡ false = o in rw is at o'
       by (Slot i) is = refl
 
-  runs_parameter : {live : VariableSet} {m : Moment} {c0 c : Contents} {d : Deed} (base g : ℕ) (xs : List Argument) (x : Argument) (is : List Inst) → ((u : ℕ) → in_operand x.operand u ≡ true → live u ≡ true) → IsNumber x.operand →
+  runs_parameter : {live : VariableSet} {m : Moment} {c0 c : Contents} {d : Deed} (base g : ℕ) (xs : List Argument) (x : Argument) (is : List Inst) → plan.leaf m.function ≡ false → ((u : ℕ) → in_operand x.operand u ≡ true → live u ≡ true) → IsNumber x.operand →
       ((u : ℕ) → u ≢ x.parameter → gives xs u ≡ true → plan.home g u ≢ plan.home g x.parameter) → ((n r : ℕ) → resident_register (resident_home 27 plan.residents n) ≡ Some r → plan.home g x.parameter ≢ Register r) →
       Ready plan live m c0 → c0.register 2 ≡ 4 * base → base + 19 ≤ plan.private → Wait plan m.function g base c0 (x ∷ xs) → Handed live m g xs c0 c →
       ((c' : Contents) → Handed live m g (x ∷ xs) c0 c' → Runs s plan.private to is c' d) → Runs s plan.private to (parameter_code plan m.function g xs x ++ is) c d
-  runs_parameter {live} {m} {c0} {c} {d} base g xs x is reads number apart free h pointer inside waits gave run = by (plan.home g x.parameter) refl
+  runs_parameter {live} {m} {c0} {c} {d} base g xs x is calls reads number apart free h pointer inside waits gave run = by (plan.home g x.parameter) refl
     where
       good : (t : ℕ) → plan.home g x.parameter ≡ Register t → is_home_register t ≡ true
       good t e = (let h = fine.homes g x.parameter in rw e at h)
@@ -164,7 +171,7 @@ module _ (s : Setting) (plan : Plan) (variables : ℕ → ℕ) (fine : Fits s pl
           Runs s plan.private to ((if b then [] else Addi t (source (plan.home m.function) t x.operand) (pos 0) ∷ []) ++ is) c1 d
       copies t c1 e like got true same =
           let is_there : t ≡ source (plan.home m.function) t x.operand = grind (arith, nat_tests) in
-          run c1 (handed_one g t x xs e apart free gave like (ap c1.register is_there ∙ got))
+          run c1 (handed_one g t x xs calls e apart free gave like (ap c1.register is_there ∙ got))
       copies t c1 e like got false same =
           let low = home_register t (good t e) in
           let r : ℕ = source (plan.home m.function) t x.operand in
@@ -174,7 +181,7 @@ module _ (s : Setting) (plan : Plan) (variables : ℕ → ℕ) (fine : Fits s pl
           let more = like_put t v c1 small like.fits in
           let both : Like t c (put t v c1) = record { words = λ i. more.words i ∙ like.words i; registers = λ j ne. more.registers j ne ∙ like.registers j ne; fits = more.fits } in
           runs_quiet s plan.private to (computes s plan.private to (Addi t r (pos 0)) t r 0 (λ x y. plus x (word (pos 0))) refl low.1 (source_plain s plan variables fine to m.function t x.operand low.1) (omega arith) (plus_small (c1.register r) 0)) (rw sum (
-          run (put t v c1) (handed_one g t x xs e apart free gave both (put_same t v c1 (omega arith) low.1))))
+          run (put t v c1) (handed_one g t x xs calls e apart free gave both (put_same t v c1 (omega arith) low.1))))
 
       comes : (t : ℕ) → plan.home g x.parameter ≡ Register t → (b : Bool) → is_overwritten plan m.function g xs x.operand ≡ b →
           Runs s plan.private to ((if b then load_code t (kept_at (source (plan.home m.function) 5 x.operand)) else fetch (plan.home m.function) t x.operand ++ copy_code t (source (plan.home m.function) t x.operand)) ++ is) c d
@@ -186,7 +193,7 @@ module _ (s : Setting) (plan : Plan) (variables : ℕ → ℕ) (fine : Fits s pl
           let v : ℕ = c.word (base + kept_at q) in
           let same : v ≡ value x.operand m.env = gave.words (base + kept_at q) ∙ (waits.0 t e o ∙ register_holds x.operand h reads home) in
           runs_load s plan.private to base t (kept_at q) is (gave.two ∙ pointer) (omega arith) (omega arith) low.1 (omega arith) fine.private (
-          run (put t (c.word (base + kept_at q)) c) (handed_one g t x xs e apart free gave (like_put t v c (gave.ready.small (base + kept_at q)) gave.ready.fits) (put_same t v c (omega arith) low.1 ∙ same)))
+          run (put t (c.word (base + kept_at q)) c) (handed_one g t x xs calls e apart free gave (like_put t v c (gave.ready.small (base + kept_at q)) gave.ready.fits) (put_same t v c (omega arith) low.1 ∙ same)))
       comes t e false o =
           let low = home_register t (good t e) in
           rw append_assoc (runs_fetch s plan variables fine to t x.operand (copy_code t (source (plan.home m.function) t x.operand) ++ is) (omega arith, low.1, omega arith) gave.ready (reads_on m.function g xs x.operand live o reads) number (λ c1 like got.
@@ -199,23 +206,26 @@ module _ (s : Setting) (plan : Plan) (variables : ℕ → ℕ) (fine : Fits s pl
             ready = ready_stays s plan variables fine (still_live (plan.home m.function) (plan.home g) xs live) (still_live (plan.home m.function) (plan.home g) (x ∷ xs) live) m (λ u l. fewer_live (plan.home g) x xs (plan.home m.function u) (live u) l) gave.ready;
             words = gave.words;
             two = gave.two;
+            others = λ r none. gave.others r (or_parts (is_register r (plan.home g x.parameter)) (gives_register (plan.home g) xs r) none).1;
             given = given_more m.env x xs (λ (u v : ℕ). (r : ℕ) → plan.home g u ≡ Register r → c.register r ≡ v)
                 (λ r which. absurd (let no : Slot i ≡ Register r = sym e ∙ which in cc)) (λ u ne some r which. gave.given u some r which);
           })
 
-  pub runs_parameters : {live : VariableSet} {m : Moment} {c : Contents} {d : Deed} (base g : ℕ) (xs : List Argument) (is : List Inst) (h : Ready plan live m c) → ((u : ℕ) → in_arguments xs u ≡ true → live u ≡ true) → AreGiven xs → HaveHomes plan g (gives xs) → c.register 2 ≡ 4 * base → base + 19 ≤ plan.private →
+  pub runs_parameters : {live : VariableSet} {m : Moment} {c : Contents} {d : Deed} (base g : ℕ) (xs : List Argument) (is : List Inst) (h : Ready plan live m c) → plan.leaf m.function ≡ false → ((u : ℕ) → in_arguments xs u ≡ true → live u ≡ true) → AreGiven xs → HaveHomes plan g (gives xs) → c.register 2 ≡ 4 * base → base + 19 ≤ plan.private →
       Wait plan m.function g base c xs → ((c' : Contents) → Handed live m g xs c c' → Runs s plan.private to is c' d) → Runs s plan.private to (parameters_code plan m.function g xs ++ is) c d
-  runs_parameters {live} {m} {c} base g [] is h reads numbers homes pointer inside waits run =
+  runs_parameters {live} {m} {c} base g [] is h calls reads numbers homes pointer inside waits run =
       run c (record {
         ready = ready_stays s plan variables fine live (still_live (plan.home m.function) (plan.home g) [] live) m (λ u l. (and_parts (live u) (not (is_gone (plan.home g) [] (plan.home m.function u))) l).0) h;
         words = λ i. refl;
         two = refl;
+        others = λ r none. refl;
         given = λ u e. absurd cc;
       })
-  runs_parameters {live} {m} {c} base g (x ∷ xs) is h reads numbers homes pointer inside waits run =
+  runs_parameters {live} {m} {c} base g (x ∷ xs) is h calls reads numbers homes pointer inside waits run =
       let rest : HaveHomes plan g (gives xs) = record {
         apart = λ u v a b. homes.apart u v (rw a (or_true (nat_eq u x.parameter))) (rw b (or_true (nat_eq v x.parameter)));
         free = λ u n r a. homes.free u n r (rw a (or_true (nat_eq u x.parameter)));
+        unspared = λ u r a. homes.unspared u r (rw a (or_true (nat_eq u x.parameter)));
       } in
-      rw append_assoc (runs_parameters base g xs (parameter_code plan m.function g xs x ++ is) h (λ u e. reads u (rw e (or_true (in_operand x.operand u)))) numbers.1 rest pointer inside waits.1 (λ c1 gave.
-      runs_parameter base g xs x is (λ u e. reads u (rw e refl)) numbers.0 (λ u ne k. homes.apart u x.parameter (rw k (or_true (nat_eq u x.parameter))) (grind (arith, nat_tests)) ne) (λ n r o. homes.free x.parameter n r (grind (arith, nat_tests)) o) h pointer inside waits gave run))
+      rw append_assoc (runs_parameters base g xs (parameter_code plan m.function g xs x ++ is) h calls (λ u e. reads u (rw e (or_true (in_operand x.operand u)))) numbers.1 rest pointer inside waits.1 (λ c1 gave.
+      runs_parameter base g xs x is calls (λ u e. reads u (rw e refl)) numbers.0 (λ u ne k. homes.apart u x.parameter (rw k (or_true (nat_eq u x.parameter))) (grind (arith, nat_tests)) ne) (λ n r o. homes.free x.parameter n r (grind (arith, nat_tests)) o) h pointer inside waits gave run))

@@ -19,7 +19,7 @@ use Rattle.dae_select_walks.specs.declared.Need.{Need}
 use Rattle.dae_select_walks.specs.declared.Need.TheVariants.{All, Ends, Nothing}
 use Rattle.dae_select_walks.specs.Agrees.{Plan}
 use Rattle.dae_select_blocks.specs.Blocks.{arguments_code, save_code, restore_code, deeper_code, back_code, result_code, enter_code, jump_words, jump_over, enter_words, parameters_code}
-use Rattle.dae_select_blocks.specs.Code.{registers_in, action_code, call_code, does_nothing, standing_behind, late_code, placed_code, needed_code, block_code, code_of, tail_of, loop_code, bottom_code, bottom_test, has_bottom, leaves_first, is_near, is_dead}
+use Rattle.dae_select_blocks.specs.Code.{registers_in, action_code, call_code, does_nothing, standing_behind, late_code, placed_code, needed_code, block_code, code_of, tail_of, loop_code, bottom_code, bottom_test, has_bottom, leaves_first, is_near, is_dead, unspared}
 use Rattle.dae_select_blocks.specs.Sizes.{one_call, most_words_in}
 use Rattle.dae_select_blocks.proofs.Simple.{IsSimple}
 use Rattle.dae_select_blocks.proofs.Pairs.{by_pairs}
@@ -39,11 +39,11 @@ either_length false xs ys n h k = k
 module _ (short : Bool) (plan : Plan) (variables : ℕ → ℕ) (f : ℕ) where
   call_length : (v : Option ℕ) (g : ℕ) (xs : List Argument) (k : VariableSet) → length (call_code plan variables f v g xs k) ≤ 56 + 6 * length xs
   call_length v g xs k =
-      let rs = registers_in (plan.home f) (variables f) k in
+      let rs = registers_in (plan.home f) (variables f) (unspared plan f g k) in
       let A = arguments_code plan f g xs in let B = save_code rs in let D = deeper_code plan f g in let E = enter_code plan.near (plan.entry g) in
       let R = back_code plan f g ++ (restore_code rs ++ result_code (plan.home f) v) in
-      let before' = prepared_short plan variables f g xs k in
-      let after' = resumed_short plan variables f g v k in
+      let before' = prepared_short plan variables f g xs (unspared plan f g k) in
+      let after' = resumed_short plan variables f g v (unspared plan f g k) in
       let P = parameters_code plan f g xs in
       let one = length-append A (B ++ (P ++ (D ++ (E ++ R)))) in
       let two = length-append B (P ++ (D ++ (E ++ R))) in

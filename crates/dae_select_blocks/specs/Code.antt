@@ -20,7 +20,7 @@ use Rattle.dae_meaning.specs.declared.Operator.TheVariants.{Add as Plus}
 use Rattle.dae_meaning.specs.declared.Comparison.{Comparison}
 use Rattle.dae_meaning.specs.declared.Comparison.TheVariants.{NotEqual}
 use Rattle.dae_select_walks.specs.declared.Home.{Home}
-use Rattle.dae_select_walks.specs.declared.Home.TheVariants.{Register}
+use Rattle.dae_select_walks.specs.declared.Home.TheVariants.{Register, Slot}
 use Rattle.dae_select_walks.specs.Live.{Ways, in_operand, behind, live, is, nowhere, step_ways, body_ways}
 use Rattle.dae_select_walks.specs.Facts.{Facts, unknown, only_leaves, facts_behind, facts_in_first, facts_in_second, facts_past_if, facts_at_turn, facts_at_step, facts_past_loop, need_of}
 use Rattle.dae_select_walks.specs.declared.Need.{Need}
@@ -50,12 +50,21 @@ home_registers = 8 ∷ (9 ∷ (11 ∷ (12 ∷ (13 ∷ (14 ∷ (15 ∷ (16 ∷ (1
 unfoldable pub registers_in : (ℕ → Home) → ℕ → VariableSet → List ℕ
 registers_in home variables live = filtered (λ r. some_below variables (λ v. live v && is_register r (home v))) home_registers
 
+-- what of a set a call of the function g might change
+abbrev pub is_spared : (ℕ → Bool) → Home → Bool
+is_spared spared (Register r) = spared r
+is_spared spared (Slot i) = false
+
+abbrev pub unspared : Plan → ℕ → ℕ → VariableSet → VariableSet
+unspared plan f g live v = live v && not (is_spared (plan.spares g) (plan.home f v))
+
 -- ---- actions
 
 abbrev pub call_code : Plan → (ℕ → ℕ) → ℕ → Option ℕ → ℕ → List Argument → VariableSet → List Inst
 call_code plan variables f v g xs live =
-    arguments_code plan f g xs ++ (save_code (registers_in (plan.home f) (variables f) live) ++ (parameters_code plan f g xs ++ (deeper_code plan f g ++ (enter_code plan.near (plan.entry g)
-    ++ (back_code plan f g ++ (restore_code (registers_in (plan.home f) (variables f) live) ++ result_code (plan.home f) v))))))
+    arguments_code plan f g xs ++ (save_code (registers_in (plan.home f) (variables f) (unspared plan f g live)) ++ (parameters_code plan f g xs
+    ++ (deeper_code plan f g ++ (enter_code plan.near (plan.entry g)
+    ++ (back_code plan f g ++ (restore_code (registers_in (plan.home f) (variables f) (unspared plan f g live)) ++ result_code (plan.home f) v))))))
 
 -- the block of an action in the function f, behind which these variables are live, with the jumps to where a Break goes and a
 -- Continue

@@ -1,5 +1,5 @@
 -- When a plan fits a processor: homes in their ranges, frames as long as the homes need, none needed where there is none, numbers that
--- don't wrap, and registers for numbers that are no variable's.
+-- don't wrap, registers for numbers that are no variable's, and none of its variables in what a function spares.
 use Rattle.std.specs.Prelude.{◌≡◌, ◌≢◌, ℕ, ◌^◌, ◌≤◌, ◌<◌, true, length, Some}
 use Rattle.std.specs.List.{AllByRecursion}
 use Rattle.dae_ir.specs.Programs.{side}
@@ -22,5 +22,7 @@ pub record Fits (s : Setting) (plan : Plan) (variables : ℕ → ℕ) : Type 0 w
   pub apart : (f v n r : ℕ) → v < variables f → resident_register (resident_home 27 plan.residents n) ≡ Some r → plan.home f v ≢ Register r
   pub few : length plan.residents ≤ 3
   pub leaves : (f : ℕ) → plan.bare f ≡ true → plan.leaf f ≡ true
+  pub spares : (f r : ℕ) → plan.spares f r ≡ true → plan.leaf f ≡ true
+  pub spared : (f v r : ℕ) → v < variables f → plan.spares f r ≡ true → plan.home f v ≢ Register r
   pub bare : (f v i : ℕ) → plan.bare f ≡ true → plan.home f v ≢ Slot i
   pub small : AllByRecursion (λ n. n < 2 ^ 32) plan.residents

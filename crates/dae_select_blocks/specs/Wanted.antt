@@ -60,10 +60,11 @@ abbrev pub gives : List Argument → VariableSet
 gives [] u = false
 gives (x ∷ xs) u = nat_eq u x.parameter || gives xs u
 
--- these variables of a function have homes of their own, in which no number stays
+-- these variables of a function have homes of their own, in which no number stays, and which it doesn't spare
 pub record HaveHomes (plan : Plan) (f : ℕ) (given : VariableSet) : Type 0 where
   pub apart : AreApart (plan.home f) given
   pub free : (u n r : ℕ) → given u ≡ true → resident_register (resident_home 27 plan.residents n) ≡ Some r → plan.home f u ≢ Register r
+  pub unspared : (u r : ℕ) → given u ≡ true → plan.spares f r ≡ true → plan.home f u ≢ Register r
 
 -- a call is of a function that is there, gives an argument for each variable that the function reads at its entry, its parameters have homes of their
 -- own, and no leaf makes it

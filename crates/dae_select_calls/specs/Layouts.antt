@@ -1,8 +1,9 @@
 -- The plan that layouts are.
-use Rattle.std.specs.Prelude.{ℕ, ◌<◌, ◌^◌, Bool, false, List, [], length, slice_get, Option, Some, None}
+use Rattle.std.specs.Prelude.{ℕ, ◌<◌, ◌^◌, Bool, false, not, ◌&&◌, ◌||◌, List, [], ◌∷◌, length, slice_get, Option, Some, None}
 use Rattle.dae_select_walks.specs.declared.Home.{Home}
 use Rattle.dae_select_walks.specs.Homes.{frame_words, home_among}
 use Rattle.dae_select_walks.specs.Agrees.{Plan}
+use Rattle.dae_select_blocks.specs.Blocks.{is_register}
 use Rattle.dae_select_values.specs.Jumps.{is_jalr}
 use Rattle.dae_select_values.specs.Sides.{is_a}
 use Rattle.dae_select_values.specs.Tables.{IsNear}
@@ -37,6 +38,16 @@ abbrev pub bare_at : Option FunctionLayout → Bool
 bare_at None = false
 bare_at (Some layout) = layout.bare
 
+-- one of these homes is this register
+abbrev pub has_home : ℕ → List Home → Bool
+has_home r [] = false
+has_home r (home ∷ homes) = is_register r home || has_home r homes
+
+-- a leaf leaves the registers as they are in which none of its variables is
+abbrev pub spares_at : Option FunctionLayout → ℕ → Bool
+spares_at None r = false
+spares_at (Some layout) r = layout.leaf && not (has_home r layout.homes)
+
 abbrev pub variables_of : Layouts → ℕ → ℕ
 variables_of all f = variables_at (slice_get all.functions f)
 
@@ -51,6 +62,7 @@ plan_of all = record {
   frame = λ f. frame_at (slice_get all.functions f);
   leaf = λ f. leaf_at (slice_get all.functions f);
   bare = λ f. bare_at (slice_get all.functions f);
+  spares = λ f. spares_at (slice_get all.functions f);
   near = is_jalr all.calls;
   finish = all.finish;
   largest = all.largest;

@@ -1,6 +1,8 @@
 -- What the code of a function is made from.
-use Rattle.std.specs.Prelude.{◌≡◌, ℕ, Bool}
+use Rattle.std.specs.Prelude.{◌≡◌, ℕ, Bool, List}
+use Rattle.dae_ir.specs.Classes.{VariableSet}
 use Rattle.dae_select_walks.specs.Agrees.{Plan}
+use Rattle.dae_select_blocks.specs.Code.{registers_in, unspared}
 use Rattle.dae_select_values.specs.Jumps.{is_jal}
 use Rattle.dae_select_calls.specs.Layouts.{plan_of, variables_of, AreSmall}
 use Rattle.dae_select_values.specs.Tables.{AreNear, home_by}
@@ -12,6 +14,10 @@ plan_by m = plan_of m.layouts.now
 
 abbrev pub variables_by : Making → ℕ → ℕ
 variables_by m = variables_of m.layouts.now
+
+-- the registers that a call of a function keeps, behind which these variables are live
+abbrev pub kept_by : Making → ℕ → VariableSet → List ℕ
+kept_by m g live = registers_in ((plan_by m).home m.function) (variables_by m m.function) (unspared (plan_by m) m.function g live)
 
 -- whether JAL makes each jump
 abbrev pub by_jal : Making → Bool

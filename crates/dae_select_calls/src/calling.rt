@@ -1,10 +1,11 @@
 // The blocks of calls and returns, and the code that a function begins with.
 
-ghost use Rattle.std.specs.Prelude.{if◌then◌else◌, ◌≡◌, ◌+◌, ◌*◌, ◌++◌, ◌∷◌, [], pos, ◌^◌, ◌%◌, ◌&&◌, nat_lt, IfOk, OnOk};
+ghost use Rattle.std.specs.Prelude.{if◌then◌else◌, ◌≡◌, ◌+◌, ◌*◌, ◌++◌, ◌∷◌, [], pos, ◌^◌, ◌%◌, ◌&&◌, not, nat_lt, IfOk, OnOk};
 ghost use Rattle.dae_encode.specs.declared.Inst.TheVariants.{Jalr};
 ghost use Rattle.dae_select_blocks.specs.Blocks.{is_register, save_code, restore_code, more_code, less_code, deeper_code, back_code, result_code, count_code, prologue_code, epilogue_code, leave_code};
 ghost use Rattle.dae_select_blocks.specs.Code.{some_below, filtered, registers_in, call_code};
-ghost use Rattle.dae_select_calls.specs.Makings.{plan_by, variables_by, IsSound};
+ghost use Rattle.dae_select_calls.specs.Layouts.{plan_of};
+ghost use Rattle.dae_select_calls.specs.Makings.{plan_by, variables_by, kept_by, IsSound};
 ghost use Rattle.dae_select_calls.specs.Passing.{pass_code, resume_code};
 ghost use Rattle.dae_select_walks.specs.Live.{with_all};
 ghost use Rattle.dae_select_values.specs.Sides.{is_a};
@@ -113,6 +114,36 @@ fn registers_in(
         ≡ registers_in (home_by homes.entry) variables (member live.now)) }
 {
     live_among(alloc, homes, variables, live, &HOME_REGISTERS)
+}
+
+/// Those of some registers that a function may change.
+fn changed_among(
+    alloc: Global,
+    layouts: &Layouts,
+    callee: u32,
+    registers: &[u8],
+) -> Result<Vec<u8>, AllocError>
+    ensures { IfOk result (λ found. found.items
+        ≡ filtered (λ r. not ((plan_of layouts.now).spares callee r)) registers.now) }
+{
+    let mut found = Vec::new(alloc);
+    for register in registers {
+        if !layouts.spares(callee, *register) {
+            found.push(*register)?;
+        }
+    }
+    Ok(found)
+}
+
+/// The registers in which a live variable is that a call of a function might change.
+fn call_registers(making: &Making, callee: u32, live: &LiveSet) -> Result<Vec<u8>, AllocError>
+    requires { IsSound making.now }
+    ensures { IfOk result (λ registers. registers.items
+        ≡ kept_by making.now callee (member live.now)) }
+{
+    let variables = making.layouts.variables(making.function);
+    let registers = registers_in(making.alloc, making.homes, variables, live)?;
+    changed_among(making.alloc, making.layouts, callee, registers.as_slice())
 }
 
 fn save_code(code: &mut Vec<Inst>, registers: &[u8]) -> Result<(), AllocError>
@@ -269,9 +300,8 @@ pub fn call_code(
         callee.result callee.function arguments.now (member live.now)) }
 {
     let layouts = making.layouts;
-    let variables = layouts.variables(making.function);
     arguments_code(code, making, callee.function, arguments)?;
-    let registers = registers_in(making.alloc, making.homes, variables, live)?;
+    let registers = call_registers(making, callee.function, live)?;
     pass_code(
         code,
         making,

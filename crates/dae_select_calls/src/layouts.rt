@@ -1,8 +1,9 @@
 // What is settled before the code of a side is made.
 
-ghost use Rattle.std.specs.Prelude.{◌≡◌};
+ghost use Rattle.std.specs.Prelude.{◌≡◌, ◌&&◌, not};
 ghost use Rattle.dae_select_walks.specs.Agrees.{counted_depth};
-ghost use Rattle.dae_select_calls.specs.Layouts.{plan_of, variables_of, AreSmall};
+ghost use Rattle.dae_select_blocks.specs.Blocks.{is_register};
+ghost use Rattle.dae_select_calls.specs.Layouts.{plan_of, variables_of, has_home, AreSmall};
 ghost use Rattle.dae_select_values.specs.Tables.{AreNear, home_by};
 
 use dae_base::{Items, Side};
@@ -37,6 +38,35 @@ pub struct Layouts {
     pub limit: u16,
     pub memory: u32,
     pub residents: Items<u32>,
+}
+
+/// Whether a home is this register.
+pub fn is_register(register: u8, home: Home) -> bool
+    ensures { result ≡ is_register register home }
+{
+    match home {
+        Home::Register(other) => register == other,
+        Home::Slot(_) => false,
+    }
+}
+
+/// Whether one of these homes is this register.
+fn has_home(homes: &[Home], register: u8) -> bool
+    ensures { result ≡ has_home register homes.now }
+{
+    for home in homes {
+        if is_register(register, *home) {
+            return true;
+        }
+    }
+    false
+}
+
+/// Whether a function leaves a register as it is: a leaf with no variable there.
+fn spares(layout: &FunctionLayout, register: u8) -> bool
+    ensures { result ≡ (layout.now.leaf && not (has_home register layout.now.homes)) }
+{
+    layout.leaf && !has_home(layout.homes.as_slice(), register)
 }
 
 impl Layouts {
@@ -101,6 +131,16 @@ impl Layouts {
     {
         match self.functions.as_slice().get(function as usize) {
             Some(layout) => layout.bare,
+            None => false,
+        }
+    }
+
+    /// Whether a function leaves a register as it is.
+    pub fn spares(&self, function: u32, register: u8) -> bool
+        ensures { result ≡ (plan_of self.now).spares function register }
+    {
+        match self.functions.as_slice().get(function as usize) {
+            Some(layout) => spares(layout, register),
             None => false,
         }
     }

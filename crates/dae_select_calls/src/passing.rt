@@ -7,7 +7,7 @@ ghost use Rattle.dae_select_calls.specs.Makings.{plan_by, IsSound};
 ghost use Rattle.dae_select_values.specs.Tables.{IsNear};
 ghost use Rattle.dae_select_walks.specs.Homes.{kept_at};
 
-use crate::layouts::Layouts;
+use crate::layouts::{Layouts, is_register};
 use crate::making::Making;
 use dae_encode::Inst;
 use dae_ir::{Argument, Operand};
@@ -33,10 +33,7 @@ fn goes_into(layouts: &Layouts, callee: u32, argument: Argument, register: u8) -
     ensures { result ≡ is_register register
         ((plan_of layouts.now).home callee argument.parameter) }
 {
-    match layouts.home(callee, argument.parameter) {
-        Home::Register(other) => register == other,
-        Home::Slot(_) => false,
-    }
+    is_register(register, layouts.home(callee, argument.parameter))
 }
 
 /// Whether one of these arguments is for a variable in this register.

@@ -7,13 +7,13 @@ use Rattle.dae_base.specs.declared.LoadKind.TheVariants.{I32}
 use Rattle.dae_encode.specs.Processor.{Processor}
 use Rattle.dae_ir.specs.Classes.{VariableSet}
 use Rattle.dae_meaning.specs.Variables.{Env}
-use Rattle.dae_select_walks.specs.Homes.{Contents, held, kept, resident_home, resident_register}
+use Rattle.dae_select_walks.specs.Homes.{Contents, held, none_spared, kept, resident_home, resident_register}
 use Rattle.dae_select_walks.specs.declared.Home.{Home}
 
 -- what is settled before the code runs: the side, the number of functions and their homes; of each function the words at which it is entered and at which its actions
 -- begin, the words of its private frame, the bytes of its frame in common memory, whether it is a leaf, which makes no
--- call, and whether it is bare, a leaf that needs no word of its private frame; whether one instruction enters them all; the word that
--- main returns to; the most words of a private frame and the words of private memory; the call limit; the size of common memory; and
+-- call, whether it is bare, a leaf that needs no word of its private frame, and which registers it spares, a leaf that leaves them as
+-- they are; whether one instruction enters them all; the word that main returns to; the most words of a private frame and the words of private memory; the call limit; the size of common memory; and
 -- the numbers that stay in registers
 pub record Plan : Type 0 where
   pub by_a : Bool
@@ -25,6 +25,7 @@ pub record Plan : Type 0 where
   pub frame : ℕ → ℕ
   pub leaf : ℕ → Bool
   pub bare : ℕ → Bool
+  pub spares : ℕ → ℕ → Bool
   pub near : Bool
   pub finish : ℕ
   pub largest : ℕ
@@ -88,13 +89,14 @@ abbrev pub counted_depth : Plan → ℕ → ℕ → ℕ
 counted_depth plan f depth = if plan.leaf f then depth - 1 else depth
 
 -- the calls that wait below a frame that begins at a word of private memory and at an address of common memory, and that is
--- left to this address. A function that waits has made a call, so its own is in its frame
-abbrev pub AreWaiting : Plan → Contents → ℕ → ℕ → ℕ → List Waiting → Type 0
-AreWaiting plan c address base frame [] = (base ≡ 0) × (plan.finish < 2 ^ 29) × (address ≡ 4 * plan.finish)
-AreWaiting plan c address base frame (w ∷ ws) =
+-- left to this address, where its function spares these registers. A function that waits has made a call, so its own address is in its
+-- frame, and it spares none
+abbrev pub AreWaiting : Plan → Contents → (ℕ → Bool) → ℕ → ℕ → ℕ → List Waiting → Type 0
+AreWaiting plan c spared address base frame [] = (base ≡ 0) × (plan.finish < 2 ^ 29) × (address ≡ 4 * plan.finish)
+AreWaiting plan c spared address base frame (w ∷ ws) =
     (below : ℕ) × (base ≡ below + plan.words w.function) × (frame ≡ w.frame + plan.frame w.function) × (w.frame ≤ plan.memory)
-    × (below + (plan.limit + 1 - (length ws + 1)) * plan.largest ≤ plan.private) × (w.back < 2 ^ 29) × (address ≡ 4 * w.back) × AreIn (kept c below) (plan.home w.function) w.live w.env
-    × AreWaiting plan c (c.word below) below w.frame ws
+    × (below + (plan.limit + 1 - (length ws + 1)) * plan.largest ≤ plan.private) × (w.back < 2 ^ 29) × (address ≡ 4 * w.back) × AreIn (kept spared c below) (plan.home w.function) w.live w.env
+    × AreWaiting plan c none_spared (c.word below) below w.frame ws
 
 pub record Agrees (plan : Plan) (live : VariableSet) (m : Moment) (c : Contents) : Type 0 where
   pub base : ℕ
@@ -104,7 +106,7 @@ pub record Agrees (plan : Plan) (live : VariableSet) (m : Moment) (c : Contents)
   pub depth : plan.by_a ≡ true → c.register 10 ≡ counted_depth plan m.function (depth_of m)
   pub addresses : plan.by_a ≡ true → c.register 4 ≡ plan.memory - 16
   pub residents : AreResident plan c
-  pub waiting : AreWaiting plan c (return_address plan m.function c base) base m.frame m.waiting
+  pub waiting : AreWaiting plan c (plan.spares m.function) (return_address plan m.function c base) base m.frame m.waiting
   pub room : base + (plan.limit + 1 - depth_of m) * plan.largest ≤ plan.private
   pub within : IsWithin plan m
 

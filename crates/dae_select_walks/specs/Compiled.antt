@@ -85,7 +85,7 @@ pub record Lands (plan : Plan) (f : ℕ) (w : Waiting) (ws : List Waiting) (resu
   pub depth : plan.by_a ≡ true → contents.register 10 ≡ length ws + 1
   pub addresses : plan.by_a ≡ true → contents.register 4 ≡ plan.memory - 16
   pub residents : AreResident plan contents
-  pub waiting : AreWaiting plan contents (4 * w.back) base frame (w ∷ ws)
+  pub waiting : AreWaiting plan contents (plan.spares f) (4 * w.back) base frame (w ∷ ws)
   pub given : (x : ℕ) → result ≡ Some x → contents.register 6 ≡ x
 
 abbrev pub result_of : Option Operand → Env → Option ℕ

@@ -1,6 +1,6 @@
 -- Where variables are kept. A private frame has the address to return to, then a word for each of the 18 registers that
 -- variables may have, kept across a call, and then the slots.
-use Rattle.std.specs.Prelude.{◌≡◌, ◌≢◌, ℕ, ◌+◌, ◌-◌, ◌^◌, ◌<◌, Bool, true, nat_lt, nat_eq, ◌||◌, ◌&&◌, if◌then◌else◌, List, [], ◌∷◌, nat_le, slice_get, Option, Some, None}
+use Rattle.std.specs.Prelude.{◌≡◌, ◌≢◌, ℕ, ◌+◌, ◌-◌, ◌^◌, ◌<◌, Bool, true, false, nat_lt, nat_eq, ◌||◌, ◌&&◌, if◌then◌else◌, List, [], ◌∷◌, nat_le, slice_get, Option, Some, None}
 use Rattle.std.specs.List.{AllByRecursion}
 use Rattle.dae_ir.specs.Classes.{VariableSet}
 use Rattle.dae_select_walks.specs.declared.Home.{Home}
@@ -81,7 +81,11 @@ abbrev pub held : Contents → ℕ → Home → ℕ
 held c base (Register r) = c.register r
 held c base (Slot i) = c.word (base + slot_at i)
 
--- what is kept there across a call
-abbrev pub kept : Contents → ℕ → Home → ℕ
-kept c base (Register r) = c.word (base + kept_at r)
-kept c base (Slot i) = c.word (base + slot_at i)
+-- a function that makes calls may change any register
+abbrev pub none_spared : ℕ → Bool
+none_spared r = false
+
+-- what is kept there across a call of a function that leaves these registers as they are
+abbrev pub kept : (ℕ → Bool) → Contents → ℕ → Home → ℕ
+kept spared c base (Register r) = if spared r then c.register r else c.word (base + kept_at r)
+kept spared c base (Slot i) = c.word (base + slot_at i)

@@ -1,39 +1,32 @@
-use Rattle.std.proofs.Common.{◌≡◌, ℕ, true, List, length, refl, ap, sym, ◌∙◌, subst, arith}
+use Rattle.std.proofs.Common.{◌≡◌, ℕ, List, length, refl, ap, sym, ◌∙◌, subst, arith}
 use Rattle.std.specs.List.{AllByRecursion}
 use Rattle.std.proofs.lemmas.Result.{err_from_is_err_and}
 use Rattle.dae_ir.specs.Streams.{actions_of}
-use Rattle.dae_ir.specs.declared.stream.Step.{Step}
 use Rattle.dae_select_walks.specs.Homes.{AreHomes, home_in}
 use Rattle.dae_select_walks.specs.Live.{function_lives}
 use Rattle.dae_select_walks.specs.declared.Home.{Home}
 use Rattle.dae_regalloc.specs.Given.{AreFew, IsRegister}
-use Rattle.dae_regalloc.specs.Seen.{AreBelow, can_number}
+use Rattle.dae_regalloc.specs.Seen.{AreBelow}
 use Rattle.dae_link.specs.Settled.{is_frameless}
 use Rattle.dae_link.proofs.homes.layout_of.Goals as goal
-
-pub allocate-requires : goal.allocate-requires
-allocate-requires c = subst (λ (b : List Step). can_number (actions_of b) ≡ true) (sym c.as_slice.ensures) c.requires
 
 pub returns-clause-layout : goal.returns-clause-layout
 returns-clause-layout c =
     let n = c.in_ok-count_of.field-0 in
     let homes = c.in_ok-homes.homes.items in
-    let parameters = c.args.function.now.parameters in
+    let places = function_lives c.args.function.now.parameters (actions_of c.args.function.now.body) in
     let few = c.in_ok-count_of.ensures.ok in
     let same : n ≡ length homes = (let a = few.0 in let l = c.len.ensures in omega arith) in
     record {
       count = same ∙ ap length (sym c.from_vec.ensures);
       few = few.1;
-      homes = subst (λ (hs : List Home). AreHomes n (function_lives parameters (actions_of c.args.function.now.body)) (home_in hs)) (sym c.from_vec.ensures)
-          (subst (λ (b : List Step). AreHomes n (function_lives parameters (actions_of b)) (home_in homes)) c.as_slice.ensures (c.in_ok-homes.ensures.homes n));
-      inside = subst (λ (m : ℕ). AllByRecursion (AreBelow m) (function_lives parameters (actions_of c.args.function.now.body))) (sym same)
-          (subst (λ (b : List Step). AllByRecursion (AreBelow (length homes)) (function_lives parameters (actions_of b))) c.as_slice.ensures c.in_ok-homes.ensures.inside);
-      least = λ m below. (let few = c.in_ok-homes.ensures.few m (subst (λ (b : List Step). AllByRecursion (AreBelow m) (function_lives parameters (actions_of b))) (sym c.as_slice.ensures) below) in omega arith);
-      registers = subst (λ (hs : List Home). AreFew 18 (function_lives parameters (actions_of c.args.function.now.body)) → (v : ℕ) → IsRegister (home_in hs v)) (sym c.from_vec.ensures)
-          (subst (λ (b : List Step). AreFew 18 (function_lives parameters (actions_of b)) → (v : ℕ) → IsRegister (home_in homes v)) c.as_slice.ensures c.in_ok-homes.ensures.registers);
+      homes = subst (λ (hs : List Home). AreHomes n places (home_in hs)) (sym c.from_vec.ensures) (c.in_ok-homes.ensures.homes n);
+      inside = subst (λ (m : ℕ). AllByRecursion (AreBelow m) places) (sym same) c.in_ok-homes.ensures.inside;
+      least = λ m below. (let few = c.in_ok-homes.ensures.least m below in omega arith);
+      registers = subst (λ (hs : List Home). AreFew 18 places → (v : ℕ) → IsRegister (home_in hs v)) (sym c.from_vec.ensures) c.in_ok-homes.ensures.registers;
       frame = refl;
       leaf = c.is_leaf_function.ensures;
-      bare = c.is_frameless-bare.ensures ∙ ap (is_frameless c.args.function.now) (c.as_slice-2.ensures.value ∙ sym c.from_vec.ensures);
+      bare = c.is_frameless-bare.ensures ∙ ap (is_frameless c.args.function.now) (c.as_slice.ensures.value ∙ sym c.from_vec.ensures);
       entry = refl;
     }
 
@@ -42,5 +35,5 @@ returns-in_err-count_of-clause-private c =
     let f = c.args.function.now in
     let p = err_from_is_err_and c.from_residual-in_err-count_of.result c.from_residual-in_err-count_of.ensures.1 in
     rw p.1 (λ same n most.
-    let few = c.in_ok-homes.ensures.few f.variables (subst (λ (b : List Step). AllByRecursion (AreBelow f.variables) (function_lives f.parameters (actions_of b))) (sym c.as_slice.ensures) most.0.own) in
+    let few = c.in_ok-homes.ensures.least f.variables most.0.own in
     let all = most.0.few in let large = c.in_err-count_of.ensures.err.1 in let l = c.len.ensures in omega arith)
