@@ -155,8 +155,8 @@ check_short plan f (Place width x) =
     behind_short (plan.home f) 5 10 x (align_code width r ++ bounds_code width r) (omega arith)
 check_short plan f (InBounds x offset) =
     let r = source (plan.home f) 5 x in
-    let l = behind_short (plan.home f) 5 4 x (offset_bounds_code r offset) (either_short (nat_eq offset 16) (Bltu r 4 (pos 12) ∷ fail_code true 2) (Addi 6 r (lower (minus offset 16)) ∷ (Bltu 6 4 (pos 12) ∷ fail_code true 2)) 4 (omega arith) (omega arith)) in
-    omega arith
+    behind_short (plan.home f) 5 10 x (offset_bounds_code r offset)
+    (either_short (nat_eq offset 16) (Bltu r 4 (pos 12) ∷ fail_code true 2) (Addi 6 r (lower (minus offset 16)) ∷ (Bltu 6 4 (pos 12) ∷ fail_code true 2)) 10 (omega arith) (omega arith))
 check_short plan f (Zero x) = let l = fail_short plan.by_a 1 in let a = behind_short (plan.home f) 5 5 x (Bne (source (plan.home f) 5 x) 0 (over plan.by_a) ∷ fail_code plan.by_a 1) (omega arith) in omega arith
 check_short plan f (Room g) =
     let n : ℕ = plan.memory - (plan.frame f + plan.frame g) in
