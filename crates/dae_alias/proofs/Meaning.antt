@@ -2,9 +2,10 @@
 use Rattle.std.proofs.Common.{◌≡◌, ℕ, zero, suc, ◌+◌, ◌^◌, ◌<◌, ◌≤◌, Bool, true, false, ◌||◌, nat_eq, if◌then◌else◌, List, [], ◌∷◌, ◌++◌, length, Option, Some, None, refl, ap, sym, ◌∙◌, subst, arith}
 use Rattle.std.specs.Prelude.{nat_lt}
 use Rattle.std.specs.List.{AllByRecursion}
-use Rattle.dae_base.specs.Words.{size, width_of, loaded, stored, extended}
+use Rattle.dae_base.specs.Words.{plus, size, width_of, loaded, stored, extended}
 use Rattle.dae_base.specs.declared.Place.{Place}
 use Rattle.dae_base.specs.declared.Width.{Width}
+use Rattle.dae_base.specs.declared.Width.TheVariants.{B1}
 use Rattle.dae_base.specs.declared.LoadKind.{LoadKind}
 use Rattle.dae_base.proofs.Laws.{stored_length}
 use Rattle.dae_meaning.specs.Worlds.{World, ticked, fetched, back}
@@ -22,7 +23,7 @@ use Rattle.dae_ir.specs.declared.form.Value.{Value}
 use Rattle.dae_ir.specs.declared.form.Value.TheVariants as val
 use Rattle.dae_ir.specs.declared.form.Test.{Test}
 use Rattle.dae_ir.specs.declared.form.Check.{Check}
-use Rattle.dae_ir.specs.declared.form.Check.TheVariants.{Place as Good, Zero, Room, Frame, Abort}
+use Rattle.dae_ir.specs.declared.form.Check.TheVariants.{Place as Good, InBounds, Zero, Room, Frame, Abort}
 use Rattle.dae_ir.specs.declared.form.Function.{Function}
 use Rattle.dae_ir.specs.declared.form.Item.TheVariants.{Assign, Load, Store, Print, Expect, Break, Continue, Call, Return, Halt}
 use Rattle.dae_alias.specs.Stretches.{Known, nothing, symbol, followed, renewed, after, set}
@@ -93,6 +94,7 @@ module _ (functions : List Function) (p q : Program) (frames : (g : ℕ) → q.f
 
   same_fault : (check : Check) → CheckIn (length functions) n check → (e f : Env) → SameBelow n e f → (w : World) (i l j k : ℕ) → fault p check (counted i l w) e ≡ fault q check (counted j k w) f
   same_fault (Good width x) c e f s w i l j k = ap (λ (a : ℕ). misplaced width a (length w.memory)) (value_same n e f s x c)
+  same_fault (InBounds x offset) c e f s w i l j k = ap (λ (a : ℕ). misplaced B1 (plus a offset) (length w.memory)) (value_same n e f s x c.0)
   same_fault (Zero x) c e f s w i l j k = ap (λ (a : ℕ). if nat_eq a 0 then Some 1 else None) (value_same n e f s x c)
   same_fault (Room g) c e f s w i l j k = same_room g e f w i l j k
   same_fault Frame c e f s w i l j k = refl

@@ -19,7 +19,7 @@ use Rattle.dae_ir.specs.declared.form.Operand.TheVariants.{Variable, Number}
 use Rattle.dae_ir.specs.declared.form.Value.{Value}
 use Rattle.dae_ir.specs.declared.form.Value.TheVariants as val
 use Rattle.dae_ir.specs.declared.form.Test.{Test}
-use Rattle.dae_ir.specs.declared.form.Check.TheVariants.{Place as Good, Zero, Room, Frame, Abort}
+use Rattle.dae_ir.specs.declared.form.Check.TheVariants.{Place as Good, InBounds, Zero, Room, Frame, Abort}
 use Rattle.dae_ir.specs.declared.form.Function.{Function}
 use Rattle.dae_ir.specs.declared.form.Item.{Item}
 use Rattle.dae_ir.specs.declared.form.Item.TheVariants.{Assign, Load, Store, Print, Expect, Break, Continue, Call, Return, Halt}
@@ -60,6 +60,7 @@ module _ (fs gs : List Function) (own n : ℕ) (same : KeepsParameters fs gs) (f
   item_in (Store width x y) i = (operand_in x i.0, operand_in y i.1)
   item_in (Print spelling x) i = operand_in x i
   item_in (Expect (Good width x)) i = operand_in x i
+  item_in (Expect (InBounds x offset)) i = (operand_in x i.0, i.1)
   item_in (Expect (Zero x)) i = operand_in x i
   item_in (Expect (Room g)) i = subst (λ (m : ℕ). g < m) (sym same.0) i
   item_in (Expect Frame) i = tt

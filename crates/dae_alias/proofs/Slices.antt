@@ -16,7 +16,7 @@ use Rattle.dae_ir.specs.declared.form.Operand.TheVariants.{Variable, Number}
 use Rattle.dae_ir.specs.declared.form.Value.{Value}
 use Rattle.dae_ir.specs.declared.form.Value.TheVariants as val
 use Rattle.dae_ir.specs.declared.form.Test.{Test}
-use Rattle.dae_ir.specs.declared.form.Check.TheVariants.{Place as Good, Zero, Room, Frame, Abort}
+use Rattle.dae_ir.specs.declared.form.Check.TheVariants.{Place as Good, InBounds, Zero, Room, Frame, Abort}
 use Rattle.dae_ir.specs.declared.form.Function.{Function}
 use Rattle.dae_ir.specs.declared.form.Item.{Item}
 use Rattle.dae_ir.specs.declared.form.Item.TheVariants.{Assign, Load, Store, Print, Expect, Break, Continue, Call, Return, Halt}
@@ -159,6 +159,7 @@ module _ (functions : List Function) (old new : ℕ → VariableSet) (own : ℕ 
   item_kept (Store width x y) i a = has_same x i.0 ∙ a
   item_kept (Print spelling x) i a = tt
   item_kept (Expect (Good width x)) i a = has_same x i ∙ a
+  item_kept (Expect (InBounds x offset)) i a = has_same x i.0 ∙ a
   item_kept (Expect (Zero x)) i a = tt
   item_kept (Expect (Room g)) i a = tt
   item_kept (Expect Frame) i a = tt

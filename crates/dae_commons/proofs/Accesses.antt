@@ -13,7 +13,7 @@ use Rattle.dae_ir.specs.declared.form.Value.{Value}
 use Rattle.dae_ir.specs.declared.form.Value.TheVariants as val
 use Rattle.dae_ir.specs.declared.form.Test.{Test}
 use Rattle.dae_meaning.specs.declared.Operator.TheVariants.{Add}
-use Rattle.dae_ir.specs.declared.form.Check.TheVariants.{Place as Good, Zero, Room, Frame, Abort}
+use Rattle.dae_ir.specs.declared.form.Check.TheVariants.{Place as Good, InBounds, Zero, Room, Frame, Abort}
 use Rattle.dae_ir.specs.declared.form.Item.{Item}
 use Rattle.dae_ir.specs.declared.form.Item.TheVariants.{Assign, Load, Store, Print, Expect, Break, Continue, Call, Return, Halt}
 use Rattle.dae_commons.specs.declared.equations.Equation.{Equation}
@@ -108,6 +108,7 @@ module _ (c : Classes) where
     item_kept q (Store width x y) h = has_same q x ∙ h
     item_kept q (Print spelling x) h = tt
     item_kept q (Expect (Good width x)) h = has_same q x ∙ h
+    item_kept q (Expect (InBounds x offset)) h = has_same q x ∙ h
     item_kept q (Expect (Zero x)) h = tt
     item_kept q (Expect (Room g)) h = tt
     item_kept q (Expect Frame) h = tt

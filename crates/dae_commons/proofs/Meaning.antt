@@ -1,6 +1,7 @@
 -- Code without its common subexpressions does what the code does, with the same variables in the same world.
 use Rattle.std.proofs.Common.{◌≡◌, ℕ, zero, suc, Bool, true, false, nat_eq, if◌then◌else◌, List, [], length, ◌∷◌, Option, Some, None, refl, ap, ◌∙◌, subst}
-use Rattle.dae_base.specs.Words.{width_of, loaded}
+use Rattle.dae_base.specs.Words.{plus, width_of, loaded}
+use Rattle.dae_base.specs.declared.Width.TheVariants.{B1}
 use Rattle.dae_meaning.specs.Worlds.{World, ticked, fetched}
 use Rattle.dae_meaning.specs.Results.{Result, At, Over, Next, Leaves, Skips, Returns, Run, ◌▷◌, ◌↻◌, turns, within, checked}
 use Rattle.dae_meaning.specs.Variables.{Env, put, entered}
@@ -11,7 +12,7 @@ use Rattle.dae_ir.specs.Classes.{Classes}
 use Rattle.dae_ir.specs.declared.form.Operand.{Operand}
 use Rattle.dae_ir.specs.declared.form.Value.{Value}
 use Rattle.dae_ir.specs.declared.form.Check.{Check}
-use Rattle.dae_ir.specs.declared.form.Check.TheVariants.{Place as Good, Zero, Room, Frame, Abort}
+use Rattle.dae_ir.specs.declared.form.Check.TheVariants.{Place as Good, InBounds, Zero, Room, Frame, Abort}
 use Rattle.dae_ir.specs.declared.form.Item.{Item}
 use Rattle.dae_ir.specs.declared.form.Item.TheVariants.{Assign, Load, Store, Print, Expect, Break, Continue, Call, Return, Halt}
 use Rattle.dae_ir.proofs.Laws.{same_room}
@@ -188,6 +189,7 @@ module _ (p q : Program) (frames : (g : ℕ) → q.frame g ≡ p.frame g) (limit
 
   same_fault : (check : Check) (k : List Equation) (e : Env) (w : World) → AreTrue k w.frame e → fault q (propagated_check c k check) w e ≡ fault p check w e
   same_fault (Good width x) k e w t = ap (λ (y : ℕ). misplaced width y (length w.memory)) (value_same c w.frame e k t x)
+  same_fault (InBounds x offset) k e w t = ap (λ (y : ℕ). misplaced B1 (plus y offset) (length w.memory)) (value_same c w.frame e k t x)
   same_fault (Zero x) k e w t = ap (λ (y : ℕ). if nat_eq y 0 then Some 1 else None) (value_same c w.frame e k t x)
   same_fault (Room g) k e w t = same_room p q frames limits g e w
   same_fault Frame k e w t = refl

@@ -13,7 +13,7 @@ use Rattle.dae_ir.specs.declared.form.Value.TheVariants as val
 use Rattle.dae_ir.specs.declared.form.Test.{Test}
 use Rattle.dae_meaning.specs.declared.Operator.TheVariants.{Add}
 use Rattle.dae_ir.specs.declared.form.Check.{Check}
-use Rattle.dae_ir.specs.declared.form.Check.TheVariants.{Place as Good, Zero, Room, Frame, Abort}
+use Rattle.dae_ir.specs.declared.form.Check.TheVariants.{Place as Good, InBounds, Zero, Room, Frame, Abort}
 use Rattle.dae_ir.specs.declared.form.Item.{Item}
 use Rattle.dae_ir.specs.declared.form.Item.TheVariants.{Assign, Load, Store, Print, Expect, Break, Continue, Call, Return, Halt}
 use Rattle.dae_ir.proofs.Laws.{meet as both}
@@ -84,6 +84,7 @@ module _ (c : Classes) where
 
     check_has : (check : Check) → has_check d check ≡ true → has_check d (propagated_check c q check) ≡ true
     check_has (Good width x) h = operand_has x h
+    check_has (InBounds x offset) h = operand_has x h
     check_has (Zero x) h = operand_has x h
     check_has (Room g) h = refl
     check_has Frame h = refl

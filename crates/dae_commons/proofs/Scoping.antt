@@ -13,7 +13,7 @@ use Rattle.dae_ir.specs.declared.form.Value.{Value}
 use Rattle.dae_ir.specs.declared.form.Value.TheVariants as val
 use Rattle.dae_ir.specs.declared.form.Test.{Test}
 use Rattle.dae_meaning.specs.declared.Operator.TheVariants.{Add}
-use Rattle.dae_ir.specs.declared.form.Check.TheVariants.{Place as Good, Zero, Room, Frame, Abort}
+use Rattle.dae_ir.specs.declared.form.Check.TheVariants.{Place as Good, InBounds, Zero, Room, Frame, Abort}
 use Rattle.dae_ir.specs.declared.form.Function.{Function}
 use Rattle.dae_ir.specs.declared.form.Item.{Item}
 use Rattle.dae_ir.specs.declared.form.Item.TheVariants.{Assign, Load, Store, Print, Expect, Break, Continue, Call, Return, Halt}
@@ -64,6 +64,7 @@ module _ (fs gs : List Function) (as_many : length gs ≡ length fs) (takes : (g
   item_in q all (Store width x y) i = (operand_in q all x i.0, operand_in q all y i.1)
   item_in q all (Print spelling x) i = operand_in q all x i
   item_in q all (Expect (Good width x)) i = operand_in q all x i
+  item_in q all (Expect (InBounds x offset)) i = (operand_in q all x i.0, i.1)
   item_in q all (Expect (Zero x)) i = operand_in q all x i
   item_in q all (Expect (Room g)) i = subst (λ (m : ℕ). g < m) (sym as_many) i
   item_in q all (Expect Frame) i = tt

@@ -10,7 +10,7 @@ use Rattle.dae_ir.specs.declared.form.Value.{Value}
 use Rattle.dae_ir.specs.declared.form.Value.TheVariants.{Same, Extended, Binary, Holds, FrameAddress}
 use Rattle.dae_ir.specs.declared.form.Test.{Test}
 use Rattle.dae_ir.specs.declared.form.Check.{Check}
-use Rattle.dae_ir.specs.declared.form.Check.TheVariants.{Place, Zero, Room, Frame, Abort}
+use Rattle.dae_ir.specs.declared.form.Check.TheVariants.{Place, InBounds, Zero, Room, Frame, Abort}
 use Rattle.dae_commons.specs.declared.equations.Equation.{Equation}
 
 -- just those processors need the one variable that need the other
@@ -60,6 +60,7 @@ propagated_value c q (FrameAddress offset) = FrameAddress offset
 
 abbrev pub propagated_check : Classes → List Equation → Check → Check
 propagated_check c q (Place width x) = Place width (propagated_operand c q x)
+propagated_check c q (InBounds x offset) = InBounds (propagated_operand c q x) offset
 propagated_check c q (Zero x) = Zero (propagated_operand c q x)
 propagated_check c q (Room f) = Room f
 propagated_check c q Frame = Frame

@@ -84,6 +84,7 @@ pub fn propagate_check(row: &[Class], known: &[Equation], check: Check) -> Check
 {
     match check {
         Check::Place(width, x) => Check::Place(width, propagate_operand(row, known, x)),
+        Check::InBounds(x, offset) => Check::InBounds(propagate_operand(row, known, x), offset),
         Check::Zero(x) => Check::Zero(propagate_operand(row, known, x)),
         Check::Room(function) => Check::Room(function),
         Check::Frame => Check::Frame,

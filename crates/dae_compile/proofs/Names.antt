@@ -14,7 +14,7 @@ use Rattle.dae_ir.specs.declared.form.Item.TheVariants.{Assign, Load, Store, Pri
 use Rattle.dae_ir.specs.declared.form.Operand.{Operand}
 use Rattle.dae_ir.specs.declared.form.Operand.TheVariants.{Number}
 use Rattle.dae_ir.specs.declared.form.Check.{Check}
-use Rattle.dae_ir.specs.declared.form.Check.TheVariants.{Place as Good, Zero, Room, Frame, Abort}
+use Rattle.dae_ir.specs.declared.form.Check.TheVariants.{Place as Good, InBounds, Zero, Room, Frame, Abort}
 use Rattle.dae_ir.specs.declared.stream.Argument.{Argument}
 use Rattle.dae_ir.specs.declared.stream.Part.{Part}
 use Rattle.dae_ir.specs.declared.stream.Part.TheVariants.{Sets, Loads, Tests}
@@ -31,6 +31,7 @@ module _ (n : ℕ) where
 
   abbrev pub ProbeIn : Check → Type 0
   ProbeIn (Good width x) = IsIn n x
+  ProbeIn (InBounds x offset) = IsIn n x
   ProbeIn (Zero x) = IsIn n x
   ProbeIn (Room f) = Unit {0}
   ProbeIn Frame = Unit {0}
@@ -131,6 +132,7 @@ module _ (n : ℕ) where
 
     probe_in : (check : Check) → ItemIn functions n (Expect check) → ProbeIn check
     probe_in (Good width x) h = h
+    probe_in (InBounds x offset) h = h.0
     probe_in (Zero x) h = h
     probe_in (Room f) h = tt
     probe_in Frame h = tt

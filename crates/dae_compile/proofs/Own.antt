@@ -19,7 +19,7 @@ use Rattle.dae_ir.specs.declared.form.Test.{Test}
 use Rattle.dae_ir.specs.declared.form.Value.{Value}
 use Rattle.dae_ir.specs.declared.form.Value.TheVariants.{Same, Extended, Binary, Holds, FrameAddress}
 use Rattle.dae_ir.specs.declared.form.Check.{Check}
-use Rattle.dae_ir.specs.declared.form.Check.TheVariants.{Place as Good, Zero, Room, Frame, Abort}
+use Rattle.dae_ir.specs.declared.form.Check.TheVariants.{Place as Good, InBounds, Zero, Room, Frame, Abort}
 use Rattle.dae_ir.specs.declared.stream.Argument.{Argument}
 use Rattle.dae_ir.specs.declared.stream.Stream.{Stream}
 use Rattle.dae_ir.specs.declared.stream.StreamFunction.{StreamFunction}
@@ -66,6 +66,7 @@ module _ (n : ℕ) where
 
   check_below : (x : Check) → ProbeIn n x → AreBelow n (in_check x)
   check_below (Good width x) h = operand_below x h
+  check_below (InBounds x offset) h = operand_below x h
   check_below (Zero x) h = operand_below x h
   check_below (Room f) h = none_below
   check_below Frame h = none_below

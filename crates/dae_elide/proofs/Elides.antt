@@ -8,7 +8,7 @@ use Rattle.dae_ir.specs.Code.{Done, Do, If, Loop}
 use Rattle.dae_ir.specs.Classes.{VariableSet}
 use Rattle.dae_ir.specs.Form.{Form}
 use Rattle.dae_ir.specs.declared.form.Operand.TheVariants.{Variable, Number}
-use Rattle.dae_ir.specs.declared.form.Check.TheVariants.{Place, Zero, Room, Frame, Abort}
+use Rattle.dae_ir.specs.declared.form.Check.TheVariants.{Place, InBounds, Zero, Room, Frame, Abort}
 use Rattle.dae_ir.specs.declared.form.Item.{Item}
 use Rattle.dae_ir.specs.declared.form.Item.TheVariants.{Assign, Load, Store, Print, Expect, Break, Continue, Call, Return, Halt}
 use Rattle.dae_ir.specs.declared.form.Test.{Test}
@@ -32,6 +32,7 @@ module _ (memory : ℕ) (chosen : VariableSet) where
     by true is = Drops place width v k k' (ltb-true 0 v (and_parts (chosen v) (nat_lt 0 v) (and_parts (chosen v && nat_lt 0 v) (is_good memory width (bounds_in facts v)) is).0).1) h
     by false is = Narrows place width (kept_width memory facts width v) v k k' h
   item_elides place (Expect (Place width (Number n))) facts k k' h = Keeps place (Expect (Place width (Number n))) k k' h
+  item_elides place (Expect (InBounds x offset)) facts k k' h = Keeps place (Expect (InBounds x offset)) k k' h
   item_elides place (Expect (Zero x)) facts k k' h = Keeps place (Expect (Zero x)) k k' h
   item_elides place (Expect (Room g)) facts k k' h = Keeps place (Expect (Room g)) k k' h
   item_elides place (Expect Frame) facts k k' h = Keeps place (Expect Frame) k k' h

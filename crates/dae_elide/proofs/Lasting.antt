@@ -12,7 +12,7 @@ use Rattle.dae_ir.specs.Scope.{TestIn, ItemIn, is_return, is_end, closes, never_
 use Rattle.dae_ir.specs.SetFirst.{form_flow, IsSetFirst, assured, with_set}
 use Rattle.dae_ir.specs.Sizes.{form_size, item_weight, tally}
 use Rattle.dae_ir.specs.declared.form.Operand.TheVariants.{Variable}
-use Rattle.dae_ir.specs.declared.form.Check.TheVariants.{Place, Zero, Room, Frame, Abort}
+use Rattle.dae_ir.specs.declared.form.Check.TheVariants.{Place, InBounds, Zero, Room, Frame, Abort}
 use Rattle.dae_ir.specs.declared.form.Function.{Function}
 use Rattle.dae_ir.specs.declared.form.Item.{Item}
 use Rattle.dae_ir.specs.declared.form.Item.TheVariants.{Assign, Load, Store, Print, Expect, Break, Continue, Call, Return, Halt}
@@ -30,6 +30,7 @@ module _ (fs gs : List Function) (keeps : KeepsArguments fs gs) (n : ℕ) where
   item_in (Store width x y) i = i
   item_in (Print spelling x) i = i
   item_in (Expect (Place width x)) i = i
+  item_in (Expect (InBounds x offset)) i = i
   item_in (Expect (Zero x)) i = i
   item_in (Expect (Room g)) i = subst (λ (n : ℕ). g < n) (sym keeps.count) i
   item_in (Expect Frame) i = tt

@@ -3,7 +3,7 @@ use Rattle.std.proofs.Common.{◌≡◌, ℕ, zero, suc, ◌+◌, ◌%◌, Bool,
 use Rattle.std.specs.Prelude.{nat_lt}
 use Rattle.std.proofs.lemmas.Bool.{and_parts, lt-ltb, ltb-true}
 use Rattle.std.proofs.lemmas.Bool.Decides.{nat_tests}
-use Rattle.dae_base.specs.Words.{size as bytes, width_of, loaded}
+use Rattle.dae_base.specs.Words.{plus, size as bytes, width_of, loaded}
 use Rattle.dae_base.specs.declared.Width.{Width}
 use Rattle.dae_base.specs.declared.Width.TheVariants.{B1, B2, B4}
 use Rattle.dae_base.proofs.Laws.{same_tests, stored_length}
@@ -17,7 +17,7 @@ use Rattle.dae_ir.specs.Form.{Form, Program, Calls, value, values, holds, comput
 use Rattle.dae_ir.specs.Laws.{Counting}
 use Rattle.dae_ir.specs.declared.form.Operand.{Operand}
 use Rattle.dae_ir.specs.declared.form.Operand.TheVariants.{Variable, Number}
-use Rattle.dae_ir.specs.declared.form.Check.TheVariants.{Place as Good, Zero, Room, Frame, Abort}
+use Rattle.dae_ir.specs.declared.form.Check.TheVariants.{Place as Good, InBounds, Zero, Room, Frame, Abort}
 use Rattle.dae_ir.specs.declared.form.Item.TheVariants.{Assign, Load, Store, Print, Expect, Break, Continue, Call, Return, Halt}
 use Rattle.dae_ir.specs.declared.stream.Action.TheVariants.{Set, Probe}
 use Rattle.dae_ir.specs.declared.stream.Branch.TheVariants.{Silent}
@@ -183,6 +183,8 @@ module _ (p q : Program) (frames : (g : ℕ) → q.frame g ≡ p.frame g) (limit
     by later false is = narrow_ends width v facts o (old k) (new (elided memory chosen known k)) e w h size later
   same_run (Do place (Expect (Good width (Number n))) k) facts o go e w h size =
       checked_ends (misplaced width n (length w.memory)) facts o (old k) (new (elided memory chosen facts k)) e w (λ none. h) size (same_run k facts o go)
+  same_run (Do place (Expect (InBounds x offset)) k) facts o go e w h size =
+      checked_ends (misplaced B1 (plus (value x e) offset) (length w.memory)) facts o (old k) (new (elided memory chosen facts k)) e w (λ none. h) size (same_run k facts o go)
   same_run (Do place (Expect (Zero x)) k) facts o go e w h size =
       checked_ends (if nat_eq (value x e) 0 then Some 1 else None) facts o (old k) (new (elided memory chosen facts k)) e w (λ none. h) size (same_run k facts o go)
   same_run (Do place (Expect (Room g)) k) facts o go e w h size =

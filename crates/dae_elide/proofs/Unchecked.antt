@@ -8,7 +8,7 @@ use Rattle.dae_base.proofs.Laws.{and_along}
 use Rattle.dae_ir.specs.Code.{Done, Do, If, Loop}
 use Rattle.dae_ir.specs.Classes.{VariableSet}
 use Rattle.dae_ir.specs.Form.{Form, before, form_of}
-use Rattle.dae_ir.specs.declared.form.Check.TheVariants.{Place, Zero, Room, Frame, Abort}
+use Rattle.dae_ir.specs.declared.form.Check.TheVariants.{Place, InBounds, Zero, Room, Frame, Abort}
 use Rattle.dae_ir.specs.declared.form.Function.{Function}
 use Rattle.dae_ir.specs.declared.form.Item.{Item}
 use Rattle.dae_ir.specs.declared.form.Item.TheVariants.{Assign, Load, Store, Print, Expect, Break, Continue, Call, Return, Halt}
@@ -41,6 +41,7 @@ none_in_loop m p q s k e =
 module _ (memory : ℕ) (chosen : VariableSet) where
   item_same : (facts : Facts) (item : Item) → not (checks_place item) ≡ true → elided_item memory chosen facts item ≡ item
   item_same facts (Expect (Place width x)) h = absurd cc
+  item_same facts (Expect (InBounds x offset)) h = refl
   item_same facts (Expect (Zero x)) h = refl
   item_same facts (Expect (Room g)) h = refl
   item_same facts (Expect Frame) h = refl

@@ -62,6 +62,7 @@ fn elide_check(memory: u32, classes: &[Class], known: &Known, check: Check) -> I
             }
         }
         Check::Place(_, Operand::Number(_)) => Item::Expect(check),
+        Check::InBounds(_, _) => Item::Expect(check),
         Check::Zero(_) => Item::Expect(check),
         Check::Room(_) => Item::Expect(check),
         Check::Frame => Item::Expect(check),

@@ -3,9 +3,9 @@
 //!
 //! Functions stand with # between them, main last. A function is its name, how many parameters and variables it has, and the bytes of its
 //! frame, and then its statements, with `;` between all of these: `v3 = v1 + 4`, `v3 = load 4 v1`, `v3 = cut s2 v1`, `v3 = frame 8`,
-//! `store 4 v1 7`, `good 4 v1`, `zero v1`, `room 0`, `deep`, `print d v1`, `call v2 0 v1 16`, `return v1`, `halt 0` and `break`; `loop`,
-//! its body, `step`, its step and `end`; and `if v1 < 4`, what is done then, `else`, what is done else, and `end`. Behind `line 3`
-//! statements stand on that line.
+//! `store 4 v1 7`, `good 4 v1`, `bounds v1 16`, `zero v1`, `room 0`, `deep`, `print d v1`, `call v2 0 v1 16`, `return v1`, `halt 0` and
+//! `break`; `loop`, its body, `step`, its step and `end`; and `if v1 < 4`, what is done then, `else`, what is done else, and `end`.
+//! Behind `line 3` statements stand on that line.
 
 use dae_base::{Items, LoadKind, Place, Text, Width};
 use dae_ir::{Check, Function, Ir, Item, Operand, Statement, Test, Value};
@@ -104,6 +104,7 @@ fn item_of(alloc: Global, text: &str) -> Result<Item, AllocError> {
     match word_in(text, 0) {
         "store" => Ok(Item::Store(width_of(word_in(text, 1)), x, y)),
         "good" => Ok(Item::Expect(Check::Place(width_of(word_in(text, 1)), x))),
+        "bounds" => Ok(Item::Expect(Check::InBounds(operand_in(text, 1), number_in(text, 2)))),
         "zero" => Ok(Item::Expect(Check::Zero(operand_in(text, 1)))),
         "room" => Ok(Item::Expect(Check::Room(number_in(text, 1)))),
         "deep" => Ok(Item::Expect(Check::Frame)),

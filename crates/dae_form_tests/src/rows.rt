@@ -2,7 +2,7 @@
 
 /// Small expressions and their code; forms with their loads reused, as an independent implementation has them; the variables that occur where
 /// they are renamed by webs, and where common subexpressions are eliminated; a statement where invariants of loops are held before
-/// them; and forms with conditions threaded.
+/// them; and forms with conditions threaded, and with checks of sums before the sums.
 pub const PASSES: &str = r#"lower|1;print c 10;halt 7|
 reuse|main 0 5 0;store 4 16 3;v4 = load 4 16;v0 = v4;v1 = v4;v2 = v0 * v1;store 4 20 v2;v3 = load 4 20;print d v3;print c 10;halt 0|main 0 4 0;store 4 16 3;v0 = load 4 16;v1 = load 4 16;v2 = v0 * v1;store 4 20 v2;v3 = load 4 20;print d v3;print c 10;halt 0
 reuse|main 0 10 0;v0 = 16;v1 = v0 + 4;good 4 v1;v8 = load 4 v1;v2 = v8;good 4 v2;v9 = load 4 v2;v3 = v9;v4 = v0 + 4;good 4 v4;v5 = v8;good 4 v5;v6 = v9;v7 = v3 + v6;halt v7|main 0 8 0;v0 = 16;v1 = v0 + 4;good 4 v1;v2 = load 4 v1;good 4 v2;v3 = load 4 v2;v4 = v0 + 4;good 4 v4;v5 = load 4 v4;good 4 v5;v6 = load 4 v5;v7 = v3 + v6;halt v7
@@ -44,7 +44,13 @@ threads|main 0 6 0;v1 = load 4 64;v2 = load 4 68;if v1 != 0;v3 = 1;else;if v2 !=
 threads|main 0 6 0;v1 = load 4 64;v2 = load 4 68;if v1 != 0;v3 = 1;else;if v2 != 0;v3 = 1;else;v3 = 0;end;end;if v3 != 0;v4 = load 4 72;else;end;halt 0|main 0 6 0;v1 = load 4 64;v2 = load 4 68;if v1 != 0;v3 = 1;else;if v2 != 0;v3 = 1;else;v3 = 0;end;end;if v3 != 0;v4 = load 4 72;else;end;halt 0
 threads|main 0 6 0;v1 = load 4 64;v2 = load 4 68;if v1 != 0;if v2 != 0;v3 = 1;else;v3 = 0;end;else;v3 = 0;end;if v1 != 0;print d 1;else;end;halt 0|main 0 6 0;v1 = load 4 64;v2 = load 4 68;if v1 != 0;if v2 != 0;v3 = 1;else;v3 = 0;end;else;v3 = 0;end;if v1 != 0;print d 1;else;end;halt 0
 threads|main 0 6 0;v1 = load 4 64;v2 = load 4 68;if v1 != 0;if v2 != 0;v3 = 1;else;v3 = 0;end;else;v3 = 0;end;if v3 < 1;print d 1;else;end;halt 0|main 0 6 0;v1 = load 4 64;v2 = load 4 68;if v1 != 0;if v2 != 0;v3 = 1;else;v3 = 0;end;else;v3 = 0;end;if v3 < 1;print d 1;else;end;halt 0
-threads|main 0 6 0;v1 = load 4 64;v2 = load 4 68;if v1 != 0;if v2 != 0;v3 = 1;else;v3 = 0;end;else;v3 = 0;end;store 4 64 7;if v3 != 0;print d 1;else;end;halt 0|main 0 6 0;v1 = load 4 64;v2 = load 4 68;if v1 != 0;if v2 != 0;v3 = 1;else;v3 = 0;end;else;v3 = 0;end;store 4 64 7;if v3 != 0;print d 1;else;end;halt 0"#;
+threads|main 0 6 0;v1 = load 4 64;v2 = load 4 68;if v1 != 0;if v2 != 0;v3 = 1;else;v3 = 0;end;else;v3 = 0;end;store 4 64 7;if v3 != 0;print d 1;else;end;halt 0|main 0 6 0;v1 = load 4 64;v2 = load 4 68;if v1 != 0;if v2 != 0;v3 = 1;else;v3 = 0;end;else;v3 = 0;end;store 4 64 7;if v3 != 0;print d 1;else;end;halt 0
+threads|main 0 5 0;v1 = load 4 64;bounds v1 16;v2 = v1 + 16;v3 = load 4 v2;store 4 64 v3;halt 0|main 0 5 0;v1 = load 4 64;v2 = v1 + 16;good 1 v2;v3 = load 4 v2;store 4 64 v3;halt 0
+threads|main 0 5 0;v1 = load 4 64;loop;bounds v1 2047;v2 = v1 + 2047;store 1 v2 7;step;v1 = v1 + 4;good 1 v1;end;halt 0|main 0 5 0;v1 = load 4 64;loop;v2 = v1 + 2047;good 1 v2;store 1 v2 7;step;v1 = v1 + 4;good 1 v1;end;halt 0
+threads|main 0 5 0;v1 = load 4 64;v2 = v1 + 2048;good 1 v2;v3 = load 4 v2;store 4 64 v3;halt 0|main 0 5 0;v1 = load 4 64;v2 = v1 + 2048;good 1 v2;v3 = load 4 v2;store 4 64 v3;halt 0
+threads|main 0 5 0;v1 = load 4 64;v2 = v1 + 16;good 1 v1;v3 = load 4 v2;store 4 64 v3;halt 0|main 0 5 0;v1 = load 4 64;v2 = v1 + 16;good 1 v1;v3 = load 4 v2;store 4 64 v3;halt 0
+threads|main 0 5 0;v1 = load 4 64;v2 = v1 + 16;good 4 v2;v3 = load 4 v2;store 4 64 v3;halt 0|main 0 5 0;v1 = load 4 64;v2 = v1 + 16;good 4 v2;v3 = load 4 v2;store 4 64 v3;halt 0
+threads|main 0 5 0;v1 = load 4 64;v2 = v1 - 16;good 1 v2;v3 = load 4 v2;store 4 64 v3;halt 0|main 0 5 0;v1 = load 4 64;v2 = v1 - 16;good 1 v2;v3 = load 4 v2;store 4 64 v3;halt 0"#;
 
 /// What reports count; and what two accesses have in common, asked both ways.
 pub const REPORTS: &str =
@@ -124,6 +130,14 @@ image|0 0 0 0 1 1 0 Some(Final(Ended(0))) 98`|f 1 6 0;if v1 != 0;v2 = v1 - 1;roo
 image|0 0 0 0 1 1 0 Some(Final(Trapped(4))) |f 1 6 0;if v1 != 0;v2 = v1 - 1;room 0;call v3 0 v2;v4 = 1 + v3;v5 = v4;else;v5 = 0;end;return v5#main 0 2 0;room 0;call v1 0 99;print d v1;print c 10;halt 0|
 image|1 0 0 0 1 0 0 Some(Final(Ended(0))) 0`|main 0 3 0;v1 = 4095;good 1 v1;v2 = load u1 v1;print d v2;print c 10;halt 0|
 image|1 0 0 0 1 0 0 Some(Final(Trapped(2))) |main 0 3 0;v1 = 4096;good 1 v1;v2 = load u1 v1;print d v2;print c 10;halt 0|
+image|1 0 0 0 1 0 0 Some(Final(Ended(0))) 0`|main 0 4 0;v1 = 4079;bounds v1 16;v2 = v1 + 16;v3 = load u1 v2;print d v3;print c 10;halt 0|
+image|1 0 0 0 1 0 0 Some(Final(Trapped(2))) |main 0 4 0;v1 = 4080;bounds v1 16;v2 = v1 + 16;v3 = load u1 v2;print d v3;print c 10;halt 0|
+image|1 0 0 0 1 0 0 Some(Final(Ended(0))) 0`|main 0 4 0;v1 = 4063;bounds v1 32;v2 = v1 + 32;v3 = load u1 v2;print d v3;print c 10;halt 0|
+image|1 0 0 0 1 0 0 Some(Final(Trapped(2))) |main 0 4 0;v1 = 4064;bounds v1 32;v2 = v1 + 32;v3 = load u1 v2;print d v3;print c 10;halt 0|
+image|1 0 0 0 1 0 0 Some(Final(Ended(0))) 0`|main 0 4 0;v1 = 16;bounds v1 0;v2 = v1 + 0;v3 = load u1 v2;print d v3;print c 10;halt 0|
+image|1 0 0 0 1 0 0 Some(Final(Trapped(2))) |main 0 4 0;v1 = 15;bounds v1 0;v2 = v1 + 0;v3 = load u1 v2;print d v3;print c 10;halt 0|
+image|1 0 0 0 1 0 0 Some(Final(Ended(0))) 0`|main 0 4 0;v1 = 4294967280;bounds v1 32;v2 = v1 + 32;v3 = load u1 v2;print d v3;print c 10;halt 0|
+image|1 0 0 0 1 0 0 Some(Final(Trapped(2))) |main 0 4 0;v1 = 4294967280;bounds v1 31;v2 = v1 + 31;v3 = load u1 v2;print d v3;print c 10;halt 0|
 image|1 0 0 0 1 0 0 Some(Final(Trapped(2))) |main 0 3 0;v1 = 4096;good 4 v1;v2 = load 4 v1;print d v2;print c 10;halt 0|
 image|1 0 0 0 1 0 0 Some(Final(Trapped(3))) |main 0 3 0;v1 = 4094;good 4 v1;v2 = load 4 v1;print d v2;print c 10;halt 0|
 registers|true|f 1 19 0;v18 = v1 + 1;v2 = v18;v18 = v1 + 2;v3 = v18;v18 = v1 + 3;v4 = v18;v18 = v1 + 4;v5 = v18;v18 = v1 + 5;v6 = v18;v18 = v1 + 6;v7 = v18;v18 = v1 + 7;v8 = v18;v18 = v1 + 8;v9 = v18;v18 = v1 + 9;v10 = v18;v18 = v1 + 10;v11 = v18;v18 = v1 + 11;v12 = v18;v18 = v1 + 12;v13 = v18;v18 = v1 + 13;v14 = v18;v18 = v1 + 14;v15 = v18;v18 = v1 + 15;v16 = v18;v18 = v1 + 16;v17 = v18;v18 = v2;v18 = v18 + v3;v18 = v18 + v4;v18 = v18 + v5;v18 = v18 + v6;v18 = v18 + v7;v18 = v18 + v8;v18 = v18 + v9;v18 = v18 + v10;v18 = v18 + v11;v18 = v18 + v12;v18 = v18 + v13;v18 = v18 + v14;v18 = v18 + v15;v18 = v18 + v16;v18 = v18 + v17;return v18#main 0 2 0;room 0;call v1 0 3;print d v1;print c 10;halt 0

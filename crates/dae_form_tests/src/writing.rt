@@ -53,6 +53,10 @@ fn check_text(alloc: Global, check: &Check) -> Result<String, AllocError> {
             let x = operand_text(alloc, *x)?;
             format!(in alloc; "good {bytes} {x}")
         }
+        Check::InBounds(x, offset) => {
+            let x = operand_text(alloc, *x)?;
+            format!(in alloc; "bounds {x} {offset}")
+        }
         Check::Room(function) => format!(in alloc; "room {function}"),
         _ => String::from_str(alloc, "?"),
     }

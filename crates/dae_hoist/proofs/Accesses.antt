@@ -7,7 +7,7 @@ use Rattle.dae_ir.specs.Form.{Form}
 use Rattle.dae_ir.specs.Classes.{has_value, ArgumentsKept, AddressesKept}
 use Rattle.dae_ir.specs.Scope.{TestIn, ItemIn, TakesArguments}
 use Rattle.dae_ir.specs.SetFirst.{AllRead}
-use Rattle.dae_ir.specs.declared.form.Check.TheVariants.{Place as Good, Zero, Room, Frame, Abort}
+use Rattle.dae_ir.specs.declared.form.Check.TheVariants.{Place as Good, InBounds, Zero, Room, Frame, Abort}
 use Rattle.dae_ir.specs.declared.form.Function.{Function}
 use Rattle.dae_ir.specs.declared.form.Item.{Item}
 use Rattle.dae_ir.specs.declared.form.Item.TheVariants.{Assign, Load, Store, Print, Expect, Break, Continue, Call, Return, Halt}
@@ -48,6 +48,7 @@ module _ (fs : List Function) (ts : ℕ → Hoisting)
     item_kept us (Store width x y) kept i h = has_same t x kept.0 ∙ h
     item_kept us (Print spelling x) kept i h = tt
     item_kept us (Expect (Good width x)) kept i h = has_same t x kept ∙ h
+    item_kept us (Expect (InBounds x offset)) kept i h = has_same t x kept ∙ h
     item_kept us (Expect (Zero x)) kept i h = tt
     item_kept us (Expect (Room g)) kept i h = tt
     item_kept us (Expect Frame) kept i h = tt

@@ -1,7 +1,8 @@
 -- Code in which variables hold values for loops does what the code does, in the same world, with the same in all other variables.
 use Rattle.std.proofs.Common.{◌≡◌, ℕ, zero, suc, Bool, true, false, nat_eq, if◌then◌else◌, List, [], length, Option, Some, None, refl, ap, sym, ◌∙◌, subst}
 use Rattle.std.proofs.lemmas.Bool.{eqb-true}
-use Rattle.dae_base.specs.Words.{width_of, loaded}
+use Rattle.dae_base.specs.Words.{plus, width_of, loaded}
+use Rattle.dae_base.specs.declared.Width.TheVariants.{B1}
 use Rattle.dae_meaning.specs.Alike.{Alike, BothAt, BothOver, FirstStrays, Alikes, Same}
 use Rattle.dae_meaning.specs.Worlds.{World, ticked, fetched, back}
 use Rattle.dae_meaning.specs.Results.{Result, At, Over, Next, Leaves, Skips, Returns, Halted, Trapped, Astray, turns, within, checked}
@@ -13,7 +14,7 @@ use Rattle.dae_ir.specs.Form.{Form, Program, Calls, value, values, holds, comput
 use Rattle.dae_ir.specs.Classes.{has_value, has_check}
 use Rattle.dae_ir.specs.declared.form.Value.{Value}
 use Rattle.dae_ir.specs.declared.form.Check.{Check}
-use Rattle.dae_ir.specs.declared.form.Check.TheVariants.{Place as Good, Zero, Room, Frame, Abort}
+use Rattle.dae_ir.specs.declared.form.Check.TheVariants.{Place as Good, InBounds, Zero, Room, Frame, Abort}
 use Rattle.dae_ir.specs.declared.form.Item.{Item}
 use Rattle.dae_ir.specs.declared.form.Item.TheVariants.{Assign, Load, Store, Print, Expect, Break, Continue, Call, Return, Halt}
 use Rattle.dae_ir.proofs.Laws.{same_room}
@@ -58,6 +59,7 @@ module _ (p q : Program) (frames : (k : ℕ) → q.frame k ≡ p.frame k) (limit
   module _ (e f : Env) (g : Agrees t e f) (w : World) where
     same_fault : (check : Check) → has_check (is_kept t) check ≡ true → fault p check w e ≡ fault q check w f
     same_fault (Good width x) h = ap (λ (y : ℕ). misplaced width y (length w.memory)) (value_same t e f g x h)
+    same_fault (InBounds x offset) h = ap (λ (y : ℕ). misplaced B1 (plus y offset) (length w.memory)) (value_same t e f g x h)
     same_fault (Zero x) h = ap (λ (y : ℕ). if nat_eq y 0 then Some 1 else None) (value_same t e f g x h)
     same_fault (Room k) h = sym (same_room p q frames limits k f w)
     same_fault Frame h = refl

@@ -4,7 +4,7 @@ use Rattle.dae_ir.specs.Code.{Done, Do, If, Loop, Each}
 use Rattle.dae_ir.specs.Form.{Form}
 use Rattle.dae_ir.specs.Rounds.{is_jump, stays}
 use Rattle.dae_ir.specs.Scope.{TestIn, ValueIn, ItemIn, is_return, is_end, closes, never_returns}
-use Rattle.dae_ir.specs.declared.form.Check.TheVariants.{Place as Good, Zero, Room, Frame, Abort}
+use Rattle.dae_ir.specs.declared.form.Check.TheVariants.{Place as Good, InBounds, Zero, Room, Frame, Abort}
 use Rattle.dae_ir.specs.declared.form.Function.{Function}
 use Rattle.dae_ir.specs.declared.form.Item.{Item}
 use Rattle.dae_ir.specs.declared.form.Item.TheVariants.{Assign, Load, Store, Print, Expect, Break, Continue, Call, Return, Halt}
@@ -27,6 +27,7 @@ module _ (fs gs : List Function) (keeps : KeepsArguments fs gs) (t : Hoisting) w
   item_in us (Store width x y) h i = i
   item_in us (Print spelling x) h i = i
   item_in us (Expect (Good width x)) h i = i
+  item_in us (Expect (InBounds x offset)) h i = i
   item_in us (Expect (Zero x)) h i = i
   item_in us (Expect (Room g)) h i = subst (λ (m : ℕ). g < m) (sym keeps.count) i
   item_in us (Expect Frame) h i = tt

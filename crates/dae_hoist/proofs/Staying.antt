@@ -12,7 +12,7 @@ use Rattle.dae_ir.specs.declared.form.Operand.TheVariants.{Variable, Number}
 use Rattle.dae_ir.specs.declared.form.Value.{Value}
 use Rattle.dae_ir.specs.declared.form.Value.TheVariants as val
 use Rattle.dae_ir.specs.declared.form.Check.{Check}
-use Rattle.dae_ir.specs.declared.form.Check.TheVariants.{Place as Good, Zero, Room, Frame, Abort}
+use Rattle.dae_ir.specs.declared.form.Check.TheVariants.{Place as Good, InBounds, Zero, Room, Frame, Abort}
 use Rattle.dae_ir.specs.declared.form.Function.{Function}
 use Rattle.dae_ir.specs.declared.form.Item.{Item}
 use Rattle.dae_ir.specs.declared.form.Item.TheVariants.{Assign, Load, Store, Print, Expect, Break, Continue, Call, Return, Halt}
@@ -68,6 +68,7 @@ module _ (c : VariableSet) (f : Function) where
 
   check_kept : (x : Check) → has_check (is_kept t) x ≡ true
   check_kept (Good width x) = operand_kept x
+  check_kept (InBounds x offset) = operand_kept x
   check_kept (Zero x) = operand_kept x
   check_kept (Room g) = refl
   check_kept Frame = refl

@@ -75,6 +75,7 @@ fn take_value(taken: &mut Taken, value: Value) {
 fn take_check(taken: &mut Taken, check: Check) {
     match check {
         Check::Place(_, x) => take_operand(taken, x),
+        Check::InBounds(x, _) => take_operand(taken, x),
         Check::Zero(x) => take_operand(taken, x),
         Check::Room(_) | Check::Frame | Check::Abort => {}
     }

@@ -63,6 +63,7 @@ pub fn keep_check(plan: &HoistPlan, check: Check) -> Result<(), NotHoisted>
 {
     match check {
         Check::Place(_, x) => keep_operand(plan, x),
+        Check::InBounds(x, _) => keep_operand(plan, x),
         Check::Zero(x) => keep_operand(plan, x),
         Check::Room(_) | Check::Frame | Check::Abort => Ok(()),
     }

@@ -11,7 +11,7 @@ use Rattle.dae_ir.specs.Code.{Code, Done, Do, If, Loop, Meaning, exec}
 use Rattle.dae_ir.specs.Form.{Program, Calls, value, values, fault, called, ended, does, meaning, with_stored, with_printed, deeper, calls_of}
 use Rattle.dae_ir.specs.Laws.{Counting, FewerLoads, IsWithinLoads}
 use Rattle.dae_ir.specs.declared.form.Check.{Check}
-use Rattle.dae_ir.specs.declared.form.Check.TheVariants.{Place, Zero, Room, Frame, Abort}
+use Rattle.dae_ir.specs.declared.form.Check.TheVariants.{Place, InBounds, Zero, Room, Frame, Abort}
 use Rattle.dae_ir.specs.declared.form.Item.{Item}
 use Rattle.dae_ir.specs.declared.form.Item.TheVariants.{Assign, Load, Store, Print, Expect, Break, Continue, Call, Return, Halt}
 
@@ -71,6 +71,7 @@ module _ (R : ℕ → ℕ → Type 0) where
     -- no check looks at the number
     same_fault : (check : Check) (e : Env) (w : World) (a : ℕ) → fault p check (with_loads a w) e ≡ fault p check w e
     same_fault (Place width x) e w a = refl
+    same_fault (InBounds x offset) e w a = refl
     same_fault (Zero x) e w a = refl
     same_fault (Room f) e w a = refl
     same_fault Frame e w a = refl

@@ -12,7 +12,7 @@ use Rattle.dae_ir.specs.declared.form.Value.{Value}
 use Rattle.dae_ir.specs.declared.form.Value.TheVariants as val
 use Rattle.dae_ir.specs.declared.form.Test.{Test}
 use Rattle.dae_ir.specs.declared.form.Check.{Check}
-use Rattle.dae_ir.specs.declared.form.Check.TheVariants.{Place as Good, Zero, Room, Frame, Abort}
+use Rattle.dae_ir.specs.declared.form.Check.TheVariants.{Place as Good, InBounds, Zero, Room, Frame, Abort}
 use Rattle.dae_ir.specs.declared.form.Item.{Item}
 use Rattle.dae_ir.specs.declared.form.Item.TheVariants.{Assign, Load, Store, Print, Expect, Break, Continue, Call, Return, Halt}
 
@@ -49,6 +49,7 @@ module _ (d e : VariableSet) (more : IsWithin d e) where
 
   pub check_more : (check : Check) → has_check d check ≡ true → has_check e check ≡ true
   check_more (Good width x) h = has_more x h
+  check_more (InBounds x offset) h = has_more x h
   check_more (Zero x) h = has_more x h
   check_more (Room g) h = refl
   check_more Frame h = refl

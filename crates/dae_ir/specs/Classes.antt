@@ -12,7 +12,7 @@ use Rattle.dae_ir.specs.declared.form.Value.{Value}
 use Rattle.dae_ir.specs.declared.form.Value.TheVariants.{Same, Extended, Binary, Holds, FrameAddress}
 use Rattle.dae_ir.specs.declared.form.Test.{Test}
 use Rattle.dae_ir.specs.declared.form.Check.{Check}
-use Rattle.dae_ir.specs.declared.form.Check.TheVariants.{Place, Zero, Room, Frame, Abort}
+use Rattle.dae_ir.specs.declared.form.Check.TheVariants.{Place, InBounds, Zero, Room, Frame, Abort}
 use Rattle.dae_ir.specs.declared.form.Item.{Item}
 use Rattle.dae_ir.specs.declared.form.Item.TheVariants.{Assign, Load, Store, Print, Expect, Break, Continue, Call, Return, Halt}
 use Rattle.dae_ir.specs.declared.stream.Class.{Class}
@@ -40,6 +40,7 @@ has_value c (FrameAddress offset) = true
 
 abbrev pub has_check : VariableSet → Check → Bool
 has_check c (Place width x) = has c x
+has_check c (InBounds x offset) = has c x
 has_check c (Zero x) = has c x
 has_check c (Room f) = true
 has_check c Frame = true
@@ -66,6 +67,7 @@ AddressesKept of s (Load v kind x) = has s x ≡ true
 AddressesKept of s (Store width x y) = has s x ≡ true
 AddressesKept of s (Print spelling x) = Unit {0}
 AddressesKept of s (Expect (Place width x)) = has s x ≡ true
+AddressesKept of s (Expect (InBounds x offset)) = has s x ≡ true
 AddressesKept of s (Expect (Zero x)) = Unit {0}
 AddressesKept of s (Expect (Room f)) = Unit {0}
 AddressesKept of s (Expect Frame) = Unit {0}
@@ -83,6 +85,7 @@ NeedsKept of s needs (Load v kind x) = Unit {0}
 NeedsKept of s needs (Store width x y) = has needs y ≡ true
 NeedsKept of s needs (Print spelling x) = has needs x ≡ true
 NeedsKept of s needs (Expect (Place width x)) = Unit {0}
+NeedsKept of s needs (Expect (InBounds x offset)) = Unit {0}
 NeedsKept of s needs (Expect (Zero x)) = has s x ≡ false → has needs x ≡ true
 NeedsKept of s needs (Expect (Room f)) = Unit {0}
 NeedsKept of s needs (Expect Frame) = Unit {0}

@@ -3,6 +3,7 @@ use Rattle.std.specs.Prelude.{ℕ, zero, suc, ◌+◌, Bool, true, ◌||◌, nat
 use Rattle.dae_base.specs.Words.{plus, extended, loaded, stored, width_of}
 use Rattle.dae_base.specs.declared.Place.{Place}
 use Rattle.dae_base.specs.declared.Width.{Width}
+use Rattle.dae_base.specs.declared.Width.TheVariants.{B1}
 use Rattle.dae_meaning.specs.Worlds.{World, ticked, fetched, back}
 use Rattle.dae_meaning.specs.Variables.{Env, put, entered}
 use Rattle.dae_meaning.specs.Results.{Result, At, Over, Next, Leaves, Skips, Returns, Halted, Astray, Run, within, checked}
@@ -15,7 +16,7 @@ use Rattle.dae_ir.specs.declared.form.Value.TheVariants.{Same, Extended, Binary,
 use Rattle.dae_meaning.specs.declared.Spelling.{Spelling}
 use Rattle.dae_ir.specs.declared.form.Test.{Test}
 use Rattle.dae_ir.specs.declared.form.Check.{Check}
-use Rattle.dae_ir.specs.declared.form.Check.TheVariants.{Place as Good, Zero, Room, Frame, Abort}
+use Rattle.dae_ir.specs.declared.form.Check.TheVariants.{Place as Good, InBounds, Zero, Room, Frame, Abort}
 use Rattle.dae_ir.specs.declared.form.Item.{Item}
 use Rattle.dae_ir.specs.declared.form.Item.TheVariants.{Assign, Load, Store, Print, Expect, Break, Continue, Call, Return, Halt}
 use Rattle.dae_ir.specs.declared.form.Statement.{Statement, Simple, If', Loop', Row_of-Statement, end_of-Statement, more_of-Statement}
@@ -70,6 +71,7 @@ computed (FrameAddress offset) frame env = plus frame offset
 -- the code of the trap, if the check fails
 abbrev pub fault : Program → Check → World → Env → Option ℕ
 fault p (Good width x) w env = misplaced width (value x env) (length w.memory)
+fault p (InBounds x offset) w env = misplaced B1 (plus (value x env) offset) (length w.memory)
 fault p (Zero x) w env = if nat_eq (value x env) 0 then Some 1 else None
 fault p (Room f) w env = passed (nat_lt p.limit (w.depth + 1) || nat_lt (length w.memory) (w.top + p.frame f))
 fault p Frame w env = passed (nat_lt (length w.memory) w.top)

@@ -11,7 +11,7 @@ use Rattle.dae_ir.specs.declared.form.Value.{Value}
 use Rattle.dae_ir.specs.declared.form.Value.TheVariants.{Same, Extended, Binary, Holds, FrameAddress}
 use Rattle.dae_ir.specs.declared.form.Test.{Test}
 use Rattle.dae_ir.specs.declared.form.Check.{Check}
-use Rattle.dae_ir.specs.declared.form.Check.TheVariants.{Place, Zero, Room, Frame, Abort}
+use Rattle.dae_ir.specs.declared.form.Check.TheVariants.{Place, InBounds, Zero, Room, Frame, Abort}
 use Rattle.dae_ir.specs.declared.form.Item.{Item}
 use Rattle.dae_ir.specs.declared.form.Item.TheVariants.{Assign, Load, Store, Print, Expect, Break, Continue, Call, Return, Halt}
 use Rattle.dae_ir.specs.declared.form.Function.{Function}
@@ -38,6 +38,7 @@ ValueIn n (FrameAddress offset) = offset < 2 ^ 32
 
 abbrev pub CheckIn : ℕ → ℕ → Check → Type 0
 CheckIn functions n (Place width x) = IsIn n x
+CheckIn functions n (InBounds x offset) = IsIn n x × (offset < 2048)
 CheckIn functions n (Zero x) = IsIn n x
 CheckIn functions n (Room f) = f < functions
 CheckIn functions n Frame = Unit {0}

@@ -12,7 +12,7 @@ use Rattle.dae_ir.specs.Rounds.{Jump, Breaks, Continues, Enters, Gives, Halts, G
 use Rattle.dae_ir.specs.declared.form.Operand.{Operand}
 use Rattle.dae_ir.specs.declared.form.Operand.TheVariants.{Number}
 use Rattle.dae_ir.specs.declared.form.Check.{Check}
-use Rattle.dae_ir.specs.declared.form.Check.TheVariants.{Place as Good, Room, Frame}
+use Rattle.dae_ir.specs.declared.form.Check.TheVariants.{Place as Good, InBounds, Room, Frame}
 use Rattle.dae_ir.specs.declared.stream.Failure.{Failure}
 use Rattle.dae_ir.specs.declared.stream.Failure.TheVariants.{OutOfBounds, OutOfRoom}
 use Rattle.dae_ir.specs.declared.stream.Part.{Part}
@@ -63,6 +63,7 @@ parts f (p ∷ g) k = f p (parts f g k)
 -- the check can fail in this way alone: one byte is never misaligned
 abbrev pub only_fails_by : Failure → Check → Bool
 only_fails_by OutOfBounds (Good B1 x) = true
+only_fails_by OutOfBounds (InBounds x offset) = true
 only_fails_by OutOfRoom (Room f) = true
 only_fails_by OutOfRoom Frame = true
 only_fails_by failure check = false

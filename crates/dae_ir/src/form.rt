@@ -30,11 +30,13 @@ pub enum Value {
 }
 
 /// What must hold where it stands, or the program traps: an address is good for an access of this width (3 where it is
-/// misaligned, else 2 where it is outside the memory); a number isn't 0 (1); a call of this function stands within the
-/// call limit and its frame within the memory (4); the running function's own frame does (4); never (5).
+/// misaligned, else 2 where it is outside the memory); the byte so many bytes behind an address is in the memory (2); a
+/// number isn't 0 (1); a call of this function stands within the call limit and its frame within the memory (4); the
+/// running function's own frame does (4); never (5).
 #[derive(Clone, Copy)]
 pub enum Check {
     Place(Width, Operand),
+    InBounds(Operand, u32),
     Zero(Operand),
     Room(u32),
     Frame,

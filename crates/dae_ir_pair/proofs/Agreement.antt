@@ -13,7 +13,7 @@ use Rattle.dae_ir.specs.declared.form.Value.{Value}
 use Rattle.dae_ir.specs.declared.form.Value.TheVariants.{Same, Extended, Binary, Holds, FrameAddress}
 use Rattle.dae_ir.specs.declared.form.Test.{Test}
 use Rattle.dae_ir.specs.declared.form.Check.{Check}
-use Rattle.dae_ir.specs.declared.form.Check.TheVariants.{Place, Zero, Room, Frame, Abort}
+use Rattle.dae_ir.specs.declared.form.Check.TheVariants.{Place, InBounds, Zero, Room, Frame, Abort}
 
 module _ (c : VariableSet) (env other : Env) (agree : AgreeOn c env other) where
   pub value_agrees : (x : Operand) → has c x ≡ true → value x other ≡ value x env
@@ -34,6 +34,7 @@ module _ (c : VariableSet) (env other : Env) (agree : AgreeOn c env other) where
 
   pub fault_agrees : (p : Program) (check : Check) (w : World) → has_check c check ≡ true → fault p check w other ≡ fault p check w env
   fault_agrees p (Place width x) w h = rw (value_agrees x h)
+  fault_agrees p (InBounds x offset) w h = rw (value_agrees x h)
   fault_agrees p (Zero x) w h = rw (value_agrees x h)
   fault_agrees p (Room f) w h = refl
   fault_agrees p Frame w h = refl

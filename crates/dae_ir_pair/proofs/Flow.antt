@@ -12,7 +12,7 @@ use Rattle.dae_ir.specs.declared.form.Value.{Value}
 use Rattle.dae_ir.specs.declared.form.Value.TheVariants.{Same, Extended, Binary, Holds, FrameAddress}
 use Rattle.dae_ir.specs.declared.form.Test.{Test}
 use Rattle.dae_ir.specs.declared.form.Check.{Check}
-use Rattle.dae_ir.specs.declared.form.Check.TheVariants.{Place as Good, Zero, Room, Frame, Abort}
+use Rattle.dae_ir.specs.declared.form.Check.TheVariants.{Place as Good, InBounds, Zero, Room, Frame, Abort}
 use Rattle.dae_ir.specs.declared.stream.Part.{Part}
 use Rattle.dae_ir.specs.declared.stream.Part.TheVariants.{Sets, Loads, Tests}
 use Rattle.dae_ir.specs.declared.stream.Last.{Last}
@@ -47,6 +47,7 @@ module _ (s d d' : VariableSet) (keeps : Keeps s d d') where
 
   pub check_both : (x : Check) → has_check d x ≡ true → has_check s x ≡ true → has_check d' x ≡ true
   check_both (Good width x) h k = has_both x h k
+  check_both (InBounds x offset) h k = has_both x h k
   check_both (Zero x) h k = has_both x h k
   check_both (Room f) h k = refl
   check_both Frame h k = refl

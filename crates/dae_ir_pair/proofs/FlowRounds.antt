@@ -16,7 +16,7 @@ use Rattle.dae_ir.specs.declared.form.Operand.{Operand}
 use Rattle.dae_ir.specs.declared.form.Operand.TheVariants.{Number}
 use Rattle.dae_ir.specs.declared.form.Test.{Test}
 use Rattle.dae_ir.specs.declared.form.Check.{Check}
-use Rattle.dae_ir.specs.declared.form.Check.TheVariants.{Place as Good, Zero, Room, Frame, Abort}
+use Rattle.dae_ir.specs.declared.form.Check.TheVariants.{Place as Good, InBounds, Zero, Room, Frame, Abort}
 use Rattle.dae_ir.specs.declared.form.Item.{Item}
 use Rattle.dae_ir.specs.declared.form.Item.TheVariants.{Assign, Load, Store, Print, Expect, Break, Continue, Call, Return, Halt}
 use Rattle.dae_ir.specs.declared.stream.Part.{Part}
@@ -152,6 +152,7 @@ module _ (by_a : Bool) (of : ℕ → Classes) (c : Classes) (cap : ℕ) (walk : 
     item_flow place (Expect check) ik ir behind n = by (has_check c.s check) refl where
       needed : (check : Check) → ItemKept of c (Expect check) → has_check c.s check ≡ false → has_check c.needs check ≡ true
       needed (Good width x) kept e = let h : has c.s x ≡ true = kept.0 in cc
+      needed (InBounds x offset) kept e = let h : has c.s x ≡ true = kept.0 in cc
       needed (Zero x) kept e = kept.1 e
       needed (Room f) kept e = refl
       needed Frame kept e = refl

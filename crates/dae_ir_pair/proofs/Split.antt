@@ -24,7 +24,7 @@ use Rattle.dae_ir.specs.declared.stream.Last.{Last}
 use Rattle.dae_ir.specs.declared.stream.Last.TheVariants.{Nothing, Stores, Prints, Decides}
 use Rattle.dae_ir.specs.declared.form.Test.{Test}
 use Rattle.dae_ir.specs.declared.form.Check.{Check}
-use Rattle.dae_ir.specs.declared.form.Check.TheVariants.{Place as Good, Zero, Room, Frame, Abort}
+use Rattle.dae_ir.specs.declared.form.Check.TheVariants.{Place as Good, InBounds, Zero, Room, Frame, Abort}
 use Rattle.dae_ir.specs.declared.form.Item.{Item}
 use Rattle.dae_ir.specs.declared.form.Item.TheVariants.{Assign, Load, Store, Print, Expect, Break, Continue, Call, Return, Halt}
 
@@ -86,6 +86,7 @@ module _ (p : Program) (of : ℕ → Classes) (c : Classes) (cap n : ℕ) (calls
   item_alike place (Expect check) kept g h k r b = by (has_check c.s check) refl where
     needed : (check : Check) → ItemKept of c (Expect check) → has_check c.s check ≡ false → has_check c.needs check ≡ true
     needed (Good width x) kept e = let t : has c.s x ≡ true = kept.0 in cc
+    needed (InBounds x offset) kept e = let t : has c.s x ≡ true = kept.0 in cc
     needed (Zero x) kept e = kept.1 e
     needed (Room f) kept e = refl
     needed Frame kept e = refl

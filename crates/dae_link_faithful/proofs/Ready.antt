@@ -14,7 +14,7 @@ use Rattle.dae_ir.specs.declared.form.Function.{Function}
 use Rattle.dae_ir.specs.declared.form.Operand.{Operand}
 use Rattle.dae_ir.specs.declared.form.Item.{Item}
 use Rattle.dae_ir.specs.declared.form.Item.TheVariants.{Assign, Load, Store, Print, Expect, Break as Leave, Continue as Skip, Call as Enter, Return as Give, Halt}
-use Rattle.dae_ir.specs.declared.form.Check.TheVariants.{Place, Zero, Room, Frame, Abort}
+use Rattle.dae_ir.specs.declared.form.Check.TheVariants.{Place, InBounds, Zero, Room, Frame, Abort}
 use Rattle.dae_ir.specs.declared.stream.Class.{Class}
 use Rattle.dae_select_walks.specs.Live.{live, nowhere}
 use Rattle.dae_select_walks.specs.Agrees.{Plan}
@@ -57,6 +57,7 @@ module _ (ir : Ir) (tables : List (List Class)) (cap : ℕ) (closed : AreClosed 
   item_wanted f n (Store width x y) k h = h.1
   item_wanted f n (Print spelling x) k h = h.1
   item_wanted f n (Expect (Place width x)) k h = (λ e. (refl, h.1), λ e. absurd (let z : true ≡ false = sym k ∙ e in cc))
+  item_wanted f n (Expect (InBounds x offset)) k h = (λ e. (refl, h.1.0, h.1.1), λ e. absurd (let z : true ≡ false = sym k ∙ e in cc))
   item_wanted f n (Expect (Zero x)) k h = (λ e. h.1, λ e. h.1)
   item_wanted f n (Expect (Room g)) k h = (λ e. refl, λ e. absurd cc)
   item_wanted f n (Expect Frame) k h = (λ e. refl, λ e. absurd cc)

@@ -24,7 +24,7 @@ use Rattle.dae_ir.specs.declared.form.Operand.{Operand}
 use Rattle.dae_ir.specs.declared.form.Operand.TheVariants.{Variable, Number}
 use Rattle.dae_ir.specs.declared.form.Test.{Test}
 use Rattle.dae_ir.specs.declared.form.Check.{Check}
-use Rattle.dae_ir.specs.declared.form.Check.TheVariants.{Place, Zero, Room, Frame, Abort}
+use Rattle.dae_ir.specs.declared.form.Check.TheVariants.{Place, InBounds, Zero, Room, Frame, Abort}
 use Rattle.dae_ir.specs.declared.form.Value.{Value}
 use Rattle.dae_ir.specs.declared.form.Value.TheVariants.{Same, Extended, Binary, Holds, FrameAddress}
 use Rattle.dae_ir.specs.declared.stream.Mark.{Mark}
@@ -46,7 +46,7 @@ use Rattle.dae_select_walks.specs.Live.{Ways, none, in_operand, live, behind, bo
 use Rattle.dae_select_walks.specs.Facts.{Facts, unknown, only_leaves, operand_bounds, is_aligned, is_good, tells_within, facts_behind, facts_in_first, facts_in_second, facts_past_if, facts_at_turn, facts_at_step, facts_past_loop, need_of}
 use Rattle.dae_select_walks.specs.declared.Need.TheVariants.{All, Ends, Nothing}
 use Rattle.dae_select_walks.specs.Agrees.{Plan, counted_depth}
-use Rattle.dae_select_blocks.specs.Blocks.{number_code, register_or, source, operation_code, immediate_code, exchanged_code, behind_or, combine_registers, binary_code, value_code, fetch, move_code, keep, test_code, call_number, issue_code, address_code, take_code, fail_code, over, align_code, bounds_code, room_code, check_code, hear_code, jump_over, jump_back, jump_words, branch_inst, opposite, one_way, goes_by, goes_code, frames_room_code, lower, is_immediate, tell_number_code, against_zero, immediate_of, extend_code, compare_code, compare_number_code, compare_registers, compare_operands, back_offset, goes_back, as_immediate}
+use Rattle.dae_select_blocks.specs.Blocks.{number_code, register_or, source, operation_code, immediate_code, exchanged_code, behind_or, combine_registers, binary_code, value_code, fetch, move_code, keep, test_code, call_number, issue_code, address_code, take_code, fail_code, over, align_code, bounds_code, offset_bounds_code, room_code, check_code, hear_code, jump_over, jump_back, jump_words, branch_inst, opposite, one_way, goes_by, goes_code, frames_room_code, lower, is_immediate, tell_number_code, against_zero, immediate_of, extend_code, compare_code, compare_number_code, compare_registers, compare_operands, back_offset, goes_back, as_immediate}
 use Rattle.dae_select_walks.specs.Compiled.{is_told}
 use Rattle.dae_select_blocks.specs.Code.{leaves_first, is_near, has_bottom, told_by, branch_by, ahead_by, before_branch, back_branch, either_one, reads_once, with_home, early_code, is_offset_sum, late_code, standing_behind, placed_code, is_dead, needed_code, block_code, action_code, branch_code, code_of, entry_code, function_code, finish_code, start_code, does_nothing, past_code, written_last}
 use Rattle.dae_link_faithful.specs.Uses.{queue_in, action_queue, branch_queue, IsOfSide, AreOfSide, IsUntouched, LeavesAlone}
@@ -226,6 +226,13 @@ module _ (plan : Plan) (variables : ℕ → ℕ) (good : (f v : ℕ) → IsHome 
         let r : ℕ = source (plan.home f) 5 x in
         behind_plain by_a' (Some (told_on by_a')) (fetch (plan.home f) 5 x) (align_code width r ++ bounds_code width r) (fetches x)
         (behind_only by_a' (Some (told_on by_a')) (align_code width r) (bounds_code width r) (align_only by_a' width r (low x)) (bounds_uses width x))
+    check_uses (InBounds x offset) =
+        let r : ℕ = source (plan.home f) 5 x in
+        let compares : (y : ℕ) → y < 28 → Uses by_a' (Some (told_on by_a')) (Bltu y 4 (pos 12) ∷ fail_code true 2)
+        = λ y l. next_uses by_a' (Some (told_on by_a')) (Bltu y 4 (pos 12)) (fail_code true 2) (omega arith, l, omega arith) (fail_uses by_a' true 2) in
+        behind_plain by_a' (Some (told_on by_a')) (fetch (plan.home f) 5 x) (offset_bounds_code r offset) (fetches x)
+        (either_uses by_a' (Some (told_on by_a')) (nat_eq offset 16) (Bltu r 4 (pos 12) ∷ fail_code true 2) (Addi 6 r (lower (minus offset 16)) ∷ (Bltu 6 4 (pos 12) ∷ fail_code true 2)) (compares r (low x))
+        (next_uses by_a' (Some (told_on by_a')) (Addi 6 r (lower (minus offset 16))) (Bltu 6 4 (pos 12) ∷ fail_code true 2) (omega arith, low x, omega arith) (compares 6 (omega arith))))
     check_uses (Zero x) =
         behind_plain by_a' (Some (told_on by_a')) (fetch (plan.home f) 5 x) (Bne (source (plan.home f) 5 x) 0 (over by_a') ∷ fail_code by_a' 1) (fetches x)
         (next_uses by_a' (Some (told_on by_a')) (Bne (source (plan.home f) 5 x) 0 (over by_a')) (fail_code by_a' 1) (omega arith, low x, omega arith) (fail_uses by_a' by_a' 1))

@@ -16,7 +16,7 @@ use Rattle.dae_ir.specs.declared.form.Value.{Value}
 use Rattle.dae_ir.specs.declared.form.Value.TheVariants.{Same, Extended, Binary, Holds, FrameAddress}
 use Rattle.dae_ir.specs.declared.form.Item.{Item}
 use Rattle.dae_ir.specs.declared.form.Item.TheVariants.{Assign, Load, Store, Print, Expect, Break as Leave, Continue as Skip, Call as Enter, Return as Give, Halt}
-use Rattle.dae_ir.specs.declared.form.Check.TheVariants.{Place, Zero, Room, Frame, Abort}
+use Rattle.dae_ir.specs.declared.form.Check.TheVariants.{Place, InBounds, Zero, Room, Frame, Abort}
 use Rattle.dae_ir.specs.declared.form.Test.{Test}
 use Rattle.dae_select_blocks.specs.Wanted.{IsNumber, AreNumbers}
 use Rattle.dae_link_faithful.specs.Made.{IsReady, parameters_in}
@@ -44,6 +44,7 @@ ItemNumbers (Load v kind x) = IsNumber x
 ItemNumbers (Store width x y) = IsNumber x × IsNumber y
 ItemNumbers (Print spelling x) = IsNumber x
 ItemNumbers (Expect (Place width x)) = IsNumber x
+ItemNumbers (Expect (InBounds x offset)) = IsNumber x × (offset < 2048)
 ItemNumbers (Expect (Zero x)) = IsNumber x
 ItemNumbers (Expect check) = Unit {0}
 ItemNumbers Leave = Unit {0}
@@ -103,6 +104,7 @@ module _ (functions : List Function) (n : ℕ) where
   item_in (Store width x y) h = (number_in n x h.0, number_in n y h.1)
   item_in (Print spelling x) h = number_in n x h
   item_in (Expect (Place width x)) h = number_in n x h
+  item_in (Expect (InBounds x offset)) h = (number_in n x h.0, h.1)
   item_in (Expect (Zero x)) h = number_in n x h
   item_in (Expect (Room f)) h = tt
   item_in (Expect Frame) h = tt

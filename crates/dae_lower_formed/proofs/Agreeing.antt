@@ -67,6 +67,7 @@ module _ (functions : List FormFunction) (b c : ℕ → Form) (frame : ℕ → �
 
   same_faults : (k : Check) (w : World) (env : Env) → fault one_form k w env ≡ fault other_form k w env
   same_faults (check.Place width x) w env = refl
+  same_faults (check.InBounds x offset) w env = refl
   same_faults (check.Zero x) w env = refl
   same_faults (check.Room f) w env = refl
   same_faults check.Frame w env = refl

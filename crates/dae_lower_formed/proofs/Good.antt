@@ -14,7 +14,7 @@ use Rattle.dae_ir.specs.declared.form.Function.{Function}
 use Rattle.dae_ir.specs.declared.form.Item.{Item}
 use Rattle.dae_ir.specs.declared.form.Item.TheVariants.{Assign, Load, Store, Print, Expect, Break, Continue, Call, Return, Halt}
 use Rattle.dae_ir.specs.declared.form.Check.{Check}
-use Rattle.dae_ir.specs.declared.form.Check.TheVariants.{Place, Zero, Room, Frame, Abort}
+use Rattle.dae_ir.specs.declared.form.Check.TheVariants.{Place, InBounds, Zero, Room, Frame, Abort}
 use Rattle.dae_ir.specs.declared.form.Operand.{Operand}
 use Rattle.dae_ir.specs.declared.form.Operand.TheVariants.{Variable, Number}
 use Rattle.dae_ir.specs.declared.form.Test.{Test}
@@ -139,6 +139,7 @@ module _ (functions : List Function) where
 
   check_wider : (n q : ℕ) → n ≤ q → (c : Check) → CheckIn (length functions) n c → CheckIn (length functions) q c
   check_wider n q l (Place width x) h = operand_wider n q l x h
+  check_wider n q l (InBounds x offset) h = (operand_wider n q l x h.0, h.1)
   check_wider n q l (Zero x) h = operand_wider n q l x h
   check_wider n q l (Room f) h = h
   check_wider n q l Frame h = tt

@@ -3,7 +3,7 @@ use Rattle.std.proofs.Common.{◌≡◌, ℕ, ◌+◌, ◌%◌, Bool, true, fals
 use Rattle.std.specs.Prelude.{nat_lt}
 use Rattle.std.proofs.lemmas.Bool.{and_parts}
 use Rattle.std.proofs.lemmas.Bool.Decides.{nat_tests}
-use Rattle.dae_base.specs.Words.{width_of, loaded}
+use Rattle.dae_base.specs.Words.{plus, width_of, loaded}
 use Rattle.dae_base.specs.declared.Width.TheVariants.{B1, B2, B4}
 use Rattle.dae_base.proofs.Laws.{no_true}
 use Rattle.dae_meaning.specs.Worlds.{World, ticked, fetched}
@@ -15,7 +15,7 @@ use Rattle.dae_ir.specs.Canonical.{is_issued, Access, Passed, Failed, Strayed, w
 use Rattle.dae_ir.specs.Streams.{only_fails_by, all_fail_by, only_failure}
 use Rattle.dae_ir.specs.Deeds.{failure_code, heard_code}
 use Rattle.dae_ir.specs.declared.form.Check.{Check}
-use Rattle.dae_ir.specs.declared.form.Check.TheVariants.{Place as Good, Zero, Room, Frame, Abort}
+use Rattle.dae_ir.specs.declared.form.Check.TheVariants.{Place as Good, InBounds, Zero, Room, Frame, Abort}
 use Rattle.dae_ir.specs.declared.stream.Failure.{Failure}
 use Rattle.dae_ir.specs.declared.stream.Failure.TheVariants.{OutOfBounds, OutOfRoom}
 use Rattle.dae_ir.specs.declared.stream.Part.{Part}
@@ -42,6 +42,7 @@ fault_by : (failure : Failure) (p : Program) (check : Check) (w : World) (env : 
 fault_by OutOfBounds p (Good B1 x) w env code is h = byte_code (value x env) (length w.memory) code h
 fault_by OutOfBounds p (Good B2 x) w env code is h = no_true is
 fault_by OutOfBounds p (Good B4 x) w env code is h = no_true is
+fault_by OutOfBounds p (InBounds x offset) w env code is h = byte_code (plus (value x env) offset) (length w.memory) code h
 fault_by OutOfBounds p (Zero x) w env code is h = no_true is
 fault_by OutOfBounds p (Room f) w env code is h = no_true is
 fault_by OutOfBounds p Frame w env code is h = no_true is
@@ -49,6 +50,7 @@ fault_by OutOfBounds p Abort w env code is h = no_true is
 fault_by OutOfRoom p (Good B1 x) w env code is h = no_true is
 fault_by OutOfRoom p (Good B2 x) w env code is h = no_true is
 fault_by OutOfRoom p (Good B4 x) w env code is h = no_true is
+fault_by OutOfRoom p (InBounds x offset) w env code is h = no_true is
 fault_by OutOfRoom p (Zero x) w env code is h = no_true is
 fault_by OutOfRoom p (Room f) w env code is h = some_or_none (nat_lt p.limit (w.depth + 1) || nat_lt (length w.memory) (w.top + p.frame f)) 4 code h
 fault_by OutOfRoom p Frame w env code is h = some_or_none (nat_lt (length w.memory) w.top) 4 code h

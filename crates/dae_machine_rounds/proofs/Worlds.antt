@@ -1,7 +1,8 @@
 -- Worlds that differ in counts alone, and what memories hold.
 use Rattle.std.proofs.Common.{◌≡◌, ℕ, ◌<◌, ◌^◌, Bool, false, List, length, Some, nat_eq, refl, arith}
-use Rattle.dae_base.specs.Words.{loaded, AreBytes}
+use Rattle.dae_base.specs.Words.{plus, loaded, AreBytes}
 use Rattle.dae_base.specs.declared.Width.{Width}
+use Rattle.dae_base.specs.declared.Width.TheVariants.{B1}
 use Rattle.dae_base.specs.declared.LoadKind.{LoadKind}
 use Rattle.dae_base.proofs.Laws.{loads_are_words}
 use Rattle.dae_meaning.specs.Worlds.{World, ticked, fetched}
@@ -9,7 +10,7 @@ use Rattle.dae_meaning.specs.Operations.{misplaced, passed}
 use Rattle.dae_meaning.specs.Variables.{Env}
 use Rattle.dae_ir.specs.Form.{Program, value, fault}
 use Rattle.dae_ir.specs.declared.form.Check.{Check}
-use Rattle.dae_ir.specs.declared.form.Check.TheVariants.{Place as Good, Zero, Room, Frame, Abort}
+use Rattle.dae_ir.specs.declared.form.Check.TheVariants.{Place as Good, InBounds, Zero, Room, Frame, Abort}
 
 pub record Like (w u : World) : Type 0 where
   pub memory : u.memory ≡ w.memory
@@ -37,6 +38,7 @@ passed_code b code h = grind arith
 
 pub fault_code : (p : Program) (check : Check) (w : World) (env : Env) (code : ℕ) → fault p check w env ≡ Some code → nat_eq code 0 ≡ false
 fault_code p (Good width x) w env code h = misplaced_code width (value x env) (length w.memory) code h
+fault_code p (InBounds x offset) w env code h = misplaced_code B1 (plus (value x env) offset) (length w.memory) code h
 fault_code p (Zero x) w env code h = grind arith
 fault_code p (Room f) w env code h = passed_code _ code h
 fault_code p Frame w env code h = passed_code _ code h

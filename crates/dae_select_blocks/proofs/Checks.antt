@@ -1,10 +1,10 @@
 -- Checks, messages that may halt, prints and halts.
 use Rattle.std.proofs.Common.{◌≡◌, ◌≢◌, ℕ, ◌+◌, ◌-◌, ◌*◌, ◌%◌, ◌^◌, ◌<◌, ◌≤◌, Bool, true, false, not, ◌||◌, List, ◌∷◌, ◌++◌, Option, Some, None, length, refl, sym, ap, ◌∙◌, arith, append-nil, append_assoc, []}
-use Rattle.std.specs.Prelude.{nat_lt, nat_eq, if◌then◌else◌, pos, negsuc, bit_and}
+use Rattle.std.specs.Prelude.{nat_lt, nat_eq, if◌then◌else◌, ℤ, pos, negsuc, bit_and}
 use Rattle.std.proofs.Common.{◌⊎◌, inl, inr}
 use Rattle.std.proofs.lemmas.Bool.Decides.{nat_tests}
 use Rattle.std.proofs.lemmas.Nat.{and_mask}
-use Rattle.dae_base.specs.Words.{plus, word, size}
+use Rattle.dae_base.specs.Words.{plus, minus, word, size}
 use Rattle.dae_base.specs.Texts.{byte_text, decimal_text, hex_text}
 use Rattle.dae_base.specs.declared.Signedness.TheVariants as signedness
 use Rattle.dae_base.specs.declared.Side.TheVariants.{A, E}
@@ -31,11 +31,12 @@ use Rattle.dae_select_walks.specs.Walks.{Setting}
 use Rattle.dae_select_walks.specs.Homes.{Contents}
 use Rattle.dae_select_walks.specs.Agrees.{Plan, Moment, depth_of, top_of, counted_depth}
 use Rattle.dae_select_walks.proofs.LawsOfWalks.{put, step_prints, step_ends, step_stops}
-use Rattle.dae_select_blocks.specs.Blocks.{check_code, source, fetch, number_code, fail_code, over, align_code, bounds_code, room_code, frames_room_code, call_number, system_code, hear_code}
+use Rattle.dae_select_blocks.specs.Blocks.{check_code, source, fetch, number_code, fail_code, over, align_code, bounds_code, offset_bounds_code, in_bounds_code, lower, is_immediate, room_code, frames_room_code, call_number, system_code, hear_code}
 use Rattle.dae_select_blocks.specs.Code.{placed_code}
 use Rattle.dae_select_blocks.specs.Fits.{Fits}
 use Rattle.dae_select_blocks.proofs.Plain.{computes, takes, pushes, put_other, branch_taken, branch_passed, hears_zero, hears_other}
 use Rattle.dae_select_blocks.proofs.Frames.{runs_number}
+use Rattle.dae_select_blocks.proofs.Halves.{immediate_word}
 use Rattle.dae_select_blocks.proofs.Runs.{runs_quiet, runs_push, runs_take, runs_say, runs_halt, runs_over, runs_hear}
 use Rattle.dae_select_blocks.proofs.Agreement.{Ready, IsScratch, ready_like}
 use Rattle.dae_select_blocks.proofs.Operands.{like_put, runs_move}
@@ -70,6 +71,17 @@ counted_few false l = omega arith
 call_scratch : (plan : Plan) (r : ℕ) → plan.by_a ≡ false → r ≡ 10 ⊎ r ≡ 17 → IsScratch plan r
 call_scratch plan r by_e (inl e) = rw e (record { zero = (omega arith); two = (omega arith); three = (omega arith); link = (omega arith); home = refl; depth = (λ by_a. absurd cc); addresses = (λ by_a. (omega arith)) })
 call_scratch plan r by_e (inr e) = rw e (record { zero = (omega arith); two = (omega arith); three = (omega arith); link = (omega arith); home = refl; depth = (λ by_a. (omega arith)); addresses = (λ by_a. (omega arith)) })
+
+-- 16 less of an offset are 16 less of the sum
+less_of_sum : (a offset : ℕ) → a < 2 ^ 32 → offset < 2048 → plus a (minus offset 16) ≡ plus (plus a offset) (word (negsuc 15))
+less_of_sum a offset small few = omega arith
+
+less_is_address : (a offset : ℕ) → a < 2 ^ 32 → offset ≡ 16 → a ≡ plus (plus a offset) (word (negsuc 15))
+less_is_address a offset small is = omega arith
+
+less_is_immediate : (offset : ℕ) → offset < 2048 → is_immediate (minus offset 16) ≡ true
+unfolding is_immediate
+less_is_immediate offset few = grind (arith, nat_tests)
 
 module _ (s : Setting) (plan : Plan) (variables : ℕ → ℕ) (fine : Fits s plan variables) (live live' : VariableSet) (m : Moment) where
   by_side : plan.by_a ≡ false → s.side ≡ E
@@ -275,6 +287,47 @@ module _ (s : Setting) (plan : Plan) (variables : ℕ → ℕ) (fine : Fits s pl
         let r = source (plan.home m.function) 5 x in
         runs_one s plan variables fine t x (align_code width r ++ range_code r (size width)) h reads number (λ c1 h1 got.
         place_at width r (value x m.env) (source_plain s plan variables fine t m.function 5 x (omega arith)) (source_apart s plan variables fine t m.function 5 6 x (omega arith) (omega arith) (omega arith)) h1 got stays)
+
+    -- the byte lies in common memory whose address less 16 is in a register
+    byte_done : {c : Contents} (r a : ℕ) → r < 28 → a < 2 ^ 32 → Ready plan live m c → c.register r ≡ plus a (word (negsuc 15)) → Stays s plan variables fine live live' m →
+        Does' s plan variables fine live live' m (Bltu r 4 (pos 12) ∷ fail_code true 2) c (probed true (misplaced B1 a plan.memory) m.env)
+    unfolding misplaced
+    byte_done {c} r a plain small h got stays =
+        let whole : nat_eq (a % 1) 0 ≡ true = grind (arith, nat_tests) in
+        let same : nat_lt (c.register r) (c.register 4) ≡ not (nat_lt a 16 || nat_lt plan.memory (a + 1)) = rw (h.agrees.addresses by_a, got) (range_one a small) in
+        rw whole (tested 2 (Bltu r 4 (pos 12)) r 4 (λ x y. nat_lt x y) (nat_lt a 16 || nat_lt plan.memory (a + 1)) refl plain (omega arith) same (omega arith) h stays)
+
+    -- the byte so many bytes behind the address in a register does
+    offset_done : {c : Contents} (r a offset : ℕ) → r < 28 → offset < 2048 → Ready plan live m c → c.register r ≡ a → Stays s plan variables fine live live' m →
+        Does' s plan variables fine live live' m (offset_bounds_code r offset) c (probed true (misplaced B1 (plus a offset) plan.memory) m.env)
+    offset_done {c} r a offset plain few h got stays = by (nat_eq offset 16) refl
+      where
+        small : a < 2 ^ 32
+        small = let f = h.fits r in rw got at f
+
+        by : (b : Bool) → nat_eq offset 16 ≡ b → Does' s plan variables fine live live' m (if b then Bltu r 4 (pos 12) ∷ fail_code true 2 else Addi 6 r (lower (minus offset 16)) ∷ (Bltu 6 4 (pos 12) ∷ fail_code true 2)) c (probed true (misplaced B1 (plus a offset) plan.memory) m.env)
+        by true e =
+            let is : offset ≡ 16 = grind (arith, nat_tests) in
+            byte_done r (plus a offset) plain (plus_small a offset) h (got ∙ less_is_address a offset small is) stays
+        by false e =
+            let t = To s plan variables fine live live' m in
+            let imm : ℤ = lower (minus offset 16) in
+            let is : word (lower (minus offset 16)) ≡ minus offset 16 = immediate_word (minus offset 16) (plus_small offset (2 ^ 32 - 16)) (less_is_immediate offset few) in
+            let v : ℕ = plus (c.register r) (word imm) in
+            let fits : v < 2 ^ 32 = plus_small (c.register r) (word imm) in
+            let h1 = ready_like s plan variables fine 6 (is_scratch plan 6 (omega arith) (omega arith)) (like_put 6 v c fits h.fits) h in
+            let same : plus (c.register r) (word (lower (minus offset 16))) ≡ plus (plus a offset) (word (negsuc 15)) = rw (got, is) (less_of_sum a offset small few) in
+            runs_quiet s plan.private t (computes s plan.private t (Addi 6 r imm) 6 r 0 (λ x y. plus x (word imm)) refl (omega arith) plain (omega arith) fits) (
+            byte_done 6 (plus a offset) (omega arith) (plus_small a offset) h1 same stays)
+
+    -- Probe(InBounds)
+    pub in_bounds_done : {c : Contents} (x : Operand) (offset : ℕ) → Ready plan live m c → Reads s plan variables fine live live' m x → IsNumber x → offset < 2048 → Stays s plan variables fine live live' m →
+        Does' s plan variables fine live live' m (in_bounds_code (plan.home m.function) x offset) c (probed true (misplaced B1 (plus (value x m.env) offset) plan.memory) m.env)
+    in_bounds_done x offset h reads number few stays =
+        let t = To s plan variables fine live live' m in
+        let r = source (plan.home m.function) 5 x in
+        runs_one s plan variables fine t x (offset_bounds_code r offset) h reads number (λ c1 h1 got.
+        offset_done r (value x m.env) offset (source_plain s plan variables fine t m.function 5 x (omega arith)) few h1 got stays)
 
     bounds_at : {c : Contents} (width : Width) (r a : ℕ) → a % size width ≡ 0 → r < 28 → Ready plan live m c → c.register r ≡ a → Stays s plan variables fine live live' m →
         Does' s plan variables fine live live' m (bounds_code width r) c (probed true (misplaced width a plan.memory) m.env)

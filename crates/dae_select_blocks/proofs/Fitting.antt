@@ -3,7 +3,7 @@ use Rattle.std.proofs.Common.{◌≡◌, ℕ, ◌+◌, ◌-◌, ◌%◌, ◌^◌
 use Rattle.std.specs.Prelude.{nat_lt, nat_eq, if◌then◌else◌, ℤ}
 use Rattle.std.proofs.lemmas.Option.{same_Some, cond_some}
 use Rattle.dae_ir.specs.declared.form.Check.{Check}
-use Rattle.dae_ir.specs.declared.form.Check.TheVariants.{Place, Zero, Room, Frame, Abort}
+use Rattle.dae_ir.specs.declared.form.Check.TheVariants.{Place, InBounds, Zero, Room, Frame, Abort}
 use Rattle.dae_ir.specs.declared.stream.Action.{Action}
 use Rattle.dae_ir.specs.declared.stream.Action.TheVariants.{Probe}
 use Rattle.dae_select_walks.specs.Agrees.{Plan, counted_depth}
@@ -32,7 +32,7 @@ use Rattle.dae_ir.specs.declared.stream.Failure.{Failure}
 use Rattle.dae_ir.specs.Deeds.{failure_code}
 use Rattle.dae_select_walks.specs.declared.Home.{Home}
 use Rattle.dae_select_walks.specs.Homes.{IsHome, number_key, resident_register}
-use Rattle.dae_select_blocks.specs.Blocks.{lower, is_immediate, number_code, register_or, source, fetch, move_code, operation_code, exponent, power_code, immediate_code, commutes, exchanged_code, behind_or, combine_registers, binary_code, extend_code, compare_code, compare_number_code, compare_registers, compare_operands, test_code, value_code, issue_code, address_code, take_code, fail_code, over, align_code, bounds_code, room_code, check_code, system_code, hear_code, stop_code, leave_code, result_code, branch_inst, opposite, one_way, goes_by, goes_code, frames_room_code, tell_number_code, against_zero, immediate_of, back_offset, goes_back, number_or, as_immediate, epilogue_code, reach_code}
+use Rattle.dae_select_blocks.specs.Blocks.{lower, is_immediate, number_code, register_or, source, fetch, move_code, operation_code, exponent, power_code, immediate_code, commutes, exchanged_code, behind_or, combine_registers, binary_code, extend_code, compare_code, compare_number_code, compare_registers, compare_operands, test_code, value_code, issue_code, address_code, take_code, fail_code, over, align_code, bounds_code, offset_bounds_code, room_code, check_code, system_code, hear_code, stop_code, leave_code, result_code, branch_inst, opposite, one_way, goes_by, goes_code, frames_room_code, tell_number_code, against_zero, immediate_of, back_offset, goes_back, number_or, as_immediate, epilogue_code, reach_code}
 use Rattle.dae_select_blocks.specs.Code.{placed_code, branch_code, told_by, branch_by, ahead_by, before_branch, back_branch}
 use Rattle.dae_select_blocks.proofs.Ranges.{move_fit, AllFit, fit_append, fit_either, lower_fits, addi_fits, addi_small, lw_small, add_fits, number_fits, register_fits, fetch_fits, move_fits, keep_fits, over_fits, failure_small}
 use Rattle.dae_select_blocks.proofs.Operands.{number_below}
@@ -345,6 +345,12 @@ leads_fit false x h = bne_fits x 0 20 h (omega arith) (omega arith) refl
 bounds_fit : (w : Width) (x : ℕ) → x < 32 → AllFit (bounds_code w x)
 bounds_fit w x h = (addi_minus 6 x (16 - size w) (omega arith) h (omega arith), (bltu_fits 6 4 12 (omega arith) (omega arith) (omega arith) refl, fail_fits true 2 (omega arith)))
 
+offset_bounds_fit : (x offset : ℕ) → x < 32 → AllFit (offset_bounds_code x offset)
+offset_bounds_fit x offset h =
+    fit_either (nat_eq offset 16) (Bltu x 4 (pos 12) ∷ fail_code true 2) (Addi 6 x (lower (minus offset 16)) ∷ (Bltu 6 4 (pos 12) ∷ fail_code true 2))
+    (λ e. (bltu_fits x 4 12 h (omega arith) (omega arith) refl, fail_fits true 2 (omega arith)))
+    (λ e. (addi_fits 6 x (minus offset 16) (omega arith) h, (bltu_fits 6 4 12 (omega arith) (omega arith) (omega arith) refl, fail_fits true 2 (omega arith))))
+
 pub placed_fits : (n : ℕ) (home : ℕ → Home) → ((v : ℕ) → IsHome n (home v)) → (a : Action) → AllFit (placed_code home a)
 placed_fits n home good (Probe (Place width x)) = fetched_fit n home good 5 x (bounds_code width (source home 5 x)) (omega arith) (bounds_fit width (source home 5 x) (source_fits n home good 5 x (omega arith)))
 placed_fits n home good a = tt
@@ -354,6 +360,9 @@ check_fits plan n f (Place width x) good =
     let r : ℕ = source (plan.home f) 5 x in
     let low = source_fits n (plan.home f) good 5 x (omega arith) in
     fetched_fit n (plan.home f) good 5 x (align_code width r ++ bounds_code width r) (omega arith) (fit_append (align_code width r) (bounds_code width r) (align_fits width r low) (bounds_fit width r low))
+check_fits plan n f (InBounds x offset) good =
+    let r : ℕ = source (plan.home f) 5 x in
+    fetched_fit n (plan.home f) good 5 x (offset_bounds_code r offset) (omega arith) (offset_bounds_fit r offset (source_fits n (plan.home f) good 5 x (omega arith)))
 check_fits plan n f (Zero x) good = fetched_fit n (plan.home f) good 5 x _ (omega arith) (leads_fit plan.by_a (source (plan.home f) 5 x) (source_fits n (plan.home f) good 5 x (omega arith)), fail_fits plan.by_a 1 (omega arith))
 check_fits plan n f (Room g) good =
     let frames : List Inst = frames_room_code plan.memory (plan.frame f + plan.frame g) in

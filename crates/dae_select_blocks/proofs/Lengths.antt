@@ -19,7 +19,7 @@ use Rattle.dae_ir.specs.declared.form.Test.{Test}
 use Rattle.dae_ir.specs.declared.form.Value.{Value}
 use Rattle.dae_ir.specs.declared.form.Value.TheVariants.{Same, Extended, Binary, Holds, FrameAddress}
 use Rattle.dae_ir.specs.declared.form.Check.{Check}
-use Rattle.dae_ir.specs.declared.form.Check.TheVariants.{Place, Zero, Room, Frame, Abort}
+use Rattle.dae_ir.specs.declared.form.Check.TheVariants.{Place, InBounds, Zero, Room, Frame, Abort}
 use Rattle.dae_ir.specs.declared.stream.Argument.{Argument}
 use Rattle.dae_ir.specs.declared.stream.Action.{Action}
 use Rattle.dae_ir.specs.declared.stream.Action.TheVariants.{Set as Compute, Issue, Own, Receive, Address, Datum, Offer, Accept, Emit, Probe, Tell, Hear, Stop, Break, Continue, Call, Return}
@@ -30,7 +30,7 @@ use Rattle.dae_select_walks.specs.declared.Home.{Home}
 use Rattle.dae_select_walks.specs.declared.Home.TheVariants.{Register, Slot}
 use Rattle.dae_select_walks.specs.Homes.{slot_at, kept_at, number_key, resident_register}
 use Rattle.dae_select_walks.specs.Agrees.{Plan, counted_depth}
-use Rattle.dae_select_blocks.specs.Blocks.{operation_code, issue_code, address_code, call_number, over, is_register, number_code, load_code, store_code, register_or, source, fetch_home, fetch, keep, compare_code, test_code, extend_code, value_code, fail_code, align_code, bounds_code, room_code, check_code, take_code, hear_code, stop_code, arguments_code, save_code, restore_code, deeper_code, back_code, result_code, leave_code, enter_code, more_code, less_code, is_immediate, move_code, immediate_code, exchanged_code, behind_or, combine_registers, binary_code, compare_number_code, compare_registers, compare_operands, frame_code, system_code, one_way, jump_over, jump_back, goes_by, goes_code, frames_room_code, tell_number_code, against_zero, immediate_of, goes_back, fetch_number, residents_code, as_immediate, prologue_code, epilogue_code, enter_words, lower, reach_code, is_overwritten, argument_to, argument_code, parameter_to, parameter_code, parameters_code, copy_code}
+use Rattle.dae_select_blocks.specs.Blocks.{operation_code, issue_code, address_code, call_number, over, is_register, number_code, load_code, store_code, register_or, source, fetch_home, fetch, keep, compare_code, test_code, extend_code, value_code, fail_code, align_code, bounds_code, offset_bounds_code, room_code, check_code, take_code, hear_code, stop_code, arguments_code, save_code, restore_code, deeper_code, back_code, result_code, leave_code, enter_code, more_code, less_code, is_immediate, move_code, immediate_code, exchanged_code, behind_or, combine_registers, binary_code, compare_number_code, compare_registers, compare_operands, frame_code, system_code, one_way, jump_over, jump_back, goes_by, goes_code, frames_room_code, tell_number_code, against_zero, immediate_of, goes_back, fetch_number, residents_code, as_immediate, prologue_code, epilogue_code, enter_words, lower, reach_code, is_overwritten, argument_to, argument_code, parameter_to, parameter_code, parameters_code, copy_code}
 use Rattle.dae_select_blocks.specs.Code.{placed_code, some_below, filtered, home_registers, registers_in, with_home, early_code, action_code, branch_code, entry_code, start_code, finish_code, past_code, told_by, branch_by, ahead_by, before_branch, back_branch, late_code}
 use Rattle.dae_select_blocks.proofs.Simple.{IsSimple}
 
@@ -153,6 +153,10 @@ check_short plan f (Place width x) =
     let l = align_short width r in
     let b = length-append (align_code width r) (bounds_code width r) in
     behind_short (plan.home f) 5 10 x (align_code width r ++ bounds_code width r) (omega arith)
+check_short plan f (InBounds x offset) =
+    let r = source (plan.home f) 5 x in
+    behind_short (plan.home f) 5 10 x (offset_bounds_code r offset)
+    (either_short (nat_eq offset 16) (Bltu r 4 (pos 12) ∷ fail_code true 2) (Addi 6 r (lower (minus offset 16)) ∷ (Bltu 6 4 (pos 12) ∷ fail_code true 2)) 10 (omega arith) (omega arith))
 check_short plan f (Zero x) = let l = fail_short plan.by_a 1 in let a = behind_short (plan.home f) 5 5 x (Bne (source (plan.home f) 5 x) 0 (over plan.by_a) ∷ fail_code plan.by_a 1) (omega arith) in omega arith
 check_short plan f (Room g) =
     let n : ℕ = plan.memory - (plan.frame f + plan.frame g) in

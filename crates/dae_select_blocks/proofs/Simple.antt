@@ -5,7 +5,8 @@ use Rattle.std.proofs.lemmas.Bool.Decides.{nat_tests}
 use Rattle.std.proofs.lemmas.Bool.{or_right}
 use Rattle.dae_base.specs.declared.Side.TheVariants.{A, E}
 use Rattle.dae_base.specs.declared.Width.{Width}
-use Rattle.dae_base.specs.Words.{size}
+use Rattle.dae_base.specs.declared.Width.TheVariants.{B1}
+use Rattle.dae_base.specs.Words.{plus, size}
 use Rattle.dae_encode.specs.declared.Inst.{Inst}
 use Rattle.dae_ir.specs.Classes.{VariableSet}
 use Rattle.dae_meaning.specs.Worlds.{World}
@@ -18,7 +19,7 @@ use Rattle.dae_ir.specs.Deeds.{Halts, deed, probed, stopped}
 use Rattle.dae_ir.specs.declared.form.Operand.{Operand}
 use Rattle.dae_ir.specs.declared.form.Operand.TheVariants.{Variable}
 use Rattle.dae_ir.specs.declared.form.Value.TheVariants.{Same}
-use Rattle.dae_ir.specs.declared.form.Check.TheVariants.{Place, Zero, Room, Frame, Abort}
+use Rattle.dae_ir.specs.declared.form.Check.TheVariants.{Place, InBounds, Zero, Room, Frame, Abort}
 use Rattle.dae_ir.specs.declared.stream.Action.{Action}
 use Rattle.dae_ir.specs.declared.stream.Action.TheVariants.{Set as Compute, Issue, Own, Receive, Address, Datum, Offer, Accept, Emit, Probe, Tell, Hear, Stop, Break, Continue, Call, Return}
 use Rattle.dae_select_walks.specs.Walks.{Setting, Comes}
@@ -40,7 +41,7 @@ use Rattle.dae_select_blocks.proofs.Runs.{Runs}
 use Rattle.dae_select_blocks.proofs.Agreement.{Ready}
 use Rattle.dae_select_blocks.proofs.Jumps.{ready, stands_less}
 use Rattle.dae_select_blocks.proofs.Actions.{To, Does', set_done, issue_done, own_done, receive_done, address_done, datum_done, offer_done, accept_done, tell_done}
-use Rattle.dae_select_blocks.proofs.Checks.{emit_done, stop_a_done, stop_e_done, zero_done, place_done, bounds_done, check_room_done, frame_done, abort_done, hear_done}
+use Rattle.dae_select_blocks.proofs.Checks.{emit_done, stop_a_done, stop_e_done, zero_done, place_done, in_bounds_done, bounds_done, check_room_done, frame_done, abort_done, hear_done}
 
 -- the actions that take or give no way but the next
 abbrev pub IsSimple : Action → Type 0
@@ -113,6 +114,8 @@ module _ (s : Setting) (plan : Plan) (variables : ℕ → ℕ) (fine : Fits s pl
     simple_runs (Probe (Zero x)) leaves skips is wanted round h = zero_done s plan variables fine live live' m x h round.reads wanted (λ u l. round.stays u l refl)
     simple_runs (Probe (Place width x)) leaves skips is wanted round h =
         rw world.memory (flagged (misplaced width (value x m.env) plan.memory) true wanted.0 (place_done s plan variables fine live live' m wanted.0 m.function width x refl h round.reads wanted.1 (λ u l. round.stays u l refl)))
+    simple_runs (Probe (InBounds x offset)) leaves skips is wanted round h =
+        rw world.memory (flagged (misplaced B1 (plus (value x m.env) offset) plan.memory) true wanted.0 (in_bounds_done s plan variables fine live live' m wanted.0 x offset h round.reads wanted.1 wanted.2 (λ u l. round.stays u l refl)))
     simple_runs (Probe (Room g)) leaves skips is wanted round h =
         rw (world.memory, world.depth, world.top, is_plan.limit, is_plan.frame g) (flagged (passed (nat_lt plan.limit (depth_of m + 1) || nat_lt plan.memory (top_of plan m + plan.frame g))) true wanted (check_room_done s plan variables fine live live' m wanted g h (λ u l. round.stays u l refl)))
     simple_runs (Probe Frame) leaves skips is wanted round h =

@@ -22,7 +22,7 @@ use Rattle.dae_ir.specs.declared.form.Test.{Test}
 use Rattle.dae_meaning.specs.declared.Spelling.{Spelling}
 use Rattle.dae_meaning.specs.declared.Spelling.TheVariants.{Byte, Signed, Unsigned, Hexadecimal}
 use Rattle.dae_ir.specs.declared.form.Check.{Check}
-use Rattle.dae_ir.specs.declared.form.Check.TheVariants.{Place, Zero, Room, Frame, Abort}
+use Rattle.dae_ir.specs.declared.form.Check.TheVariants.{Place, InBounds, Zero, Room, Frame, Abort}
 use Rattle.dae_ir.specs.declared.stream.Argument.{Argument}
 use Rattle.dae_ir.specs.declared.stream.Failure.{Failure}
 use Rattle.dae_ir.specs.Deeds.{failure_code}
@@ -293,6 +293,16 @@ bounds_code width x = Addi 6 x (negsuc (16 - size width)) ∷ (Bltu 6 4 (pos 12)
 abbrev pub place_code : (ℕ → Home) → Width → Operand → List Inst
 place_code home width x = fetch home 5 x ++ (align_code width (source home 5 x) ++ bounds_code width (source home 5 x))
 
+-- the byte so many bytes behind an address is within them too. The 16 are taken away from the offset, and where nothing is left of
+-- it the address itself is compared
+abbrev pub offset_bounds_code : ℕ → ℕ → List Inst
+offset_bounds_code x offset =
+    if nat_eq offset 16 then Bltu x 4 (pos 12) ∷ fail_code true 2
+    else Addi 6 x (lower (minus offset 16)) ∷ (Bltu 6 4 (pos 12) ∷ fail_code true 2)
+
+abbrev pub in_bounds_code : (ℕ → Home) → Operand → ℕ → List Inst
+in_bounds_code home x offset = fetch home 5 x ++ offset_bounds_code (source home 5 x) offset
+
 abbrev pub zero_code : Bool → (ℕ → Home) → Operand → List Inst
 zero_code by_a home x = fetch home 5 x ++ Bne (source home 5 x) 0 (over by_a) ∷ fail_code by_a 1
 
@@ -314,6 +324,7 @@ frame_room_code memory own = if nat_lt memory own then fail_code true 4 else roo
 
 abbrev pub check_code : Plan → ℕ → Check → List Inst
 check_code plan f (Place width x) = place_code (plan.home f) width x
+check_code plan f (InBounds x offset) = in_bounds_code (plan.home f) x offset
 check_code plan f (Zero x) = zero_code plan.by_a (plan.home f) x
 check_code plan f (Room g) = call_room_code plan.memory (counted_depth plan f plan.limit) (plan.frame f) (plan.frame g)
 check_code plan f Frame = frame_room_code plan.memory (plan.frame f)

@@ -7,7 +7,7 @@ use Rattle.dae_ir.specs.declared.form.Operand.TheVariants.{Variable, Number}
 use Rattle.dae_ir.specs.declared.form.Value.{Value}
 use Rattle.dae_ir.specs.declared.form.Value.TheVariants.{Same, Extended, Binary, Holds, FrameAddress}
 use Rattle.dae_ir.specs.declared.form.Check.{Check}
-use Rattle.dae_ir.specs.declared.form.Check.TheVariants.{Place, Zero, Room, Frame, Abort}
+use Rattle.dae_ir.specs.declared.form.Check.TheVariants.{Place, InBounds, Zero, Room, Frame, Abort}
 use Rattle.dae_ir.specs.declared.stream.Argument.{Argument}
 use Rattle.dae_ir.specs.declared.stream.Action.{Action}
 use Rattle.dae_ir.specs.declared.stream.Action.TheVariants.{Set as Compute, Issue, Own, Receive, Address, Datum, Offer, Accept, Emit, Probe, Tell, Hear, Stop, Break, Continue, Call, Return}
@@ -35,6 +35,7 @@ AreNumbers (FrameAddress offset) = offset < 2 ^ 32
 
 abbrev pub IsWantedCheck : Bool → Check → Type 0
 IsWantedCheck by_a (Place width x) = (by_a ≡ true) × IsNumber x
+IsWantedCheck by_a (InBounds x offset) = (by_a ≡ true) × IsNumber x × (offset < 2048)
 IsWantedCheck by_a (Zero x) = IsNumber x
 IsWantedCheck by_a (Room f) = by_a ≡ true
 IsWantedCheck by_a Frame = by_a ≡ true

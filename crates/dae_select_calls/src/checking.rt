@@ -1,7 +1,8 @@
 // The blocks of checks.
 
 ghost use Rattle.std.specs.Prelude.{◌≡◌, ◌+◌, ◌-◌, ◌++◌, ◌<◌, OnOk};
-ghost use Rattle.dae_select_blocks.specs.Blocks.{fail_code, over, align_code, bounds_code, room_code, place_code, zero_code, depth_code, frames_room_code, call_room_code, frame_room_code, check_code};
+ghost use Rattle.dae_select_blocks.specs.Blocks.{fail_code, over, align_code, bounds_code, offset_bounds_code, room_code, place_code, in_bounds_code, zero_code, depth_code, frames_room_code, call_room_code, frame_room_code, check_code};
+ghost use Rattle.dae_base.specs.Words.{minus};
 ghost use Rattle.dae_select_blocks.specs.Code.{placed_code};
 ghost use Rattle.dae_select_values.specs.Sides.{is_a};
 ghost use Rattle.dae_select_calls.specs.Makings.{plan_by, IsSound};
@@ -11,7 +12,7 @@ use crate::making::Making;
 use dae_base::{Side, Width};
 use dae_encode::Inst;
 use dae_ir::{Action, Check, Operand};
-use dae_select_values::{HomeTable, fetch, number_code, source};
+use dae_select_values::{HomeTable, fetch, lower, number_code, source};
 use std::alloc::AllocError;
 
 /// The code of a trap is pushed, and the processor halts.
@@ -98,6 +99,43 @@ pub fn placed_code(
     }
 }
 
+/// An offset from which the 16 addresses are taken away that aren't of common memory, as a word.
+fn less_sixteen(offset: u32) -> u32
+    ensures { result ≡ minus offset 16 }
+{
+    offset.wrapping_sub(16)
+}
+
+/// The byte so many bytes behind an address must be there too. The 16 are taken away from the offset, and where nothing is left of
+/// it the address itself is compared.
+fn offset_bounds_code(code: &mut Vec<Inst>, register: u8, offset: u32) -> Result<(), AllocError>
+    ensures { OnOk result (code.new.items ≡ code.old.items ++ offset_bounds_code register offset) }
+{
+    if offset == 16 {
+        code.push(Inst::Bltu(register, 4, 12))?;
+        fail_code(code, Side::A, 2)
+    } else {
+        let less = lower(less_sixteen(offset));
+        code.extend_from_slice(&[Inst::Addi(6, register, less), Inst::Bltu(6, 4, 12)])?;
+        fail_code(code, Side::A, 2)
+    }
+}
+
+/// The byte so many bytes behind the address that an operand is must be in common memory.
+fn in_bounds_code(
+    code: &mut Vec<Inst>,
+    homes: HomeTable,
+    operand: Operand,
+    offset: u32,
+) -> Result<(), AllocError>
+    requires { AreNear homes }
+    ensures { OnOk result (code.new.items ≡ code.old.items
+        ++ in_bounds_code (home_by homes.entry) operand offset) }
+{
+    fetch(code, homes, 5, operand)?;
+    offset_bounds_code(code, source(homes, 5, operand), offset)
+}
+
 fn zero_code(
     code: &mut Vec<Inst>,
     side: Side,
@@ -175,6 +213,7 @@ pub fn check_code(code: &mut Vec<Inst>, making: &Making, check: Check) -> Result
     let own = layouts.frame(making.function);
     match check {
         Check::Place(width, operand) => place_code(code, making.homes, width, operand),
+        Check::InBounds(operand, offset) => { in_bounds_code(code, making.homes, operand, offset) }
         Check::Zero(operand) => zero_code(code, layouts.side, making.homes, operand),
         Check::Room(callee) => {
             let next = layouts.frame(callee);

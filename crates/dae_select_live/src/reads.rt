@@ -58,6 +58,7 @@ fn add_check(set: &mut LiveSet, check: Check) -> Result<(), AllocError>
 {
     match check {
         Check::Place(_, operand) | Check::Zero(operand) => add_operand(set, operand),
+        Check::InBounds(operand, _) => add_operand(set, operand),
         Check::Room(_) | Check::Frame | Check::Abort => Ok(()),
     }
 }

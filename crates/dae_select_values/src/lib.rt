@@ -8,7 +8,8 @@ pub use accessing::{
 };
 pub use assigning::{as_immediate, compare, extend, operation, set_code, value_code};
 pub use fetching::{
-    fetch, is_immediate, keep, load_code, move_code, number_code, register_or, source, store_code,
+    fetch, is_immediate, keep, load_code, lower, move_code, number_code, register_or, source,
+    store_code,
 };
 pub use jumping::{
     CallForm, JumpForm, back_branch, branch_code, enter_code, jump_back, jump_over, jump_words,

@@ -19,7 +19,7 @@ use Rattle.dae_ir.specs.declared.form.Operand.{Operand}
 use Rattle.dae_ir.specs.declared.form.Operand.TheVariants.{Variable, Number}
 use Rattle.dae_ir.specs.declared.form.Value.{Value}
 use Rattle.dae_ir.specs.declared.form.Value.TheVariants.{Same, Extended, Binary, Holds, FrameAddress}
-use Rattle.dae_ir.specs.declared.form.Check.TheVariants.{Place, Zero, Room, Frame, Abort}
+use Rattle.dae_ir.specs.declared.form.Check.TheVariants.{Place, InBounds, Zero, Room, Frame, Abort}
 use Rattle.dae_ir.specs.declared.stream.Action.{Action}
 use Rattle.dae_ir.specs.declared.stream.Action.TheVariants.{Set as Compute, Issue, Own, Receive, Address, Datum, Offer, Accept, Emit, Probe, Tell, Hear, Stop, Break, Continue, Call, Return}
 use Rattle.dae_meaning.specs.Worlds.{World}
@@ -676,6 +676,7 @@ deed_facts p by_a (Probe (Place width (Variable v))) w env facts memory size h =
     by None e = hold_refined v (passed_bounds memory width (bounds_in facts v)) facts env h (passed_is memory width (bounds_in facts v) (env v) (known_is facts env v h) (subst (λ (l : ℕ). misplaced width (env v) l ≡ None) size e))
     by (Some code) e = tt
 deed_facts p by_a (Probe (Place width (Number n))) w env facts memory size h = probed_holds by_a facts env (fault p (Place width (Number n)) w env) h
+deed_facts p by_a (Probe (InBounds x offset)) w env facts memory size h = probed_holds by_a facts env (fault p (InBounds x offset) w env) h
 deed_facts p by_a (Probe (Zero x)) w env facts memory size h = probed_holds by_a facts env (fault p (Zero x) w env) h
 deed_facts p by_a (Probe (Room f)) w env facts memory size h = probed_holds by_a facts env (fault p (Room f) w env) h
 deed_facts p by_a (Probe Frame) w env facts memory size h = probed_holds by_a facts env (fault p Frame w env) h

@@ -7,7 +7,7 @@ use Rattle.dae_ir.specs.Code.{Done, Do, If, Loop}
 use Rattle.dae_ir.specs.Classes.{VariableSet}
 use Rattle.dae_ir.specs.Streams.{Actions}
 use Rattle.dae_ir.specs.declared.form.Operand.TheVariants.{Variable, Number}
-use Rattle.dae_ir.specs.declared.form.Check.TheVariants.{Place, Zero, Room, Frame, Abort}
+use Rattle.dae_ir.specs.declared.form.Check.TheVariants.{Place, InBounds, Zero, Room, Frame, Abort}
 use Rattle.dae_ir.specs.declared.stream.Mark.{Mark}
 use Rattle.dae_ir.specs.declared.stream.Action.{Action}
 use Rattle.dae_ir.specs.declared.stream.Action.TheVariants.{Set as Compute, Issue, Own, Receive, Address, Datum, Offer, Accept, Emit, Probe, Tell, Hear, Stop, Break, Continue, Call, Return}
@@ -201,6 +201,7 @@ straight_go memory (Do m (Call (Some v) f ys) k) known last guess others leaves 
 straight_go memory (Do m (Call None f ys) k) known last guess others leaves skips e said r = straight_go memory k known last guess others leaves skips e said (λ env h. r env h)
 straight_go memory (Do m (Probe (Place width (Variable v))) k) known last guess others leaves skips e said r = straight_go memory k (facts_behind memory (Probe (Place width (Variable v))) known) last guess others leaves skips e said (λ env h. r env h)
 straight_go memory (Do m (Probe (Place width (Number n))) k) known last guess others leaves skips e said r = straight_go memory k known last guess others leaves skips e said (λ env h. r env h)
+straight_go memory (Do m (Probe (InBounds y offset)) k) known last guess others leaves skips e said r = straight_go memory k known last guess others leaves skips e said (λ env h. r env h)
 straight_go memory (Do m (Probe (Zero y)) k) known last guess others leaves skips e said r = straight_go memory k known last guess others leaves skips e said (λ env h. r env h)
 straight_go memory (Do m (Probe (Room f)) k) known last guess others leaves skips e said r = straight_go memory k known last guess others leaves skips e said (λ env h. r env h)
 straight_go memory (Do m (Probe Frame) k) known last guess others leaves skips e said r = straight_go memory k known last guess others leaves skips e said (λ env h. r env h)
@@ -387,6 +388,7 @@ facts_go memory (Do m (Call (Some v) f ys) k) known o r = facts_go memory k (fac
 facts_go memory (Do m (Call None f ys) k) known o r = facts_go memory k (facts_behind memory (Call None f ys) known) o (reach_by (Do m (Call None f ys) k) k known.outer known.outer o (λ env h. h) r)
 facts_go memory (Do m (Probe (Place width (Variable v))) k) known o r = facts_go memory k (facts_behind memory (Probe (Place width (Variable v))) known) o (reach_by (Do m (Probe (Place width (Variable v))) k) k known.outer known.outer o (λ env h. h) r)
 facts_go memory (Do m (Probe (Place width (Number n))) k) known o r = facts_go memory k (facts_behind memory (Probe (Place width (Number n))) known) o (reach_by (Do m (Probe (Place width (Number n))) k) k known.outer known.outer o (λ env h. h) r)
+facts_go memory (Do m (Probe (InBounds y offset)) k) known o r = facts_go memory k (facts_behind memory (Probe (InBounds y offset)) known) o (reach_by (Do m (Probe (InBounds y offset)) k) k known.outer known.outer o (λ env h. h) r)
 facts_go memory (Do m (Probe (Zero y)) k) known o r = facts_go memory k (facts_behind memory (Probe (Zero y)) known) o (reach_by (Do m (Probe (Zero y)) k) k known.outer known.outer o (λ env h. h) r)
 facts_go memory (Do m (Probe (Room f)) k) known o r = facts_go memory k (facts_behind memory (Probe (Room f)) known) o (reach_by (Do m (Probe (Room f)) k) k known.outer known.outer o (λ env h. h) r)
 facts_go memory (Do m (Probe Frame) k) known o r = facts_go memory k (facts_behind memory (Probe Frame) known) o (reach_by (Do m (Probe Frame) k) k known.outer known.outer o (λ env h. h) r)

@@ -13,7 +13,7 @@ use Rattle.dae_ir.specs.declared.form.Operand.TheVariants.{Variable, Number}
 use Rattle.dae_ir.specs.declared.form.Value.{Value}
 use Rattle.dae_ir.specs.declared.form.Value.TheVariants.{Same, Extended, Binary, Holds, FrameAddress}
 use Rattle.dae_ir.specs.declared.form.Check.{Check}
-use Rattle.dae_ir.specs.declared.form.Check.TheVariants.{Place, Zero, Room, Frame, Abort}
+use Rattle.dae_ir.specs.declared.form.Check.TheVariants.{Place, InBounds, Zero, Room, Frame, Abort}
 use Rattle.dae_ir.specs.declared.stream.Argument.{Argument}
 use Rattle.dae_ir.specs.declared.stream.Action.{Action}
 use Rattle.dae_ir.specs.declared.stream.Action.TheVariants.{Set as Compute, Issue, Own, Receive, Address, Datum, Offer, Accept, Emit, Probe, Tell, Hear, Stop, Break, Continue, Call, Return}
@@ -45,6 +45,7 @@ value_set d (FrameAddress offset) u h e = absurd cc
 
 check_set : (d : VariableSet) (x : Check) (u : ℕ) → has_check d x ≡ true → in_check x u ≡ true → d u ≡ true
 check_set d (Place width x) u h e = operand_set d x u h e
+check_set d (InBounds x offset) u h e = operand_set d x u h e
 check_set d (Zero x) u h e = operand_set d x u h e
 check_set d (Room f) u h e = absurd cc
 check_set d Frame u h e = absurd cc

@@ -13,7 +13,7 @@ use Rattle.dae_ir.specs.declared.form.Operand.TheVariants.{Variable, Number}
 use Rattle.dae_ir.specs.declared.form.Value.{Value}
 use Rattle.dae_ir.specs.declared.form.Value.TheVariants.{Same, Extended, Binary, Holds, FrameAddress}
 use Rattle.dae_ir.specs.declared.form.Test.{Test}
-use Rattle.dae_ir.specs.declared.form.Check.TheVariants.{Place, Zero, Room, Frame, Abort}
+use Rattle.dae_ir.specs.declared.form.Check.TheVariants.{Place, InBounds, Zero, Room, Frame, Abort}
 use Rattle.dae_ir.specs.declared.form.Item.{Item}
 use Rattle.dae_ir.specs.declared.form.Item.TheVariants.{Assign, Load, Store, Print, Expect, Break, Continue, Call, Return, Halt}
 use Rattle.dae_ir.specs.declared.form.Function.{Function}
@@ -93,6 +93,7 @@ module _ (functions : List Function) (scoped : AllByRecursion (FunctionIn functi
     item_addresses (Store width x y) h = operand_in (in_range functions f) n all x h.0
     item_addresses (Print spelling x) h = tt
     item_addresses (Expect (Place width x)) h = operand_in (in_range functions f) n all x h
+    item_addresses (Expect (InBounds x offset)) h = operand_in (in_range functions f) n all x h.0
     item_addresses (Expect (Zero x)) h = tt
     item_addresses (Expect (Room g)) h = tt
     item_addresses (Expect Frame) h = tt
@@ -109,6 +110,7 @@ module _ (functions : List Function) (scoped : AllByRecursion (FunctionIn functi
     item_needs s (Store width x y) h = operand_in (in_range functions f) n all y h.1
     item_needs s (Print spelling x) h = operand_in (in_range functions f) n all x h
     item_needs s (Expect (Place width x)) h = tt
+    item_needs s (Expect (InBounds x offset)) h = tt
     item_needs s (Expect (Zero x)) h = λ a. operand_in (in_range functions f) n all x h
     item_needs s (Expect (Room g)) h = tt
     item_needs s (Expect Frame) h = tt

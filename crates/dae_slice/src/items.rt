@@ -208,6 +208,7 @@ fn seed_address(graph: &mut Graph, function: usize, check: Check) -> Result<(), 
 {
     match check {
         Check::Place(_, address) => seed_operand(graph, function, address),
+        Check::InBounds(address, _) => seed_operand(graph, function, address),
         _ => Ok(()),
     }
 }

@@ -80,6 +80,7 @@ pub fn has_check(tables: &[Items<Class>], function: usize, check: Check) -> bool
 {
     match check {
         Check::Place(_, operand) => has(tables, function, operand),
+        Check::InBounds(operand, _) => has(tables, function, operand),
         Check::Zero(operand) => has(tables, function, operand),
         Check::Room(_) => true,
         Check::Frame => true,

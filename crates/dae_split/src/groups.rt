@@ -144,11 +144,12 @@ fn only_fails_by(failure: Failure, check: Check) -> bool
     match failure {
         Failure::OutOfBounds => match check {
             Check::Place(width, _) => matches!(width, Width::B1),
+            Check::InBounds(..) => true,
             Check::Zero(_) | Check::Room(_) | Check::Frame | Check::Abort => false,
         },
         Failure::OutOfRoom => match check {
             Check::Room(_) | Check::Frame => true,
-            Check::Place(..) | Check::Zero(_) | Check::Abort => false,
+            Check::Place(..) | Check::InBounds(..) | Check::Zero(_) | Check::Abort => false,
         },
     }
 }

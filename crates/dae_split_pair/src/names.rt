@@ -58,6 +58,7 @@ fn check_in(functions: &[Function], variables: u32, check: Check) -> bool
 {
     match check {
         Check::Place(_, x) => is_in(variables, x),
+        Check::InBounds(x, offset) => is_in(variables, x) && offset < 2048,
         Check::Zero(x) => is_in(variables, x),
         Check::Room(function) => (function as usize) < functions.len(),
         Check::Frame => true,

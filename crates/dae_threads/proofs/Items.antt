@@ -11,7 +11,7 @@ use Rattle.dae_ir.specs.Code.{Done, Do, If, Loop, exec}
 use Rattle.dae_ir.specs.Form.{Form, Program, Calls, value, values, computed, holds, fault, called, ended, does, meaning, with_stored, with_printed, deeper, calls_of, all_loads}
 use Rattle.dae_ir.specs.Laws.{SameVariables}
 use Rattle.dae_ir.specs.declared.form.Check.{Check}
-use Rattle.dae_ir.specs.declared.form.Check.TheVariants.{Place as Good, Zero, Room, Frame, Abort}
+use Rattle.dae_ir.specs.declared.form.Check.TheVariants.{Place as Good, InBounds, Zero, Room, Frame, Abort}
 use Rattle.dae_ir.specs.declared.form.Item.{Item}
 use Rattle.dae_ir.specs.declared.form.Item.TheVariants.{Assign, Load, Store, Print, Expect, Break, Continue, Call, Return, Halt}
 use Rattle.dae_ir.proofs.Laws.{same_room}
@@ -94,6 +94,7 @@ CallsGo calls calls' = (f : ℕ) (xs : List ℕ) (w : World) (a b : ℕ) → b �
 module _ (p q : Program) (frames : (k : ℕ) → q.frame k ≡ p.frame k) (limits : q.limit ≡ p.limit) (counted : ℕ → Bool) (calls calls' : Calls) (enters : CallsGo calls calls') where
   same_fault : (check : Check) (e : Env) (w : World) (a b : ℕ) → fault q check (having_done b w) e ≡ fault p check (having_done a w) e
   same_fault (Good width x) e w a b = refl
+  same_fault (InBounds x offset) e w a b = refl
   same_fault (Zero x) e w a b = refl
   same_fault (Room f) e w a b = same_room p q frames limits f e w
   same_fault Frame e w a b = refl

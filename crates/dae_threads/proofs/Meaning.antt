@@ -1,17 +1,26 @@
 -- Code in which conditions are threaded does what the code does, in no more items.
 use Rattle.std.proofs.Common.{◌≡◌, ℕ, zero, suc, ◌+◌, ◌≤◌, Bool, true, false, not, nat_eq, if◌then◌else◌, refl, ap, sym, subst, arith}
+use Rattle.std.proofs.Common.{Option, Some, None, length}
 use Rattle.std.proofs.lemmas.Bool.{eq-eqb}
+use Rattle.dae_base.specs.Words.{plus}
+use Rattle.dae_base.specs.declared.Place.{Place}
+use Rattle.dae_base.specs.declared.Width.TheVariants.{B1}
 use Rattle.dae_meaning.specs.Worlds.{World, ticked}
-use Rattle.dae_meaning.specs.Results.{Result, At, Over, Next, Leaves, Skips, Returns, Astray, Run, ◌▷◌, turns}
+use Rattle.dae_meaning.specs.Results.{Result, At, Over, Next, Leaves, Skips, Returns, Trapped, Astray, Run, ◌▷◌, turns, checked}
 use Rattle.dae_meaning.specs.Alike.{BothOver}
-use Rattle.dae_meaning.specs.Operations.{compared}
+use Rattle.dae_meaning.specs.Operations.{combined, compared, misplaced}
+use Rattle.dae_meaning.specs.declared.Operator.TheVariants.{Add}
 use Rattle.dae_meaning.specs.Variables.{Env, put, entered}
 use Rattle.dae_meaning.proofs.Laws.{bind_alike, turns_alike}
-use Rattle.dae_ir.specs.Code.{Done}
-use Rattle.dae_ir.specs.Form.{Form, Program, Calls, holds, does, deeper, calls_of, all_loads}
+use Rattle.dae_ir.specs.Code.{Done, Do}
+use Rattle.dae_ir.specs.Form.{Form, Program, Calls, value, holds, does, deeper, calls_of, all_loads}
+use Rattle.dae_ir.specs.declared.form.Operand.{Operand}
+use Rattle.dae_ir.specs.declared.form.Operand.TheVariants.{Variable}
+use Rattle.dae_ir.specs.declared.form.Check.TheVariants.{Place as Good, InBounds}
+use Rattle.dae_ir.specs.declared.form.Item.TheVariants.{Expect}
 use Rattle.dae_threads.specs.Forms.{HasNoMoreItems, having_done}
 use Rattle.dae_ir.specs.Laws.{SameVariables}
-use Rattle.dae_threads.specs.Threaded.{is_nonzero, list_for, IsLed, LedTo, LedInBoth, BehindItem, BehindIf, BehindLoop, IsThreaded, Unchanged, InTurn, InRest, InLists, InLoop, Threads}
+use Rattle.dae_threads.specs.Threaded.{gives_sum, is_nonzero, list_for, IsLed, LedTo, LedInBoth, BehindItem, BehindIf, BehindLoop, IsThreaded, Unchanged, InTurn, InRest, InLists, InLoop, Threads, ChecksFirst}
 use Rattle.dae_threads.proofs.Items.{Ends, Goes, runs, CallsGo, any, goes_then, choice_goes, no_more, ticks, item_goes, code_goes, itself_goes}
 
 -- ---- one stretch, and then others
@@ -38,6 +47,10 @@ is_given v n e = rw (eq-eqb v v refl) refl
 decided : (v n : ℕ) (e : Env) → holds (is_nonzero v) (put true v n e) ≡ not (nat_eq n 0)
 unfolding compared
 decided v n e = ap (λ (k : ℕ). not (nat_eq k 0)) (is_given v n e)
+
+sum_got : (v n : ℕ) (x : Operand) (e : Env) → put true v (combined Add (value x e) n) e v ≡ plus (value x e) n
+unfolding combined
+sum_got v n x e = is_given v (plus (value x e) n) e
 
 -- ---- code, in one program
 
@@ -96,6 +109,19 @@ module _ (p : Program) (counted : ℕ → Bool) (calls : Calls) (enters : CallsG
       subst (λ (r : Result Env). Ends r (second ▷ run k')) (sym (bind_both first (run k) (decides v x y)))
       (bind_alike SameVariables HasNoMoreItems first second (λ e w. run k e w ▷ decides v x y) (run k') alike (any (λ e w. run k e w ▷ decides v x y) (run k') (led_goes v x y i1 j1 k k' h)))
 
+  -- a check comes before a sum: where it fails, the sum isn't worked out
+  check_moved : (o : Option ℕ) (place : Place) (v : ℕ) (x : Operand) (m : ℕ) (k : Form) (e : Env) (w : World) (a b : ℕ) → b ≤ a
+      → Ends (checked o (put true v (combined Add (value x e) m) e) (ticked (ticked (having_done a w))) ▷ run k) (checked o e (ticked (having_done b w)) ▷ run (Do place (gives_sum v x m) k))
+  check_moved None place v x m k e w a b l = same k (put true v (combined Add (value x e) m) e) w (a + 1 + 1) (b + 1 + 1) (omega (arith, l))
+  check_moved (Some code) place v x m k e w a b l = BothOver (Trapped code) (having_done (a + 1 + 1) w) (having_done (b + 1) w) (no_more w (a + 1 + 1) (b + 1) (omega (arith, l)))
+
+  sum_goes : (place place' : Place) (v : ℕ) (x : Operand) (m : ℕ) (k : Form)
+      → Goes (run (Do place (gives_sum v x m) (Do place' (Expect (Good B1 (Variable v))) k))) (run (Do place' (Expect (InBounds x m)) (Do place (gives_sum v x m) k)))
+  sum_goes place place' v x m k e w a b l =
+      subst (λ (y : ℕ). Ends (checked (misplaced B1 y (length w.memory)) (put true v (combined Add (value x e) m) e) (ticked (ticked (having_done a w))) ▷ run k)
+      (checked (misplaced B1 (plus (value x e) m) (length w.memory)) e (ticked (having_done b w)) ▷ run (Do place (gives_sum v x m) k)))
+      (sym (sum_got v m x e)) (check_moved (misplaced B1 (plus (value x e) m) (length w.memory)) place v x m k e w a b l)
+
   pub threaded_goes : (c d : Form) → IsThreaded c d → Goes (run c) (run d)
   threaded_goes c d (Unchanged c1) e w a b l = same c1 e w a b l
   threaded_goes c d (InTurn c1 d1 e1 f g) e w a b l = goes_then (run c1) (run d1) (run e1) (threaded_goes c1 d1 f) (threaded_goes d1 e1 g) e w a b l
@@ -117,6 +143,7 @@ module _ (p : Program) (counted : ℕ → Bool) (calls : Calls) (enters : CallsG
       (led_goes v x y i j f f' first e w (a + 1) (b + 1) (omega (arith, l))) (led_goes v x y i' j' g g' second e w (a + 1) (b + 1) (omega (arith, l))) in
       subst (λ (r : Result Env). Ends r (right ▷ run k)) (bind_both left (decides v x y) (run k))
       (bind_alike SameVariables HasNoMoreItems (left ▷ decides v x y) right (run k) (run k) both (any (run k) (run k) (same k)))
+  threaded_goes c d (ChecksFirst place place' v x m k near) e w a b l = sum_goes place place' v x m k e w a b l
 
 -- ---- whole programs
 

@@ -2,12 +2,13 @@
 use Rattle.std.proofs.Common.{◌≡◌, ℕ, zero, suc, ◌<◌, ◌≤◌, Bool, true, false, not, List, [], ◌∷◌, length, Option, Some, refl, ap, sym, ◌∙◌, subst, arith}
 use Rattle.std.specs.Prelude.{slice_get, IsTrue}
 use Rattle.std.specs.List.{AllByRecursion}
+use Rattle.std.proofs.lemmas.Bool.{and_parts}
 use Rattle.dae_meaning.specs.Alike.{Alike}
 use Rattle.dae_meaning.specs.Worlds.{World}
 use Rattle.dae_meaning.specs.Variables.{VariableSet, parameters_set}
 use Rattle.dae_ir.specs.Code.{Each}
 use Rattle.dae_ir.specs.Form.{Form, form_of, calls_of, all_loads}
-use Rattle.dae_ir.specs.Classes.{Classes, AddressesKept, AreAddressesClosed, is_by_a}
+use Rattle.dae_ir.specs.Classes.{has, Classes, AddressesKept, AreAddressesClosed, is_by_a}
 use Rattle.dae_ir.specs.Laws.{SameVariables}
 use Rattle.dae_ir.specs.Programs.{body_in, frame_in, program_of, outcome, start}
 use Rattle.dae_ir.specs.Scope.{IsScoped, FunctionIn, IsMain, ItemIn, TestIn, TakesArguments, is_return, never_returns}
@@ -17,13 +18,13 @@ use Rattle.dae_ir.specs.declared.form.Function.{Function}
 use Rattle.dae_ir.specs.declared.form.Ir.{Ir}
 use Rattle.dae_ir.specs.declared.form.Item.{Item}
 use Rattle.dae_ir.specs.declared.form.Item.TheVariants.{Assign, Load, Store, Print, Expect, Break, Continue, Call, Return, Halt}
-use Rattle.dae_ir.specs.declared.form.Check.TheVariants.{Place as Good, Zero, Room, Frame, Abort}
+use Rattle.dae_ir.specs.declared.form.Check.TheVariants.{Place as Good, InBounds, Zero, Room, Frame, Abort}
 use Rattle.dae_ir.proofs.Laws.{KeepsArguments}
 use Rattle.dae_threads.specs.Forms.{IsThreadedFunction, AreThreadedFunctions, IsThreadingOf, HasNoMoreItems, FormsAreThreaded}
 use Rattle.dae_threads.specs.Laws.{CountsHeavy, ThreadingAddsNothing}
 use Rattle.dae_threads.specs.Threaded.{IsThreaded, Unchanged}
 use Rattle.dae_threads.proofs.Meaning.{calls_go}
-use Rattle.dae_threads.proofs.Scoping.{threaded_each, threaded_names, threaded_has, threaded_stays, threaded_closes}
+use Rattle.dae_threads.proofs.Scoping.{KeepsSums, threaded_each, threaded_names, threaded_has, threaded_stays, threaded_closes}
 use Rattle.dae_threads.proofs.Ordering.{threaded_first}
 use Rattle.dae_threads.proofs.Counts.{threaded_size, threaded_count}
 
@@ -59,7 +60,7 @@ takes_same (f ∷ fs) (g ∷ gs) a (suc k) count t = takes_same fs gs a.1 k coun
 -- ---- what is well made stays so
 
 never_still : (f g : Function) → IsThreadedFunction f g → IsTrue (never_returns (form_of f.body)) → IsTrue (never_returns (form_of g.body))
-never_still f g r h = threaded_has (λ item. not (is_return item)) (λ t. true) (form_of f.body) (form_of g.body) r.body h
+never_still f g r h = threaded_has (λ item. not (is_return item)) (λ t. true) (λ x n. refl) (form_of f.body) (form_of g.body) r.body h
 
 main_same : (fs gs : List Function) → AreThreadedFunctions fs gs → (k : ℕ) → IsMain (slice_get fs k) → IsMain (slice_get gs k)
 main_same [] [] a k m = m
@@ -75,6 +76,7 @@ module _ (all new : List Function) (keeps : KeepsArguments all new) where
   item_in n (Store width x y) i = i
   item_in n (Print spelling x) i = i
   item_in n (Expect (Good width x)) i = i
+  item_in n (Expect (InBounds x offset)) i = i
   item_in n (Expect (Zero x)) i = i
   item_in n (Expect (Room g)) i = subst (λ (m : ℕ). g < m) (sym keeps.count) i
   item_in n (Expect Frame) i = tt
@@ -85,6 +87,9 @@ module _ (all new : List Function) (keeps : KeepsArguments all new) where
   item_in n (Return x) i = i
   item_in n (Halt x) i = i
 
+  sums_in : (n : ℕ) → KeepsSums (ItemIn new n)
+  sums_in n v x m near i j = (i.1.0, near)
+
   function_in : (f g : Function) → IsThreadedFunction f g → FunctionIn all f → FunctionIn new g
   function_in f g r i =
       let c : Form = form_of f.body in
@@ -92,7 +97,7 @@ module _ (all new : List Function) (keeps : KeepsArguments all new) where
       record {
         parameters = (let p = i.parameters in let n = r.parameters in let m = r.variables in omega (arith, p, n, m));
         names = subst (λ (n : ℕ). Each (ItemIn new n) (TestIn n) d) (sym r.variables)
-            (threaded_names (ItemIn all f.variables) (ItemIn new f.variables) (TestIn f.variables) (TestIn f.variables) (item_in f.variables) (λ t h. h) c d r.body i.names);
+            (threaded_names (ItemIn all f.variables) (ItemIn new f.variables) (TestIn f.variables) (TestIn f.variables) (item_in f.variables) (λ t h. h) (sums_in f.variables) c d r.body i.names);
         loops = threaded_stays c d false r.body i.loops;
         ends = subst (λ (b : Bool). IsTrue b) (sym (threaded_closes c d r.body)) i.ends;
       }
@@ -115,6 +120,10 @@ firsts_in (f ∷ fs) [] a s = absurd a
 firsts_in (f ∷ fs) (g ∷ gs) a s = (first_in f g a.0 s.0, firsts_in fs gs a.1 s.1)
 
 -- ---- what A has to do
+
+-- the address that is checked leads to what is added to
+sums_kept : (of : ℕ → VariableSet) (s : VariableSet) → KeepsSums (AddressesKept of s)
+sums_kept of s v x n near h address = (and_parts (has s x) true (h address)).0
 
 abbrev HasNoMore : Classes → Form → Form → Type 0
 HasNoMore c old new = (own_loads c new ≤ own_loads c old) × (conditions_a c new ≤ conditions_a c old)
@@ -157,7 +166,7 @@ module _ (ir new : Ir) (scoped : IsScoped ir) (of : IsThreadingOf ir new) where
 
   access : (c : ℕ → Classes) → AreAddressesClosed (program_of ir) (λ k. (c k).s) → AreAddressesClosed (program_of new) (λ k. (c k).s)
   access c closed k =
-      threaded_each (AddressesKept (λ j. (c j).s) (c k).s) (λ t. Unit {0}) (body_in (slice_get ir.functions k)) (body_in (slice_get new.functions k)) (bodies ir.functions new.functions pairs k) (closed k)
+      threaded_each (AddressesKept (λ j. (c j).s) (c k).s) (λ t. Unit {0}) (sums_kept (λ j. (c j).s) (c k).s) (body_in (slice_get ir.functions k)) (body_in (slice_get new.functions k)) (bodies ir.functions new.functions pairs k) (closed k)
 
   counted_at : (c : Classes) (k : ℕ) (f g : Function) → slice_get ir.functions k ≡ Some f → slice_get new.functions k ≡ Some g → HasNoMore c (form_of f.body) (form_of g.body)
   counted_at c k f g is is' =

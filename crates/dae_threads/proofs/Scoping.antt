@@ -1,15 +1,24 @@
 -- Code in which conditions are threaded is as well made.
-use Rattle.std.proofs.Common.{◌≡◌, ℕ, Bool, true, false, not, ◌&&◌, ◌||◌, nat_eq, if◌then◌else◌, refl, ap, ◌∙◌}
+use Rattle.std.proofs.Common.{◌≡◌, ℕ, ◌<◌, Bool, true, false, not, ◌&&◌, ◌||◌, nat_eq, if◌then◌else◌, refl, ap, ◌∙◌}
 use Rattle.std.proofs.lemmas.Bool.{and_from, and_parts}
+use Rattle.dae_base.specs.declared.Width.TheVariants.{B1}
 use Rattle.dae_ir.specs.Code.{Done, Do, If, Loop, Each, every}
 use Rattle.dae_ir.specs.Form.{Form}
 use Rattle.dae_ir.specs.Rounds.{is_jump, stays}
 use Rattle.dae_ir.specs.Scope.{closes, is_end}
+use Rattle.dae_ir.specs.declared.form.Operand.{Operand}
+use Rattle.dae_ir.specs.declared.form.Operand.TheVariants.{Variable}
+use Rattle.dae_ir.specs.declared.form.Check.TheVariants.{Place as Good, InBounds}
 use Rattle.dae_ir.specs.declared.form.Item.{Item}
+use Rattle.dae_ir.specs.declared.form.Item.TheVariants.{Expect}
 use Rattle.dae_ir.specs.declared.form.Test.{Test}
-use Rattle.dae_threads.specs.Threaded.{gives_number, is_nonzero, list_for, IsLed, LedTo, LedInBoth, BehindItem, BehindIf, BehindLoop, IsThreaded, Unchanged, InTurn, InRest, InLists, InLoop, Threads}
+use Rattle.dae_threads.specs.Threaded.{gives_number, gives_sum, is_nonzero, list_for, IsLed, LedTo, LedInBoth, BehindItem, BehindIf, BehindLoop, IsThreaded, Unchanged, InTurn, InRest, InLists, InLoop, Threads, ChecksFirst}
 
 -- ---- each item and each test
+
+-- where there may be a sum and a check of the byte there, there may be one of the byte behind what is added to
+abbrev pub KeepsSums : (Item → Type 0) → Type 0
+KeepsSums I = (v : ℕ) (x : Operand) (n : ℕ) → n < 2048 → I (gives_sum v x n) → I (Expect (Good B1 (Variable v))) → I (Expect (InBounds x n))
 
 module _ (I : Item → Type 0) (J : Test → Type 0) where
   either_each : (x y : Form) → Each I J x → Each I J y → (c : Bool) → Each I J (if c then y else x)
@@ -23,15 +32,17 @@ module _ (I : Item → Type 0) (J : Test → Type 0) where
   led_each v x y h g i j c d (BehindIf place t p q i1 j1 k k' f) r = (r.0, r.1, r.2, led_each v x y h g i1 j1 k k' f r.3)
   led_each v x y h g i j c d (BehindLoop place p q i1 j1 k k' f) r = (r.0, r.1, led_each v x y h g i1 j1 k k' f r.2)
 
-  pub threaded_each : (c d : Form) → IsThreaded c d → Each I J c → Each I J d
-  threaded_each c d (Unchanged c1) r = r
-  threaded_each c d (InTurn c1 d1 e1 f g) r = threaded_each d1 e1 g (threaded_each c1 d1 f r)
-  threaded_each c d (InRest place item k k' h) r = (r.0, threaded_each k k' h r.1)
-  threaded_each c d (InLists place t p p' q q' k k' f g h) r = (r.0, threaded_each p p' f r.1, threaded_each q q' g r.2, threaded_each k k' h r.3)
-  threaded_each c d (InLoop place p p' q q' k k' f g h) r = (threaded_each p p' f r.0, threaded_each q q' g r.1, threaded_each k k' h r.2)
-  threaded_each c d (Threads place place' t v i j i' j' more more' x y p p' q q' k f g spread spread' small) r =
-      let behind : J (is_nonzero v) × Each I J x × Each I J y × Each I J k = r.3 in
-      (r.0, led_each v x y behind.1 behind.2 i j p p' f r.1, led_each v x y behind.1 behind.2 i' j' q q' g r.2, behind.3)
+  module _ (sums : KeepsSums I) where
+    pub threaded_each : (c d : Form) → IsThreaded c d → Each I J c → Each I J d
+    threaded_each c d (Unchanged c1) r = r
+    threaded_each c d (InTurn c1 d1 e1 f g) r = threaded_each d1 e1 g (threaded_each c1 d1 f r)
+    threaded_each c d (InRest place item k k' h) r = (r.0, threaded_each k k' h r.1)
+    threaded_each c d (InLists place t p p' q q' k k' f g h) r = (r.0, threaded_each p p' f r.1, threaded_each q q' g r.2, threaded_each k k' h r.3)
+    threaded_each c d (InLoop place p p' q q' k k' f g h) r = (threaded_each p p' f r.0, threaded_each q q' g r.1, threaded_each k k' h r.2)
+    threaded_each c d (Threads place place' t v i j i' j' more more' x y p p' q q' k f g spread spread' small) r =
+        let behind : J (is_nonzero v) × Each I J x × Each I J y × Each I J k = r.3 in
+        (r.0, led_each v x y behind.1 behind.2 i j p p' f r.1, led_each v x y behind.1 behind.2 i' j' q q' g r.2, behind.3)
+    threaded_each c d (ChecksFirst place place' v x n k near) r = let check : I (Expect (Good B1 (Variable v))) × Each I J k = r.1 in (sums v x n near r.0 check.0, (r.0, check.1))
 
 each_weaker : (I I' : Item → Type 0) (J J' : Test → Type 0) → ((item : Item) → I item → I' item) → ((t : Test) → J t → J' t) → (code : Form) → Each I J code → Each I' J' code
 each_weaker I I' J J' f g Done r = tt
@@ -39,8 +50,8 @@ each_weaker I I' J J' f g (Do place item k) r = (f item r.0, each_weaker I I' J 
 each_weaker I I' J J' f g (If place t p q k) r = (g t r.0, each_weaker I I' J J' f g p r.1, each_weaker I I' J J' f g q r.2, each_weaker I I' J J' f g k r.3)
 each_weaker I I' J J' f g (Loop place p q k) r = (each_weaker I I' J J' f g p r.0, each_weaker I I' J J' f g q r.1, each_weaker I I' J J' f g k r.2)
 
-pub threaded_names : (I I' : Item → Type 0) (J J' : Test → Type 0) → ((item : Item) → I item → I' item) → ((t : Test) → J t → J' t) → (c d : Form) → IsThreaded c d → Each I J c → Each I' J' d
-threaded_names I I' J J' f g c d h r = threaded_each I' J' c d h (each_weaker I I' J J' f g c r)
+pub threaded_names : (I I' : Item → Type 0) (J J' : Test → Type 0) → ((item : Item) → I item → I' item) → ((t : Test) → J t → J' t) → KeepsSums I' → (c d : Form) → IsThreaded c d → Each I J c → Each I' J' d
+threaded_names I I' J J' f g sums c d h r = threaded_each I' J' sums c d h (each_weaker I I' J J' f g c r)
 
 -- ---- the same by tests
 
@@ -81,22 +92,26 @@ module _ (f : Item → Bool) (h : Test → Bool) where
       let a = three_parts (every f h p) (every f h q) (every f h k) all in
       three_from (every f h p) (every f h q) (every f h k') a.0 a.1 (led_has v x y r s i1 j1 k k' rest a.2)
 
-  pub threaded_has : (c d : Form) → IsThreaded c d → Has c → Has d
-  threaded_has c d (Unchanged c1) all = all
-  threaded_has c d (InTurn c1 d1 e1 one other) all = threaded_has d1 e1 other (threaded_has c1 d1 one all)
-  threaded_has c d (InRest place item k k' rest) all =
-      let a = and_parts (f item) (every f h k) all in
-      and_from (f item) (every f h k') a.0 (threaded_has k k' rest a.1)
-  threaded_has c d (InLists place t p p' q q' k k' one other rest) all =
-      let a = four_parts (h t) (every f h p) (every f h q) (every f h k) all in
-      four_from (h t) (every f h p') (every f h q') (every f h k') a.0 (threaded_has p p' one a.1) (threaded_has q q' other a.2) (threaded_has k k' rest a.3)
-  threaded_has c d (InLoop place p p' q q' k k' one other rest) all =
-      let a = three_parts (every f h p) (every f h q) (every f h k) all in
-      three_from (every f h p') (every f h q') (every f h k') (threaded_has p p' one a.0) (threaded_has q q' other a.1) (threaded_has k k' rest a.2)
-  threaded_has c d (Threads place place' t v i j i' j' more more' x y p p' q q' k one other spread spread' small) all =
-      let a = four_parts (h t) (every f h p) (every f h q) (every f h (If place' (is_nonzero v) x y k)) all in
-      let b = four_parts (h (is_nonzero v)) (every f h x) (every f h y) (every f h k) a.3 in
-      four_from (h t) (every f h p') (every f h q') (every f h k) a.0 (led_has v x y b.1 b.2 i j p p' one a.1) (led_has v x y b.1 b.2 i' j' q q' other a.2) b.3
+  module _ (checks : (x : Operand) (n : ℕ) → f (Expect (InBounds x n)) ≡ true) where
+    pub threaded_has : (c d : Form) → IsThreaded c d → Has c → Has d
+    threaded_has c d (Unchanged c1) all = all
+    threaded_has c d (InTurn c1 d1 e1 one other) all = threaded_has d1 e1 other (threaded_has c1 d1 one all)
+    threaded_has c d (InRest place item k k' rest) all =
+        let a = and_parts (f item) (every f h k) all in
+        and_from (f item) (every f h k') a.0 (threaded_has k k' rest a.1)
+    threaded_has c d (InLists place t p p' q q' k k' one other rest) all =
+        let a = four_parts (h t) (every f h p) (every f h q) (every f h k) all in
+        four_from (h t) (every f h p') (every f h q') (every f h k') a.0 (threaded_has p p' one a.1) (threaded_has q q' other a.2) (threaded_has k k' rest a.3)
+    threaded_has c d (InLoop place p p' q q' k k' one other rest) all =
+        let a = three_parts (every f h p) (every f h q) (every f h k) all in
+        three_from (every f h p') (every f h q') (every f h k') (threaded_has p p' one a.0) (threaded_has q q' other a.1) (threaded_has k k' rest a.2)
+    threaded_has c d (Threads place place' t v i j i' j' more more' x y p p' q q' k one other spread spread' small) all =
+        let a = four_parts (h t) (every f h p) (every f h q) (every f h (If place' (is_nonzero v) x y k)) all in
+        let b = four_parts (h (is_nonzero v)) (every f h x) (every f h y) (every f h k) a.3 in
+        four_from (h t) (every f h p') (every f h q') (every f h k) a.0 (led_has v x y b.1 b.2 i j p p' one a.1) (led_has v x y b.1 b.2 i' j' q q' other a.2) b.3
+    threaded_has c d (ChecksFirst place place' v x n k near) all =
+        let a = three_parts (f (gives_sum v x n)) (f (Expect (Good B1 (Variable v)))) (every f h k) all in
+        three_from (f (Expect (InBounds x n))) (f (gives_sum v x n)) (every f h k) (checks x n) a.0 a.2
 
 -- ---- no Break or Continue of a loop outside
 
@@ -144,6 +159,7 @@ threaded_stays c d inside (Threads place place' t v i j i' j' more more' x y p p
     let a = three_parts (stays inside p) (stays inside q) (stays inside (If place' (is_nonzero v) x y k)) all in
     let b = three_parts (stays inside x) (stays inside y) (stays inside k) a.2 in
     three_from (stays inside p') (stays inside q') (stays inside k) (led_stays inside v x y b.0 b.1 i j p p' one a.0) (led_stays inside v x y b.0 b.1 i' j' q q' other a.1) b.2
+threaded_stays c d inside (ChecksFirst place place' v x n k near) all = all
 
 -- ---- its own list ends as before
 
@@ -154,3 +170,4 @@ threaded_closes c d (InRest place item k k' rest) = ap (λ (b : Bool). is_end it
 threaded_closes c d (InLists place t p p' q q' k k' one other rest) = threaded_closes k k' rest
 threaded_closes c d (InLoop place p p' q q' k k' one other rest) = threaded_closes k k' rest
 threaded_closes c d (Threads place place' t v i j i' j' more more' x y p p' q q' k one other spread spread' small) = refl
+threaded_closes c d (ChecksFirst place place' v x n k near) = refl

@@ -1,15 +1,20 @@
 -- Code in which conditions are threaded. Where an If gives a variable a number at each of its ends, and the If behind it tests
--- whether that variable isn't 0, this one goes: at each end the list stands that it would choose there. The code is no larger.
-use Rattle.std.specs.Prelude.{◌≡◌, ℕ, ◌+◌, ◌≤◌, Bool, true, false, nat_eq, if◌then◌else◌}
+-- whether that variable isn't 0, this one goes: at each end the list stands that it would choose there. The code is no larger. And
+-- where a variable gets a sum, and the byte there is checked next, the byte so many bytes behind what is added to is checked before.
+use Rattle.std.specs.Prelude.{◌≡◌, ℕ, ◌+◌, ◌≤◌, ◌<◌, Bool, true, false, nat_eq, if◌then◌else◌}
 use Rattle.dae_base.specs.declared.Place.{Place}
+use Rattle.dae_base.specs.declared.Width.TheVariants.{B1}
 use Rattle.dae_meaning.specs.declared.Comparison.TheVariants.{NotEqual}
+use Rattle.dae_meaning.specs.declared.Operator.TheVariants.{Add}
 use Rattle.dae_ir.specs.Code.{Done, Do, If, Loop}
 use Rattle.dae_ir.specs.Form.{Form}
+use Rattle.dae_ir.specs.declared.form.Operand.{Operand}
 use Rattle.dae_ir.specs.declared.form.Operand.TheVariants.{Variable, Number}
-use Rattle.dae_ir.specs.declared.form.Value.TheVariants.{Same}
+use Rattle.dae_ir.specs.declared.form.Value.TheVariants.{Same, Binary}
 use Rattle.dae_ir.specs.declared.form.Test.{Test}
+use Rattle.dae_ir.specs.declared.form.Check.TheVariants.{Place as Good, InBounds}
 use Rattle.dae_ir.specs.declared.form.Item.{Item}
-use Rattle.dae_ir.specs.declared.form.Item.TheVariants.{Assign, Load, Call}
+use Rattle.dae_ir.specs.declared.form.Item.TheVariants.{Assign, Load, Expect, Call}
 
 -- ---- one If behind another
 
@@ -59,9 +64,15 @@ pub data IsSpread : ℕ → Form → ℕ → Type 0 where
   OfNothing : (count : ℕ) → IsSpread count Done 0
   Doubled : (place : Place) (item : Item) → is_light item ≡ true → IsSpread 2 (Do place item Done) 1
 
+-- ---- a check behind a sum
+
+-- the variable gets the sum of an operand and a number
+abbrev pub gives_sum : ℕ → Operand → ℕ → Item
+gives_sum v x n = Assign v (Binary Add x (Number n))
+
 -- ---- code
 
--- The code, or what it becomes step by step, in its parts, or by one If that goes.
+-- The code, or what it becomes step by step, in its parts, by one If that goes, or by a check that comes before a sum.
 pub data IsThreaded : Form → Form → Type 0 where
   Unchanged : (c : Form) → IsThreaded c c
   InTurn : (c d e : Form) → IsThreaded c d → IsThreaded d e → IsThreaded c e
@@ -73,3 +84,5 @@ pub data IsThreaded : Form → Form → Type 0 where
   Threads : (place place' : Place) (t : Test) (v i j i' j' more more' : ℕ) (x y p p' q q' k : Form)
       → IsLed v x y i j p p' → IsLed v x y i' j' q q' → IsSpread (i + i') x more → IsSpread (j + j') y more' → more + more' ≤ 1
       → IsThreaded (If place t p q (If place' (is_nonzero v) x y k)) (If place t p' q' k)
+  ChecksFirst : (place place' : Place) (v : ℕ) (x : Operand) (n : ℕ) (k : Form) → n < 2048
+      → IsThreaded (Do place (gives_sum v x n) (Do place' (Expect (Good B1 (Variable v))) k)) (Do place' (Expect (InBounds x n)) (Do place (gives_sum v x n) k))

@@ -67,6 +67,10 @@ IsJoinedWith s v x y s' = (place : Place) (k : Form) → IsThreaded (before s (I
 abbrev pub IsJoined : (s t : Statement) → Statement → Type 0
 IsJoined s t s' = (k : Form) → IsThreaded (before s (before t k)) (before s' k)
 
+-- a statement that may come before s in place of t behind it
+abbrev pub IsMovedBefore : (s t : Statement) → Statement → Type 0
+IsMovedBefore s t t' = (k : Form) → IsThreaded (before s (before t k)) (before t' (before s k))
+
 -- ys are xs, behind which a statement came
 abbrev pub AreWithNext : (xs : List Statement) → Statement → List Statement → Type 0
 AreWithNext xs s ys = (k : Form) → IsThreaded (list_before xs (before s k)) (list_before ys k)

@@ -5,6 +5,7 @@ ghost use Rattle.dae_ir.specs.Form.{form_of};
 ghost use Rattle.dae_threads.specs.Threaded.{IsThreaded};
 ghost use Rattle.dae_threads.specs.Walked.{AreWithBoth, AreWithNext, IsThreadedTo};
 
+use crate::checking::check_of_sum;
 use crate::copying::copy_item;
 use crate::deciding::NotThreaded;
 use crate::leading::join_condition;
@@ -30,6 +31,20 @@ fn push_two(
     Ok(())
 }
 
+// Two statements come behind others, a check of a sum before the sum.
+fn push_apart(
+    out: &mut Vec<Statement>,
+    statement: Statement,
+    next: Statement,
+) -> Result<(), AllocError>
+    ensures { OnOk result (AreWithBoth out.old.items statement next out.new.items) }
+{
+    match check_of_sum(&statement, &next) {
+        Ok(check) => push_two(out, check, statement),
+        Err(_) => push_two(out, statement, next),
+    }
+}
+
 // Two statements come behind others, as one where they can be joined.
 fn push_pair(
     alloc: Global,
@@ -41,7 +56,7 @@ fn push_pair(
 {
     match join_condition(alloc, &statement, &next) {
         Ok(joined) => push_one(out, joined),
-        Err(NotThreaded::Kept) => push_two(out, statement, next),
+        Err(NotThreaded::Kept) => push_apart(out, statement, next),
         Err(NotThreaded::Memory) => Err(AllocError),
     }
 }

@@ -22,7 +22,8 @@ fn thread_function(alloc: Global, function: Function) -> Result<Function, AllocE
 }
 
 /// The form in which an If that tests what the If before it gave a variable goes, where each end of that one gave a number, and the
-/// code doesn't grow: the lists of the condition stand at those ends. The form is given up, also where memory is wanting.
+/// code doesn't grow: the lists of the condition stand at those ends. Checks of sums come before the sums. The form is given up, also
+/// where memory is wanting.
 #[tactic(auto, using(crate::proofs::Wholes::threaded_push))]
 pub fn thread_conditions(alloc: Global, ir: Ir) -> Result<Ir, AllocError>
     ensures { IfOk result (IsThreadingOf ir) }

@@ -12,7 +12,7 @@ use Rattle.dae_ir.specs.declared.form.Operand.TheVariants.{Variable, Number}
 use Rattle.dae_ir.specs.declared.form.Value.{Value}
 use Rattle.dae_ir.specs.declared.form.Value.TheVariants as val
 use Rattle.dae_ir.specs.declared.form.Test.{Test}
-use Rattle.dae_ir.specs.declared.form.Check.TheVariants.{Place as Good, Zero, Room, Frame, Abort}
+use Rattle.dae_ir.specs.declared.form.Check.TheVariants.{Place as Good, InBounds, Zero, Room, Frame, Abort}
 use Rattle.dae_ir.specs.declared.form.Function.{Function}
 use Rattle.dae_ir.specs.declared.form.Item.{Item}
 use Rattle.dae_ir.specs.declared.form.Item.TheVariants.{Assign, Load, Store, Print, Expect, Break, Continue, Call, Return, Halt}
@@ -151,6 +151,7 @@ module _ (functions : List Function) (p q : Program) (own limit : ℕ → ℕ) (
       item_kept (Store width x y) z m i o d h = operand_kept m o x i.0 h
       item_kept (Print spelling x) z m i o d h = tt
       item_kept (Expect (Good width x)) z m i o d h = operand_kept m o x i h
+      item_kept (Expect (InBounds x offset)) z m i o d h = operand_kept m o x i.0 h
       item_kept (Expect (Zero x)) z m i o d h = tt
       item_kept (Expect (Room g)) z m i o d h = tt
       item_kept (Expect Frame) z m i o d h = tt

@@ -12,7 +12,7 @@ use Rattle.dae_ir.specs.declared.form.Value.{Value}
 use Rattle.dae_ir.specs.declared.form.Value.TheVariants as val
 use Rattle.dae_ir.specs.declared.form.Test.{Test}
 use Rattle.dae_ir.specs.declared.form.Check.{Check}
-use Rattle.dae_ir.specs.declared.form.Check.TheVariants.{Place as Good, Zero, Room, Frame, Abort}
+use Rattle.dae_ir.specs.declared.form.Check.TheVariants.{Place as Good, InBounds, Zero, Room, Frame, Abort}
 use Rattle.dae_ir.specs.declared.form.Item.{Item}
 use Rattle.dae_ir.specs.declared.form.Item.TheVariants.{Assign, Load, Store, Print, Expect, Break, Continue, Call, Return, Halt}
 use Rattle.dae_webs.specs.Current.{Current, web_of, is_web, has_web, or_own, written_as, own_webs}
@@ -57,6 +57,7 @@ module _ (m : Current) (d e : VariableSet) (c : Carries m d e) where
 
   check_has : (check : Check) → has_check (has_web m) check ≡ true → has_check d check ≡ true → has_check e (renamed_check m check) ≡ true
   check_has (Good width x) there h = operand_has x there h
+  check_has (InBounds x offset) there h = operand_has x there h
   check_has (Zero x) there h = operand_has x there h
   check_has (Room g) there h = refl
   check_has Frame there h = refl

@@ -11,7 +11,7 @@ use Rattle.dae_ir.specs.declared.form.Operand.TheVariants.{Variable, Number}
 use Rattle.dae_ir.specs.declared.form.Value.{Value}
 use Rattle.dae_ir.specs.declared.form.Value.TheVariants as val
 use Rattle.dae_ir.specs.declared.form.Test.{Test}
-use Rattle.dae_ir.specs.declared.form.Check.TheVariants.{Place as Good, Zero, Room, Frame, Abort}
+use Rattle.dae_ir.specs.declared.form.Check.TheVariants.{Place as Good, InBounds, Zero, Room, Frame, Abort}
 use Rattle.dae_ir.specs.declared.form.Function.{Function}
 use Rattle.dae_ir.specs.declared.form.Item.{Item}
 use Rattle.dae_ir.specs.declared.form.Item.TheVariants.{Assign, Load, Store, Print, Expect, Break, Continue, Call, Return, Halt}
@@ -54,6 +54,7 @@ module _ (fs gs : List Function) (keeps : KeepsArguments fs gs) (own limit : ℕ
   item_in (Store width x y) o m i all d = (operand_in m all x i.0, operand_in m all y i.1)
   item_in (Print spelling x) o m i all d = operand_in m all x i
   item_in (Expect (Good width x)) o m i all d = operand_in m all x i
+  item_in (Expect (InBounds x offset)) o m i all d = (operand_in m all x i.0, i.1)
   item_in (Expect (Zero x)) o m i all d = operand_in m all x i
   item_in (Expect (Room g)) o m i all d = subst (λ (n : ℕ). g < n) (sym keeps.count) i
   item_in (Expect Frame) o m i all d = tt

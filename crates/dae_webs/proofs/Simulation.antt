@@ -2,7 +2,8 @@
 use Rattle.std.proofs.Common.{◌≡◌, ℕ, zero, suc, ◌+◌, ◌<◌, ◌≤◌, Bool, true, false, ◌||◌, nat_eq, if◌then◌else◌, List, [], ◌∷◌, length, Option, Some, None, inl, inr, refl, ap, sym, ◌∙◌, subst, arith}
 use Rattle.std.proofs.lemmas.Bool.{eqb-true, eq-eqb, and_parts}
 use Rattle.std.specs.Prelude.{nat_lt}
-use Rattle.dae_base.specs.Words.{width_of, loaded, extended}
+use Rattle.dae_base.specs.Words.{plus, width_of, loaded, extended}
+use Rattle.dae_base.specs.declared.Width.TheVariants.{B1}
 use Rattle.dae_meaning.specs.Worlds.{World, ticked, fetched, back}
 use Rattle.dae_meaning.specs.Results.{End, Result, At, Over, Next, Leaves, Skips, Returns, Way, Halted, Trapped, Going, Astray, Run, ◌▷◌, ◌↻◌, turns, within, checked}
 use Rattle.dae_meaning.specs.Variables.{Env, put, entered}
@@ -18,7 +19,7 @@ use Rattle.dae_ir.specs.declared.form.Value.{Value}
 use Rattle.dae_ir.specs.declared.form.Value.TheVariants as val
 use Rattle.dae_ir.specs.declared.form.Test.{Test}
 use Rattle.dae_ir.specs.declared.form.Check.{Check}
-use Rattle.dae_ir.specs.declared.form.Check.TheVariants.{Place as Good, Zero, Room, Frame, Abort}
+use Rattle.dae_ir.specs.declared.form.Check.TheVariants.{Place as Good, InBounds, Zero, Room, Frame, Abort}
 use Rattle.dae_ir.specs.declared.form.Function.{Function}
 use Rattle.dae_ir.specs.declared.form.Item.{Item}
 use Rattle.dae_ir.specs.declared.form.Item.TheVariants.{Assign, Load, Store, Print, Expect, Break, Continue, Call, Return, Halt}
@@ -206,6 +207,7 @@ module _ (owner : ℕ → ℕ) (limit : ℕ) where
 
       same_fault : (check : Check) (m : Current) (e f : Env) (w : World) → Agree m e f → has_check (has_web m) check ≡ true → fault q (renamed_check m check) w f ≡ fault p check w e
       same_fault (Good width x) m e f w a h = ap (λ (y : ℕ). misplaced width y (length w.memory)) (value_same m e f a x h)
+      same_fault (InBounds x offset) m e f w a h = ap (λ (y : ℕ). misplaced B1 (plus y offset) (length w.memory)) (value_same m e f a x h)
       same_fault (Zero x) m e f w a h = ap (λ (y : ℕ). if nat_eq y 0 then Some 1 else None) (value_same m e f a x h)
       same_fault (Room g) m e f w a h = same_room g e f w
       same_fault Frame m e f w a h = refl

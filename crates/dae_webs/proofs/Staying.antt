@@ -12,7 +12,7 @@ use Rattle.dae_ir.specs.declared.form.Value.{Value}
 use Rattle.dae_ir.specs.declared.form.Value.TheVariants as val
 use Rattle.dae_ir.specs.declared.form.Test.{Test}
 use Rattle.dae_ir.specs.declared.form.Check.{Check}
-use Rattle.dae_ir.specs.declared.form.Check.TheVariants.{Place as Good, Zero, Room, Frame, Abort}
+use Rattle.dae_ir.specs.declared.form.Check.TheVariants.{Place as Good, InBounds, Zero, Room, Frame, Abort}
 use Rattle.dae_ir.specs.declared.form.Function.{Function}
 use Rattle.dae_ir.specs.declared.form.Item.{Item}
 use Rattle.dae_ir.specs.declared.form.Item.TheVariants.{Assign, Load, Store, Print, Expect, Break, Continue, Call, Return, Halt}
@@ -86,6 +86,7 @@ module _ (own : ℕ) where
 
   check_same : (check : Check) → renamed_check webs check ≡ check
   check_same (Good width x) = rw (operand_same x) refl
+  check_same (InBounds x offset) = rw (operand_same x) refl
   check_same (Zero x) = rw (operand_same x) refl
   check_same (Room g) = refl
   check_same Frame = refl
@@ -141,6 +142,7 @@ module _ (own : ℕ) where
     item_has (Store width x y) i = ((operand_has x i.0, operand_has y i.1), tt)
     item_has (Print spelling x) i = (operand_has x i, tt)
     item_has (Expect (Good width x)) i = (operand_has x i, tt)
+    item_has (Expect (InBounds x offset)) i = (operand_has x i.0, tt)
     item_has (Expect (Zero x)) i = (operand_has x i, tt)
     item_has (Expect (Room g)) i = (refl, tt)
     item_has (Expect Frame) i = (refl, tt)

@@ -11,7 +11,7 @@ use Rattle.dae_ir.specs.declared.form.Value.{Value}
 use Rattle.dae_ir.specs.declared.form.Value.TheVariants.{Same, Extended, Binary, Holds, FrameAddress}
 use Rattle.dae_ir.specs.declared.form.Test.{Test}
 use Rattle.dae_ir.specs.declared.form.Check.{Check}
-use Rattle.dae_ir.specs.declared.form.Check.TheVariants.{Place, Zero, Room, Frame, Abort}
+use Rattle.dae_ir.specs.declared.form.Check.TheVariants.{Place, InBounds, Zero, Room, Frame, Abort}
 use Rattle.dae_ir.specs.declared.form.Item.{Item}
 use Rattle.dae_ir.specs.declared.form.Item.TheVariants.{Assign, Load, Store, Print, Expect, Break, Continue, Call, Return, Halt}
 use Rattle.dae_webs.specs.Current.{Current, written_as}
@@ -42,6 +42,7 @@ renamed_value m (FrameAddress offset) = FrameAddress offset
 
 abbrev pub renamed_check : Current → Check → Check
 renamed_check m (Place width x) = Place width (renamed_operand m x)
+renamed_check m (InBounds x offset) = InBounds (renamed_operand m x) offset
 renamed_check m (Zero x) = Zero (renamed_operand m x)
 renamed_check m (Room f) = Room f
 renamed_check m Frame = Frame

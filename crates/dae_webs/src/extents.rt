@@ -65,6 +65,7 @@ fn note_value(extents: &mut Extents, value: Value) {
 fn note_check(extents: &mut Extents, check: Check) {
     match check {
         Check::Place(_, x) => note_operand(extents, x),
+        Check::InBounds(x, _) => note_operand(extents, x),
         Check::Zero(x) => note_operand(extents, x),
         Check::Room(_) | Check::Frame | Check::Abort => {}
     }

@@ -82,6 +82,7 @@ fn bits_in_value(bits: &[u64], value: Value) -> u64 {
 fn bits_in_check(bits: &[u64], check: Check) -> u64 {
     match check {
         Check::Place(_, x) => bit_in(bits, x),
+        Check::InBounds(x, _) => bit_in(bits, x),
         Check::Zero(x) => bit_in(bits, x),
         _ => 0,
     }

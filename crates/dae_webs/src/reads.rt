@@ -76,6 +76,10 @@ pub fn rename_check(webs: &[Option<u32>], check: Check) -> Result<Check, NotRena
             let x = rename_operand(webs, x)?;
             Ok(Check::Place(width, x))
         }
+        Check::InBounds(x, offset) => {
+            let x = rename_operand(webs, x)?;
+            Ok(Check::InBounds(x, offset))
+        }
         Check::Zero(x) => {
             let x = rename_operand(webs, x)?;
             Ok(Check::Zero(x))

@@ -1,5 +1,5 @@
 use Rattle.std.proofs.lemmas.Result.{on_ok_weaker}
-use Rattle.dae_threads.proofs.Walked.{joined_pair, apart_pair}
+use Rattle.dae_threads.proofs.Walked.{joined_pair}
 use Rattle.dae_threads.proofs.threading.push_pair.Goals as goal
 
 pub returns-in-Ok : goal.returns-in-Ok
@@ -8,5 +8,4 @@ returns-in-Ok c =
     (λ h. joined_pair c.args.out.now.items c.args.statement c.args.next c.in-Ok.joined c.push_one.new.out.items c.in-Ok.ensures h) c.push_one.ensures
 
 pub returns-in-Err-Kept : goal.returns-in-Err-Kept
-returns-in-Err-Kept c =
-    on_ok_weaker c.push_two.result (λ h. apart_pair c.args.out.now.items c.args.statement c.args.next c.push_two.new.out.items h) c.push_two.ensures
+returns-in-Err-Kept c = c.push_apart.ensures
