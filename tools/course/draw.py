@@ -13,7 +13,7 @@ import tempfile
 TOP = os.path.dirname(os.path.dirname(os.path.dirname(os.path.realpath(__file__))))
 # Each picture: its name, and the words of tools/see/see.py before the image of a program.
 PICTURES = (
-    ("dot_pipeline", "dot", ("pipeline", "--load=64", "--from=6000", "--to=6150")),
+    ("dot_pipeline", "dot", ("pipeline", "--load=64", "--from=5000", "--to=5150")),
     ("greatest_waits_pipeline", "greatest_waits", ("pipeline", "--load=64", "--from=8000", "--to=8300")),
     ("gather_lines", "gather", ("lines", "--load=64")),
     ("histogram_queues", "histogram", ("queues", "--load=8", "--from=3000", "--to=3300")),
