@@ -4,6 +4,6 @@ mod Scoping
 mod Ordering
 mod Counts
 mod Programs
-mod Deciding
+mod Tried
 mod Walked
 mod Wholes

@@ -113,20 +113,20 @@ module _ (v : ℕ) (x y : Form) where
       → Led i j (before s Done) (form_of led) → out ≡ front ++ led → Led i j (form_of ss) (form_of out)
   led_list ss s i j front led out some is copied h joined = led_at ss (length ss - 1) s i j front led out (omega (arith, some)) (omega arith) is copied h joined
 
-list_of : (yes no : List Statement) (b : Bool) → list_before (if b then no else yes) Done ≡ (if b then form_of no else form_of yes)
-list_of yes no true = sym (list_form no)
-list_of yes no false = sym (list_form yes)
+list_of : (taken skipped : List Statement) (b : Bool) → list_before (if b then skipped else taken) Done ≡ (if b then form_of skipped else form_of taken)
+list_of taken skipped true = sym (list_form skipped)
+list_of taken skipped false = sym (list_form taken)
 
 -- an end, behind which the list is copied that is for its number
-pub led_end : (v n : ℕ) (place : Place) (yes no none first out : List Statement) (a b : ℕ) → none ≡ [] → first ≡ none ++ statement.Simple place (gives_number v n) ∷ [] → AreCopiedBehind first (if nat_eq n 0 then no else yes) out
-    → a ≡ firsts n → b ≡ seconds n → IsLed v (form_of yes) (form_of no) a b (Do place (gives_number v n) Done) (form_of out)
-led_end v n place yes no none first out a b is longer copied one_is other_is =
-    let x : Form = form_of yes in
-    let y : Form = form_of no in
-    let chosen : List Statement = if nat_eq n 0 then no else yes in
+pub led_end : (v n : ℕ) (place : Place) (taken skipped none first out : List Statement) (a b : ℕ) → none ≡ [] → first ≡ none ++ statement.Simple place (gives_number v n) ∷ [] → AreCopiedBehind first (if nat_eq n 0 then skipped else taken) out
+    → a ≡ firsts n → b ≡ seconds n → IsLed v (form_of taken) (form_of skipped) a b (Do place (gives_number v n) Done) (form_of out)
+led_end v n place taken skipped none first out a b is longer copied one_is other_is =
+    let x : Form = form_of taken in
+    let y : Form = form_of skipped in
+    let chosen : List Statement = if nat_eq n 0 then skipped else taken in
     let begins : first ≡ statement.Simple place (gives_number v n) ∷ [] = longer ∙ ap (λ (l : List Statement). l ++ statement.Simple place (gives_number v n) ∷ []) is in
     let code : form_of out ≡ Do place (gives_number v n) (list_for n x y) =
-    list_form out ∙ copied Done ∙ ap (λ (l : List Statement). list_before l (list_before chosen Done)) begins ∙ ap (λ (c : Form). Do place (gives_number v n) c) (list_of yes no (nat_eq n 0)) in
+    list_form out ∙ copied Done ∙ ap (λ (l : List Statement). list_before l (list_before chosen Done)) begins ∙ ap (λ (c : Form). Do place (gives_number v n) c) (list_of taken skipped (nat_eq n 0)) in
     subst (λ (d : Form). IsLed v x y a b (Do place (gives_number v n) Done) d) (sym code)
     (subst (λ (i : ℕ). IsLed v x y i b (Do place (gives_number v n) Done) (Do place (gives_number v n) (list_for n x y))) (sym one_is)
     (subst (λ (j : ℕ). IsLed v x y (firsts n) j (Do place (gives_number v n) Done) (Do place (gives_number v n) (list_for n x y))) (sym other_is) (LedTo place n)))
@@ -156,13 +156,13 @@ if_joined v x y place t p q p' q' i j i' j' a b more more' first second one_is o
     (Threads place place' t v i j i' j' more more' x y (form_of p.items) (form_of p'.items) (form_of q.items) (form_of q'.items) k first second
     (subst (λ (n : ℕ). IsSpread n x more) one_is spread) (subst (λ (n : ℕ). IsSpread n y more') other_is spread') small)
 
-pub condition_joined : (s : Statement) (v : ℕ) (place : Place) (t : Test) (yes no : Vec Statement Global) (xs ys : List Statement) (s' : Statement) → xs ≡ yes.items → ys ≡ no.items → t ≡ is_nonzero v
-    → IsJoinedWith s v (form_of xs) (form_of ys) s' → IsJoined s (statement.If place t yes no) s'
-condition_joined s v place t yes no xs ys s' e f is joined k =
-    let condition : before (statement.If place t yes no) k ≡ If place (is_nonzero v) (form_of xs) (form_of ys) k =
-    before_if place t yes no k
-    ∙ ap (λ (z : Test). If place z (form_of yes.items) (form_of no.items) k) is
-    ∙ ap (λ (l : List Statement). If place (is_nonzero v) (form_of l) (form_of no.items) k) (sym e)
+pub condition_joined : (s : Statement) (v : ℕ) (place : Place) (t : Test) (taken skipped : Vec Statement Global) (xs ys : List Statement) (s' : Statement) → xs ≡ taken.items → ys ≡ skipped.items → t ≡ is_nonzero v
+    → IsJoinedWith s v (form_of xs) (form_of ys) s' → IsJoined s (statement.If place t taken skipped) s'
+condition_joined s v place t taken skipped xs ys s' e f is joined k =
+    let condition : before (statement.If place t taken skipped) k ≡ If place (is_nonzero v) (form_of xs) (form_of ys) k =
+    before_if place t taken skipped k
+    ∙ ap (λ (z : Test). If place z (form_of taken.items) (form_of skipped.items) k) is
+    ∙ ap (λ (l : List Statement). If place (is_nonzero v) (form_of l) (form_of skipped.items) k) (sym e)
     ∙ ap (λ (l : List Statement). If place (is_nonzero v) (form_of xs) (form_of l) k) (sym f) in
     subst (λ (c : Form). IsThreaded (before s c) (before s' k)) (sym condition) (joined place k)
 

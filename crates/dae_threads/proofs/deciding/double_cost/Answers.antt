@@ -2,7 +2,7 @@ use Rattle.std.proofs.Common.{sym, subst}
 use Rattle.std.proofs.lemmas.Result.{IfOk-weaker}
 use Rattle.dae_ir.specs.Form.{Form}
 use Rattle.dae_threads.specs.Threaded.{IsSpread}
-use Rattle.dae_threads.proofs.Deciding.{alone_is}
+use Rattle.dae_threads.proofs.Tried.{alone_is}
 use Rattle.dae_threads.proofs.deciding.double_cost.Goals as goal
 
 pub returns-then-statements-eq1 : goal.returns-then-statements-eq1

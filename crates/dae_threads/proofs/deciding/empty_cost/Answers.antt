@@ -1,6 +1,6 @@
 use Rattle.std.proofs.Common.{◌≡◌, length, arith}
 use Rattle.std.proofs.lemmas.Bool.Decides.{nat_tests}
-use Rattle.dae_threads.proofs.Deciding.{spread_empty}
+use Rattle.dae_threads.proofs.Tried.{spread_empty}
 use Rattle.dae_threads.proofs.deciding.empty_cost.Goals as goal
 
 pub returns-then-is_empty : goal.returns-then-is_empty

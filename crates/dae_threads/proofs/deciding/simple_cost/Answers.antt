@@ -1,5 +1,5 @@
 use Rattle.std.proofs.Common.{sym, ◌∙◌}
-use Rattle.dae_threads.proofs.Deciding.{spread_simple}
+use Rattle.dae_threads.proofs.Tried.{spread_simple}
 use Rattle.dae_threads.proofs.deciding.simple_cost.Goals as goal
 
 pub returns-then-is_light : goal.returns-then-is_light

@@ -6,7 +6,7 @@ use Rattle.dae_ir.specs.declared.form.Item.{Item}
 use Rattle.dae_ir.specs.declared.form.Statement.{Statement}
 use Rattle.dae_threads.specs.declared.leading.LedList.{LedList}
 use Rattle.dae_threads.specs.Walked.{AreLed}
-use Rattle.dae_threads.proofs.Deciding.{given_is}
+use Rattle.dae_threads.proofs.Tried.{given_is}
 use Rattle.dae_threads.proofs.Walked.{led_if, led_list}
 use Rattle.dae_threads.proofs.leading.+lead.Goals as goal
 

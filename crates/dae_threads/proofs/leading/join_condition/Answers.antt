@@ -1,7 +1,7 @@
 use Rattle.std.proofs.Common.{sym, subst}
 use Rattle.dae_ir.specs.declared.form.Statement.{Statement}
 use Rattle.dae_threads.specs.Walked.{IsJoined}
-use Rattle.dae_threads.proofs.Deciding.{tested_is}
+use Rattle.dae_threads.proofs.Tried.{tested_is}
 use Rattle.dae_threads.proofs.Walked.{condition_joined}
 use Rattle.dae_threads.proofs.leading.join_condition.Goals as goal
 
