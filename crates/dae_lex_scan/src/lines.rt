@@ -61,17 +61,6 @@ fn spot_behind_byte(spot: Spot, byte: u8) -> Spot
     }
 }
 
-/// An empty list with room for so many items.
-fn room_for<T>(alloc: Global, count: usize) -> Result<Vec<T>, LexError>
-    ensures ok { IfOk result (λ list. list.items ≡ []) }
-    ensures err { IfErr result (λ e. e ≡ Memory) }
-{
-    match Vec::with_capacity(alloc, count) {
-        Ok(list) => Ok(list),
-        Err(_) => Err(LexError::Memory),
-    }
-}
-
 /// The characters of the text, lines joined. Only memory can be wanting.
 pub fn join_lines(alloc: Global, file: u16, text: &[u8]) -> Result<Joined, LexError>
     requires { length text.now ≤ 1048576 }
@@ -83,8 +72,8 @@ pub fn join_lines(alloc: Global, file: u16, text: &[u8]) -> Result<Joined, LexEr
         (λ joined. joined.end ≡ (spot_behind (start_of file) text.now).place) }
     ensures err { IfErr result (λ e. e ≡ Memory) }
 {
-    let mut bytes = room_for(alloc, text.len())?;
-    let mut spots = room_for(alloc, text.len())?;
+    let mut bytes = Vec::new(alloc);
+    let mut spots = Vec::new(alloc);
     let mut spot = Spot {
         offset: 0,
         place: Place {

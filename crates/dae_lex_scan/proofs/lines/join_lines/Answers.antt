@@ -11,8 +11,8 @@ loop-i-init c =
     let e = from_start c.args.file c.args.text.now in
     record {
       within = record { offset = refl; line = omega arith; col = omega arith };
-      bytes = cc (ap bytes_of e, c.in_ok-bytes.ensures.ok);
-      spots = cc (ap spots_of e, c.in_ok-spots.ensures.ok);
+      bytes = cc (ap bytes_of e, c.new-bytes.ensures.items);
+      spots = cc (ap spots_of e, c.new-spots.ensures.items);
       behind = refl;
     }
 
