@@ -12,6 +12,7 @@ ghost use Rattle.dae_select_values.specs.Sides.{is_a};
 ghost use Rattle.dae_select_values.specs.Tables.{AreNear, home_by};
 ghost use Rattle.dae_select_live.specs.Members.{member};
 
+use crate::layouts::Layouts;
 use crate::making::Making;
 use crate::passing::{arguments_code, kept_at, parameters_code};
 use dae_base::Side;
