@@ -119,6 +119,15 @@ pub fn extend(kind: LoadKind, word: u32) -> u32
     }
 }
 
+/// Two to a power.
+pub fn power_of_two(exponent: u32) -> u32
+    requires { exponent < 32 }
+    ensures is { result ≡ 2 ^ exponent }
+    ensures some { 0 < result }
+{
+    1 << exponent
+}
+
 fn sign_extend(bits: u32, low: u32) -> u32
     requires width { bits ≤ 16 }
     requires some { 0 < bits }

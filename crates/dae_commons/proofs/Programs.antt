@@ -5,7 +5,8 @@ use Rattle.std.specs.List.{AllByRecursion}
 use Rattle.dae_meaning.specs.Worlds.{World}
 use Rattle.dae_ir.specs.Code.{Each}
 use Rattle.dae_ir.specs.Form.{Form, form_of, calls_of, all_loads}
-use Rattle.dae_ir.specs.Classes.{VariableSet, Classes, AddressesKept, AreAddressesClosed, classes_of, is_by_a}
+use Rattle.dae_ir.specs.Classes.{VariableSet, Classes, AddressesKept, AreAddressesClosed, classes_of, is_by_a, rows_behind}
+use Rattle.dae_ir.proofs.Laws.{classes_behind}
 use Rattle.dae_ir.specs.Programs.{body_in, frame_in, program_of, outcome, start}
 use Rattle.dae_ir.specs.Rounds.{stays}
 use Rattle.dae_ir.specs.Sizes.{bit, is_load_into, own_loads, conditions_a}
@@ -16,7 +17,7 @@ use Rattle.dae_ir.specs.declared.form.Ir.{Ir}
 use Rattle.dae_ir.specs.declared.form.Item.TheVariants.{Assign, Load, Store, Print, Expect, Break, Continue, Call, Return, Halt}
 use Rattle.dae_ir.specs.declared.stream.Class.{Class}
 use Rattle.dae_commons.specs.Commoned.{commoned_code}
-use Rattle.dae_commons.specs.Forms.{IsCommonedFunction, rows_behind, AreCommonedFunctions, IsCommoningOf, FormsAreCommoned}
+use Rattle.dae_commons.specs.Forms.{IsCommonedFunction, AreCommonedFunctions, IsCommoningOf, FormsAreCommoned}
 use Rattle.dae_commons.specs.Laws.{CountsAlike}
 use Rattle.dae_commons.proofs.Meaning.{calls_same}
 use Rattle.dae_commons.proofs.Accesses.{test_same, code_kept}
@@ -26,10 +27,6 @@ use Rattle.dae_commons.proofs.Counts.{tally_same}
 
 -- ---- the functions, one by one
 
-row_next : (tables : List (List Class)) (k : ℕ) → classes_of (rows_behind tables) k ≡ classes_of tables (suc k)
-row_next [] k = refl
-row_next (row ∷ tables) k = refl
-
 body_at : (tables : List (List Class)) (fs gs : List Function) → AreCommonedFunctions tables fs gs → (k : ℕ)
     → body_in (slice_get gs k) ≡ commoned_code (classes_of tables k) [] (body_in (slice_get fs k))
 body_at tables [] [] a k = refl
@@ -37,7 +34,7 @@ body_at tables [] (g ∷ gs) a k = absurd a
 body_at tables (f ∷ fs) [] a k = absurd a
 body_at tables (f ∷ fs) (g ∷ gs) a zero = let h = a.0 in h.body
 body_at tables (f ∷ fs) (g ∷ gs) a (suc k) =
-    body_at (rows_behind tables) fs gs a.1 k ∙ ap (λ (c : Classes). commoned_code c [] (body_in (slice_get fs k))) (row_next tables k)
+    body_at (rows_behind tables) fs gs a.1 k ∙ ap (λ (c : Classes). commoned_code c [] (body_in (slice_get fs k))) (classes_behind tables k)
 
 frames_same : (tables : List (List Class)) (fs gs : List Function) → AreCommonedFunctions tables fs gs → (k : ℕ) → frame_in (slice_get gs k) ≡ frame_in (slice_get fs k)
 frames_same tables [] [] a k = refl

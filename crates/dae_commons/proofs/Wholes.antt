@@ -1,14 +1,11 @@
 -- Functions are added one after the other, each by its row of the tables.
 use Rattle.std.proofs.Common.{◌≡◌, ℕ, suc, List, [], ◌∷◌, ◌++◌, length, refl, sym, ◌∙◌, subst}
 use Rattle.std.specs.Prelude.{slice_get}
-use Rattle.dae_ir.specs.Classes.{classes_in, row_of}
+use Rattle.dae_ir.specs.Classes.{classes_in, row_of, rows_behind}
+use Rattle.dae_ir.proofs.Laws.{row_behind}
 use Rattle.dae_ir.specs.declared.form.Function.{Function}
 use Rattle.dae_ir.specs.declared.stream.Class.{Class}
-use Rattle.dae_commons.specs.Forms.{IsCommonedFunction, rows_behind, AreCommonedFunctions}
-
-row_behind : (tables : List (List Class)) (k : ℕ) → row_of (slice_get tables (suc k)) ≡ row_of (slice_get (rows_behind tables) k)
-row_behind [] k = refl
-row_behind (row ∷ tables) k = refl
+use Rattle.dae_commons.specs.Forms.{IsCommonedFunction, AreCommonedFunctions}
 
 pushed : (tables : List (List Class)) (fs gs : List Function) (f g : Function) (row : List Class) → AreCommonedFunctions tables fs gs
     → row ≡ row_of (slice_get tables (length gs)) → IsCommonedFunction (classes_in row) f g → AreCommonedFunctions tables (fs ++ f ∷ []) (gs ++ g ∷ [])

@@ -2,7 +2,7 @@
 use Rattle.std.specs.Prelude.{◌≡◌, ℕ, List, [], ◌∷◌, slice_get, Some}
 use Rattle.std.specs.List.{AllByRecursion}
 use Rattle.dae_ir.specs.Form.{form_of}
-use Rattle.dae_ir.specs.Classes.{Classes, AreAddressesClosed, classes_of}
+use Rattle.dae_ir.specs.Classes.{Classes, AreAddressesClosed, classes_of, rows_behind}
 use Rattle.dae_ir.specs.Programs.{outcome, program_of}
 use Rattle.dae_ir.specs.Scope.{IsScoped}
 use Rattle.dae_ir.specs.SetFirst.{IsFunctionSetFirst}
@@ -19,10 +19,6 @@ pub record IsCommonedFunction (c : Classes) (f g : Function) : Type 0 where
   pub variables : g.variables ≡ f.variables
   pub frame : g.frame ≡ f.frame
   pub body : form_of g.body ≡ commoned_code c [] (form_of f.body)
-
-abbrev pub rows_behind : List (List Class) → List (List Class)
-rows_behind [] = []
-rows_behind (row ∷ tables) = tables
 
 -- each by its row of the tables
 abbrev pub AreCommonedFunctions : List (List Class) → List Function → List Function → Type 0

@@ -8,7 +8,7 @@ use Rattle.dae_meaning.specs.Variables.{Env}
 use Rattle.dae_meaning.specs.Worlds.{World}
 use Rattle.dae_meaning.proofs.Laws.{alike_then, alike_weaker}
 use Rattle.dae_ir.specs.Form.{Form, form_of}
-use Rattle.dae_ir.specs.Classes.{Classes, AreAddressesClosed, IsWithin, classes_of, is_by_a}
+use Rattle.dae_ir.specs.Classes.{Classes, AreAddressesClosed, IsWithin, classes_of, is_by_a, rows_behind}
 use Rattle.dae_ir.specs.Laws.{SameVariables}
 use Rattle.dae_ir.specs.Programs.{AreClassesOf, outcome, program_of}
 use Rattle.dae_ir.specs.Scope.{IsScoped}
@@ -20,8 +20,8 @@ use Rattle.dae_ir.specs.declared.stream.Class.{Class}
 use Rattle.dae_alias.specs.Forms.{KeepsForm, IsReuseOf}
 use Rattle.dae_alias.specs.Laws.{counted, Cheaper, Costs, SameResult}
 use Rattle.dae_alias.proofs.Slices.{bit_within, load_within, tally_within, test_within}
-use Rattle.dae_commons.specs.Forms.{rows_behind, AreCommonedFunctions, FormsAreCommoned, KeepsOutcomes}
-use Rattle.dae_hoist.specs.Forms.{further_rows, AreHoistedFunctions, IsHoistOf, KeepsWithRows, FormsAreHoisted}
+use Rattle.dae_commons.specs.Forms.{AreCommonedFunctions, FormsAreCommoned, KeepsOutcomes}
+use Rattle.dae_hoist.specs.Forms.{AreHoistedFunctions, IsHoistOf, KeepsWithRows, FormsAreHoisted}
 use Rattle.dae_elide.specs.Forms.{AreElidedFunctions, IsElisionOf, ChecksAreElided}
 use Rattle.dae_threads.specs.Forms.{AreThreadedFunctions, IsThreadingOf, HasNoMoreItems, FormsAreThreaded}
 use Rattle.dae_threads.proofs.Items.{no_more, items_then}
@@ -177,7 +177,7 @@ hoisted_there tables [] (f ∷ fs) gs a k h at = absurd a
 hoisted_there tables (row ∷ rows) [] gs a k f at = absurd (let c : None ≡ Some f = at in cc)
 hoisted_there tables (row ∷ rows) (f ∷ fs) [] a k h at = absurd a
 hoisted_there tables (row ∷ rows) (f ∷ fs) (g ∷ gs) a zero h at = (g, refl)
-hoisted_there tables (row ∷ rows) (f ∷ fs) (g ∷ gs) a (suc k) h at = hoisted_there (further_rows tables) rows fs gs a.1 k h at
+hoisted_there tables (row ∷ rows) (f ∷ fs) (g ∷ gs) a (suc k) h at = hoisted_there (rows_behind tables) rows fs gs a.1 k h at
 
 -- by the least classes, which are within all sets that keep what leads to addresses
 module _ (tables rows : List (List Class)) (ir mid new : Ir) (least : AreClassesOf ir tables) (hoist : IsHoistOf tables rows ir mid) (one : KeepsWithRows tables rows ir mid) (other : KeepsOutcomes rows mid new) where

@@ -4,7 +4,7 @@ use Rattle.std.proofs.Common.{◌≡◌, ℕ, ◌+◌, ◌-◌, ◌*◌, ◌^◌
 use Rattle.std.proofs.lemmas.Bool.{lt-ltb}
 use Rattle.std.specs.List.{AllByRecursion, list_all}
 use Rattle.dae_ir.specs.Code.{Done, Do, If, Loop}
-use Rattle.dae_ir.specs.Classes.{VariableSet, Classes, classes_of}
+use Rattle.dae_ir.specs.Classes.{VariableSet, Classes, classes_of, rows_behind}
 use Rattle.dae_ir.specs.Form.{Form, form_of}
 use Rattle.dae_ir.specs.Sizes.{bit, form_size, is_load_into, item_weight}
 use Rattle.dae_ir.specs.declared.form.Function.{Function}
@@ -18,9 +18,9 @@ use Rattle.dae_alias.specs.Laws.{ReuseStaysSmall}
 use Rattle.dae_alias.specs.Reuse.{loads_in as reuse_loads, reused}
 use Rattle.dae_alias.specs.Stretches.{nothing}
 use Rattle.dae_commons.specs.Commoned.{commoned_code}
-use Rattle.dae_commons.specs.Forms.{rows_behind, AreCommonedFunctions, IsCommonedFunction}
+use Rattle.dae_commons.specs.Forms.{AreCommonedFunctions, IsCommonedFunction}
 use Rattle.dae_commons.specs.Laws.{CommoningKeepsCounts, CountsAlike}
-use Rattle.dae_hoist.specs.Forms.{IsHoistedOrSame, further_rows, addresses_in, first_addresses, AreHoistedFunctions}
+use Rattle.dae_hoist.specs.Forms.{IsHoistedOrSame, addresses_in, first_addresses, AreHoistedFunctions}
 use Rattle.dae_hoist.specs.Laws.{HoistingKeepsSizes}
 use Rattle.dae_elide.specs.Forms.{IsElidedFunction, AreElidedFunctions, IsElisionOf, ElisionKeepsSizes}
 use Rattle.dae_threads.specs.Forms.{IsThreadedFunction, AreThreadedFunctions, IsThreadingOf}
@@ -166,7 +166,7 @@ hoisted_prepared sizes tables (row ∷ rows) (f ∷ fs) [] hs made is = absurd m
 hoisted_prepared sizes tables (row ∷ rows) (f ∷ fs) (g ∷ gs) [] made is = absurd is
 hoisted_prepared sizes tables (row ∷ rows) (f ∷ fs) (g ∷ gs) (h ∷ hs) made is =
     let one = sizes (first_addresses tables) (addresses_in row) g h is.0 in
-    (prepared_on f g h made.0 (hoisted_weighs sizes (first_addresses tables) (addresses_in row) g h is.0) one.variables, hoisted_prepared sizes (further_rows tables) rows fs gs hs made.1 is.1)
+    (prepared_on f g h made.0 (hoisted_weighs sizes (first_addresses tables) (addresses_in row) g h is.0) one.variables, hoisted_prepared sizes (rows_behind tables) rows fs gs hs made.1 is.1)
 
 -- ---- without common subexpressions
 

@@ -9,6 +9,7 @@ ghost use Rattle.dae_guard.specs.Kept.{IsProper};
 ghost use Rattle.dae_guard_walk.specs.Spots.{ShiftsOne};
 
 use crate::kinds::Test;
+use dae_base::power_of_two;
 use dae_encode::{Inst, value};
 use dae_ranges::{Range, is_below, is_equal, is_signed_below};
 
@@ -138,21 +139,12 @@ fn spread(inst: &Inst, counter: u32, x: Range, y: Range) -> Range
         Inst::Addi(_, _, imm) => x.shift(imm.cast_unsigned()).unwrap_or(Range::any()),
         Inst::Add(_, _, _) => sum(x, y),
         Inst::Slli(_, _, imm) => x
-            .scale(power(imm.cast_unsigned() % 32))
+            .scale(power_of_two(imm.cast_unsigned() % 32))
             .unwrap_or(Range::any()),
         Inst::Andi(_, _, imm) => masked(imm.cast_unsigned()),
         Inst::Jalr(_, _, _) => Range::single(counter.wrapping_add(4)),
         _ => Range::any(),
     }
-}
-
-/// Two to a power.
-fn power(exponent: u32) -> u32
-    requires { exponent < 32 }
-    ensures is { result ≡ 2 ^ exponent }
-    ensures some { 0 < result }
-{
-    1 << exponent
 }
 
 /// The sums of the words of two ranges, where one of them is a single word.

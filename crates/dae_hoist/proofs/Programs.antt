@@ -8,7 +8,7 @@ use Rattle.dae_meaning.specs.Variables.{VariableSet, parameters_set}
 use Rattle.dae_meaning.specs.Worlds.{World}
 use Rattle.dae_ir.specs.Code.{Each}
 use Rattle.dae_ir.specs.Form.{Form, form_of, calls_of, all_loads}
-use Rattle.dae_ir.specs.Classes.{Classes, AddressesKept, AreAddressesClosed, classes_of, is_by_a}
+use Rattle.dae_ir.specs.Classes.{Classes, AddressesKept, AreAddressesClosed, classes_of, is_by_a, rows_behind}
 use Rattle.dae_ir.specs.Programs.{body_in, frame_in, program_of, outcome, start}
 use Rattle.dae_ir.specs.Sizes.{bit, form_size, is_load_into, tally}
 use Rattle.dae_ir.specs.Rounds.{stays}
@@ -17,11 +17,11 @@ use Rattle.dae_ir.specs.SetFirst.{form_flow, IsSetFirst, IsFunctionSetFirst}
 use Rattle.dae_ir.specs.declared.form.Function.{Function}
 use Rattle.dae_ir.specs.declared.form.Ir.{Ir}
 use Rattle.dae_ir.specs.declared.stream.Class.{Class}
-use Rattle.dae_ir.proofs.Laws.{KeepsArguments}
+use Rattle.dae_ir.proofs.Laws.{KeepsArguments, classes_behind}
 use Rattle.std.proofs.lemmas.Bool.{or_cases}
 use Rattle.dae_hoist.specs.Hoisted.{hoisted_code}
 use Rattle.dae_hoist.specs.Kept.{Hoisting, IsKept, is_kept}
-use Rattle.dae_hoist.specs.Forms.{IsHoistedFunction, further_rows, addresses_in, first_addresses, AreHoistedFunctions, IsHoistOf, EndsEqual, FormsAreHoisted}
+use Rattle.dae_hoist.specs.Forms.{IsHoistedFunction, addresses_in, first_addresses, AreHoistedFunctions, IsHoistOf, EndsEqual, FormsAreHoisted}
 use Rattle.dae_hoist.specs.Laws.{HoistingKeepsSizes}
 use Rattle.dae_hoist.proofs.Reading.{kept_none}
 use Rattle.dae_hoist.proofs.Staying.{as_hoisted}
@@ -49,7 +49,7 @@ paired tables [] (f ∷ fs) gs a = absurd a
 paired tables (row ∷ rows) [] gs a = absurd a
 paired tables (row ∷ rows) (f ∷ fs) [] a = absurd a
 paired tables (row ∷ rows) (f ∷ fs) (g ∷ gs) a =
-    ((first_addresses tables, addresses_in row, as_hoisted (first_addresses tables) (addresses_in row) f g a.0), paired (further_rows tables) rows fs gs a.1)
+    ((first_addresses tables, addresses_in row, as_hoisted (first_addresses tables) (addresses_in row) f g a.0), paired (rows_behind tables) rows fs gs a.1)
 
 frames_same : (fs gs : List Function) → ArePaired fs gs → (k : ℕ) → frame_in (slice_get gs k) ≡ frame_in (slice_get fs k)
 frames_same [] [] a k = refl
@@ -141,10 +141,6 @@ record HoistedAt (all : List Function) (c d : VariableSet) (old new : Option Fun
   result : hoisting.holding 0 ≡ None
   parameters : (count : ℕ) → TakesArguments old count → (v : ℕ) → v ≤ count → is_kept hoisting v ≡ true
 
-row_next : (tables : List (List Class)) (k : ℕ) → classes_of (further_rows tables) k ≡ classes_of tables (suc k)
-row_next [] k = refl
-row_next (row ∷ tables) k = refl
-
 abbrev sets_of : List (List Class) → ℕ → VariableSet
 sets_of tables k = (classes_of tables k).s
 
@@ -182,7 +178,7 @@ module _ (all : List Function) where
   hoisted_at tables (row ∷ rows) (f ∷ fs) (g ∷ gs) a s zero =
       at_some (first_addresses tables) (addresses_in row) f g (as_hoisted (first_addresses tables) (addresses_in row) f g a.0) s.0
   hoisted_at tables (row ∷ rows) (f ∷ fs) (g ∷ gs) a s (suc k) =
-      subst (λ (c : Classes). HoistedAt all c.s (sets_of rows k) (slice_get fs k) (slice_get gs k)) (row_next tables k) (hoisted_at (further_rows tables) rows fs gs a.1 s.1 k)
+      subst (λ (c : Classes). HoistedAt all c.s (sets_of rows k) (slice_get fs k) (slice_get gs k)) (classes_behind tables k) (hoisted_at (rows_behind tables) rows fs gs a.1 s.1 k)
 
 -- what A has to do, where those of c lead to addresses in the code, and those of d in the code made of it
 abbrev CountAlike : (c d : VariableSet) (code code' : Form) → Type 0

@@ -2,13 +2,14 @@
 use Rattle.std.proofs.Common.{◌≡◌, ℕ, suc, ◌≤◌, true, List, [], ◌∷◌, ◌++◌, length, refl, ap, sym, ◌∙◌, subst, arith}
 use Rattle.std.specs.Prelude.{slice_get}
 use Rattle.dae_ir.specs.Form.{form_of}
-use Rattle.dae_ir.specs.Classes.{row_of}
+use Rattle.dae_ir.specs.Classes.{row_of, rows_behind}
+use Rattle.dae_ir.proofs.Laws.{row_behind}
 use Rattle.dae_ir.specs.declared.form.Function.{Function}
 use Rattle.dae_ir.specs.declared.form.Statement.{Statement}
 use Rattle.dae_ir.specs.declared.stream.Class.{Class}
 use Rattle.dae_hoist.specs.Kept.{IsKept, is_kept}
 use Rattle.dae_hoist.specs.Planned.{IsHoistedList, hoisting_of}
-use Rattle.dae_hoist.specs.Forms.{IsHoistedFunction, IsHoistedOrSame, further_rows, addresses_in, AreHoistedFunctions, with_statements}
+use Rattle.dae_hoist.specs.Forms.{IsHoistedFunction, IsHoistedOrSame, addresses_in, AreHoistedFunctions, with_statements}
 use Rattle.dae_hoist.specs.declared.plan.HoistPlan.{HoistPlan}
 
 -- ---- a function
@@ -33,10 +34,6 @@ body_hoisted f plan ss body row new_row start now parameters variables same firs
 
 -- ---- all functions
 
-row_behind : (tables : List (List Class)) (k : ℕ) → row_of (slice_get tables (suc k)) ≡ row_of (slice_get (further_rows tables) k)
-row_behind [] k = refl
-row_behind (row ∷ tables) k = refl
-
 hoisted_behind : (tables rows : List (List Class)) (fs gs : List Function) (f g : Function) (row new_row : List Class) → AreHoistedFunctions tables rows fs gs
     → row ≡ row_of (slice_get tables (length gs)) → IsHoistedOrSame (addresses_in row) (addresses_in new_row) f g → AreHoistedFunctions tables (rows ++ new_row ∷ []) (fs ++ f ∷ []) (gs ++ g ∷ [])
 hoisted_behind tables [] [] [] f g row new_row all is h = (subst (λ (r : List Class). IsHoistedOrSame (addresses_in r) (addresses_in new_row) f g) is h, tt)
@@ -45,7 +42,7 @@ hoisted_behind tables [] (x ∷ xs) ys f g row new_row all is h = absurd all
 hoisted_behind tables (r ∷ rows) [] ys f g row new_row all is h = absurd all
 hoisted_behind tables (r ∷ rows) (x ∷ xs) [] f g row new_row all is h = absurd all
 hoisted_behind tables (r ∷ rows) (x ∷ xs) (y ∷ ys) f g row new_row all is h =
-    (all.0, hoisted_behind (further_rows tables) rows xs ys f g row new_row all.1 (is ∙ row_behind tables (length ys)) h)
+    (all.0, hoisted_behind (rows_behind tables) rows xs ys f g row new_row all.1 (is ∙ row_behind tables (length ys)) h)
 
 pub hoisted_push : (tables rows rows' : List (List Class)) (fs gs gs' : List Function) (f g : Function) (row new_row : List Class) → AreHoistedFunctions tables rows fs gs
     → row ≡ row_of (slice_get tables (length gs)) → IsHoistedOrSame (addresses_in row) (addresses_in new_row) f g → rows' ≡ rows ++ new_row ∷ [] → gs' ≡ gs ++ g ∷ []

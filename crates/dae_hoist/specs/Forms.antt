@@ -4,7 +4,7 @@ use Rattle.std.specs.List.{AllByRecursion}
 use Rattle.dae_meaning.specs.Alike.{Alike, Same}
 use Rattle.dae_meaning.specs.Variables.{Env, VariableSet}
 use Rattle.dae_ir.specs.Form.{form_of}
-use Rattle.dae_ir.specs.Classes.{AreAddressesClosed, classes_in, classes_of}
+use Rattle.dae_ir.specs.Classes.{AreAddressesClosed, classes_in, classes_of, rows_behind}
 use Rattle.dae_ir.specs.Programs.{outcome, program_of}
 use Rattle.dae_ir.specs.Scope.{IsScoped}
 use Rattle.dae_ir.specs.SetFirst.{IsFunctionSetFirst}
@@ -45,11 +45,6 @@ with_statements f ss = record {
 abbrev pub IsHoistedOrSame : (c d : VariableSet) (f g : Function) → Type 0
 IsHoistedOrSame c d f g = ((g ≡ f) × (d ≡ c)) ⊎ IsHoistedFunction c d f g
 
--- the rows of the functions behind the first
-abbrev pub further_rows : List (List Class) → List (List Class)
-further_rows [] = []
-further_rows (row ∷ tables) = tables
-
 abbrev pub addresses_in : List Class → VariableSet
 addresses_in row = let c = classes_in row in c.s
 
@@ -65,7 +60,7 @@ AreHoistedFunctions tables (row ∷ rows) [] gs = ⊥
 AreHoistedFunctions tables (row ∷ rows) (f ∷ fs) [] = ⊥
 AreHoistedFunctions tables (row ∷ rows) (f ∷ fs) (g ∷ gs) =
     IsHoistedOrSame (first_addresses tables) (addresses_in row) f g
-    × AreHoistedFunctions (further_rows tables) rows fs gs
+    × AreHoistedFunctions (rows_behind tables) rows fs gs
 
 pub record IsHoistOf (tables rows : List (List Class)) (ir new : Ir) : Type 0 where
   pub memory : new.memory ≡ ir.memory

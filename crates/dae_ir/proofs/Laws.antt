@@ -7,3 +7,4 @@ pub use Rattle.dae_ir.proofs.Along.{memory_kept}
 pub use Rattle.dae_ir.proofs.Turns.{more_turns}
 pub use Rattle.dae_ir.proofs.Advance.{going_takes_turns}
 pub use Rattle.dae_ir.proofs.Counted.{fewer_loads}
+pub use Rattle.dae_ir.proofs.Tables.{row_behind, classes_behind}

@@ -139,5 +139,10 @@ abbrev pub row_of : Option (List Class) → List Class
 row_of None = []
 row_of (Some table) = table
 
+-- the rows of the functions behind the first
+abbrev pub rows_behind : List (List Class) → List (List Class)
+rows_behind [] = []
+rows_behind (row ∷ tables) = tables
+
 abbrev pub classes_of : List (List Class) → ℕ → Classes
 classes_of tables f = classes_in (row_of (slice_get tables f))

@@ -2,9 +2,7 @@
 use Rattle.std.proofs.Common.{◌≡◌, ℕ, zero, suc, ◌<◌, ◌^◌, true, ◌&&◌, List, [], ◌∷◌, length, get_or, refl, ap, sym, subst, arith}
 use Rattle.std.proofs.lemmas.Bool.{and_from, ltb-true}
 use Rattle.std.specs.List.{list_all}
-use Rattle.std.specs.Prelude.{Bool, Box, Option, Vec}
-use Rattle.std.specs.declared.alloc.Global.{Global}
-use denote.Param.Weighed.{most}
+use Rattle.std.specs.Prelude.{Bool, Option}
 use Rattle.dae_base.proofs.Laws.{and_first, and_second}
 use Rattle.dae_base.specs.declared.Place.{Place}
 use Rattle.dae_lower_programs.specs.Sound.{AreArmsSound, AreSound}
@@ -13,17 +11,9 @@ use Rattle.dae_program.specs.Switches.{count_arms}
 use Rattle.dae_program.specs.Trees as tree
 use Rattle.dae_program.specs.Trees.{Expression, Statements}
 use Rattle.dae_program.specs.Views.{arms_of, row_then, statement_then, view, view_some, view_statements}
-use Rattle.dae_program.proofs.statements.Statement.TheLaws.{the_size}
-use Rattle.dae_program.specs.declared.expressions.Expression.{Expression as HeldExpression}
 use Rattle.dae_program.specs.declared.statements.Arm.{Arm}
-use Rattle.dae_program.specs.declared.statements.Statement.{Statement, the_lemmas}
+use Rattle.dae_program.specs.declared.statements.Statement.{Statement}
 use Rattle.dae_program.specs.declared.statements.Statement.TheVariants as statement
-
--- ---- how deep a list is
-
--- the statements of a second branch are less deep than the statement
-pub no_below : (p : Place) (e : Box HeldExpression Global) (holds fails : Vec Statement Global) (xs : List Statement) (s : Statement) → s ≡ statement.If p e holds fails → xs ≡ fails.items → most (λ (x : Statement). the_size x) xs < the_size s
-no_below p e holds fails xs s is same = grind (arith, the_lemmas)
 
 -- ---- a statement, and those behind it
 

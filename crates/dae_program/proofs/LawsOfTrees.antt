@@ -1,16 +1,18 @@
 -- Laws for the crates above: typed expressions, statements and arms in memory, whose parts are lists, as plain data.
-use Rattle.std.proofs.Common.{◌≡◌, ℕ, ◌+◌, ◌<◌, ◌≤◌, suc, List, [], ◌∷◌, length, drop, get_or, refl, ap, sym, subst, ◌∙◌, Option}
+use Rattle.std.proofs.Common.{◌≡◌, ℕ, ◌+◌, ◌<◌, ◌≤◌, suc, List, [], ◌∷◌, length, drop, get_or, refl, ap, sym, subst, ◌∙◌, Option, arith}
 use Rattle.std.proofs.lemmas.List.{drop_all}
 use Rattle.std.specs.Prelude.{Box, Vec}
 use Rattle.std.specs.declared.alloc.Global.{Global}
+use denote.Param.Weighed.{most}
 use mathlib.Core.Former.{Count}
 use Rattle.dae_base.proofs.Laws.{drop_at}
 use Rattle.dae_base.specs.declared.Place.{Place}
+use Rattle.dae_program.proofs.statements.Statement.TheLaws.{the_size}
 use Rattle.dae_program.specs.declared.expressions.Expression.TheVariants as expression
 use Rattle.dae_program.specs.declared.expressions.Expression.{Expression}
 use Rattle.dae_program.specs.declared.expressions.Expression.TheBlock.{Row_of-Expression, end_of-Expression, more_of-Expression, items-the_row-Expression, items_hidden-the_row-Expression-0}
 use Rattle.dae_program.specs.declared.statements.Arm.{Arm}
-use Rattle.dae_program.specs.declared.statements.Statement.{Statement}
+use Rattle.dae_program.specs.declared.statements.Statement.{Statement, the_lemmas}
 use Rattle.dae_program.specs.declared.statements.Statement.TheVariants as statement
 use Rattle.dae_program.specs.declared.statements.Statement.TheBlock.{Row_of-Statement, end_of-Statement, more_of-Statement, items-the_row-Statement, items_hidden-the_row-Statement-0, items_shown-the_row-Statement-0, shown-the_row-Statement-0, Row_of-Arm, end_of-Arm, more_of-Arm, items-the_row-Arm, items_hidden-the_row-Arm-1}
 use Rattle.dae_program.specs.Lawful.{count}
@@ -99,6 +101,12 @@ pub view_switch : (p : Place) (e : Box Expression Global) (arms : Vec Arm Global
 view_switch p e arms k =
     let x = third (statement.Switch p e arms) in
     ap (λ u. tree.Switch p (view e.value) u k) (arm_rows x.0 x.1 ∙ ap arms_of (items_hidden-the_row-Arm-1 arms))
+
+-- ---- how deep a list is
+
+-- the statements of a second branch are less deep than the statement
+pub no_below : (p : Place) (e : Box Expression Global) (holds fails : Vec Statement Global) (xs : List Statement) (s : Statement) → s ≡ statement.If p e holds fails → xs ≡ fails.items → most (λ (x : Statement). the_size x) xs < the_size s
+no_below p e holds fails xs s is same = grind (arith, the_lemmas)
 
 -- ---- from a place on
 

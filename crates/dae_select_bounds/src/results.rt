@@ -1,6 +1,6 @@
 // The bounds of what values compute: of operations on words whose bounds are known, of extended words, and of tests.
 
-ghost use Rattle.std.specs.Prelude.{◌≡◌, ◌<◌, ◌^◌};
+ghost use Rattle.std.specs.Prelude.{◌≡◌, ◌<◌};
 ghost use Rattle.dae_meaning.specs.declared.Operator.TheVariants.{DivideSigned, DivideUnsigned};
 ghost use Rattle.dae_meaning.specs.declared.Operator.TheVariants.{RemainderSigned, RemainderUnsigned};
 ghost use Rattle.dae_meaning.specs.declared.Operator.TheVariants.{ShiftLeft, ShiftRightSigned};
@@ -12,7 +12,7 @@ ghost use Rattle.dae_select_walks.specs.Facts.{low_bounds, kept_bounds, extended
 use crate::bounds::{
     aligned_to, difference_bounds, greater_width, is_bounded, product_bounds, single, sum_bounds,
 };
-use dae_base::{LoadKind, Width};
+use dae_base::{LoadKind, Width, power_of_two};
 use dae_meaning::Operator;
 use dae_select_walks::Bounds;
 
@@ -79,15 +79,6 @@ fn conjunction_bounds(one: Bounds, other: Bounds) -> Bounds
     }
 }
 
-/// Two to a power.
-fn power(exponent: u32) -> u32
-    requires { exponent < 32 }
-    ensures is { result ≡ 2 ^ exponent }
-    ensures some { 0 < result }
-{
-    1 << exponent
-}
-
 fn unsigned_quotient(one: Bounds, other: Bounds) -> Bounds
     ensures { result ≡ combined_bounds DivideUnsigned one other }
 {
@@ -133,7 +124,7 @@ fn left_shift(one: Bounds, other: Bounds) -> Bounds
     ensures { result ≡ combined_bounds ShiftLeft one other }
 {
     if is_single(other) {
-        product_bounds(one, single(power(other.low % 32)))
+        product_bounds(one, single(power_of_two(other.low % 32)))
     } else {
         any()
     }
@@ -144,7 +135,7 @@ fn unsigned_right_shift(one: Bounds, other: Bounds) -> Bounds
     ensures { result ≡ combined_bounds ShiftRightUnsigned one other }
 {
     if is_bounded(one) && is_single(other) {
-        quotient_bounds(one, power(other.low % 32))
+        quotient_bounds(one, power_of_two(other.low % 32))
     } else {
         any()
     }
@@ -154,7 +145,7 @@ fn signed_right_shift(one: Bounds, other: Bounds) -> Bounds
     ensures { result ≡ combined_bounds ShiftRightSigned one other }
 {
     if is_small(one) && is_single(other) {
-        quotient_bounds(one, power(other.low % 32))
+        quotient_bounds(one, power_of_two(other.low % 32))
     } else {
         any()
     }

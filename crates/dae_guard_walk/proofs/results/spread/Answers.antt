@@ -23,7 +23,7 @@ pub returns-in-Slli-clause-is : goal.returns-in-Slli-clause-is
 returns-in-Slli-clause-is c =
     let fits : SFits w32 c.in-Slli.imm = search rules in
     let same : c.cast_unsigned-in-Slli.result ≡ word c.in-Slli.imm = simp to_z-of_z at c.cast_unsigned-in-Slli.ensures in
-    slli_by c.scale.result c.unwrap_or-in-Slli.result c.any-in-Slli.result c.args.x c.power.result c.cast_unsigned-in-Slli.result (word c.in-Slli.imm) c.unwrap_or-in-Slli.ensures c.scale.ensures c.any-in-Slli.ensures c.power.ensures.is same
+    slli_by c.scale.result c.unwrap_or-in-Slli.result c.any-in-Slli.result c.args.x c.power_of_two.result c.cast_unsigned-in-Slli.result (word c.in-Slli.imm) c.unwrap_or-in-Slli.ensures c.scale.ensures c.any-in-Slli.ensures c.power_of_two.ensures.is same
     ∙ sym (spread_slli c.args.inst.now c.in-Slli.field-0 c.in-Slli.field-1 c.in-Slli.imm c.args.counter c.args.x c.args.y c.in-Slli.is)
 
 pub returns-in-Andi-clause-is : goal.returns-in-Andi-clause-is

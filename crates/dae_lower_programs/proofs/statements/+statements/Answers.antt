@@ -6,13 +6,13 @@ use Rattle.dae_lower_expressions.specs.Lowered.{Whole, links_in, state_of}
 use Rattle.dae_lower_programs.proofs.Firsts.{made_at, made_end}
 use Rattle.dae_lower_programs.proofs.Rows.{block_whole, branches_whole, first_leads, last_leads, last_whole, leaf_whole, loop_whole, next_leads, then_whole}
 use Rattle.dae_lower_programs.proofs.Turns.{arm_made, arm_whole, made_arms_at, made_arms_end, switch_whole}
-use Rattle.dae_program.proofs.LawsOfTrees.{view_do, view_if, view_loop, view_switch}
+use Rattle.dae_program.proofs.LawsOfTrees.{no_below, view_do, view_if, view_loop, view_switch}
 use Rattle.dae_lower_programs.specs.Switching.{switch_on}
 use Rattle.dae_lower_maker.specs.Making.{condition_of}
 use Rattle.dae_program.specs.Switches.{arm_with, count_arms}
 use Rattle.dae_program.specs.Trees as tree
 use Rattle.dae_program.specs.Trees.{Done}
-use Rattle.dae_lower_programs.proofs.Sound.{arm_sound, arms_sound, done_sound, few_arms, no_below, no_sound, sound_at, turn_sound, yes_sound}
+use Rattle.dae_lower_programs.proofs.Sound.{arm_sound, arms_sound, done_sound, few_arms, no_sound, sound_at, turn_sound, yes_sound}
 use Rattle.dae_lower_programs.specs.Sound.{AreArmsSound, AreSound}
 use Rattle.dae_program.specs.declared.statements.Arm.{Arm}
 use Rattle.dae_program.specs.declared.statements.Statement.{Statement, the_lemmas}
