@@ -1,5 +1,5 @@
 -- Functions are added one after the other, each by its row of the tables.
-use Rattle.std.proofs.Common.{◌≡◌, ℕ, suc, List, [], ◌∷◌, ◌++◌, length, refl, sym, ◌∙◌, subst}
+use Rattle.std.proofs.Common.{◌≡◌, List, [], ◌∷◌, ◌++◌, length, sym, ◌∙◌, subst}
 use Rattle.std.specs.Prelude.{slice_get}
 use Rattle.dae_ir.specs.Classes.{classes_in, row_of, rows_behind}
 use Rattle.dae_ir.proofs.Laws.{row_behind}

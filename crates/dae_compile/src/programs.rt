@@ -35,8 +35,9 @@ fn see_bytes(bytes: &[u8])
 
 /// A final form of a program, with at most so many calls inside one another: the lowered form with its variables renamed by webs,
 /// then with what doesn't change in loops before them and without its common subexpressions, then without the checks that are known to
-/// pass, then with sums computed where they are accessed, then with its conditions threaded, and then with its loads reused. It is well made, sets each variable before it
-/// reads it, and has room in its memory. An error is want of memory.
+/// pass, then with sums computed where they are accessed, then with its conditions threaded and checks of sums before the sums, and
+/// then with its loads reused. It is well made, sets each variable before it reads it, and has room in its memory. An error is want of
+/// memory.
 fn final_form(alloc: Global, program: &Program, calls: u16) -> Result<Ir, AllocError>
     requires functions { length program.now.functions < 2 ^ 32 }
     requires numbers { HaveNumbers program.now program.now.functions }

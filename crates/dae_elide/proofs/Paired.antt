@@ -16,7 +16,7 @@ use Rattle.dae_ir.specs.declared.stream.Mark.{Mark}
 use Rattle.dae_ir.specs.declared.stream.Step.{Step}
 use Rattle.dae_ir.specs.declared.stream.Step.TheVariants as step
 use Rattle.dae_ir.proofs.Laws.{before_if, before_loop, onto_if, onto_loop}
-use Rattle.dae_elide.specs.Alike.{first_of, second_of, rest_of, BeginsAlike}
+use Rattle.dae_elide.specs.LikeSteps.{first_of, second_of, rest_of, BeginsAlike}
 use Rattle.dae_elide.specs.Elided.{as_actions}
 
 -- ---- the lists of a step

@@ -1,4 +1,4 @@
-pub mod Alike
+pub mod LikeSteps
 pub mod Checking
 pub mod Elided
 pub mod Forms

@@ -4,7 +4,7 @@ ghost use Rattle.std.specs.Prelude.{◌≡◌, length, IfOk};
 ghost use Rattle.dae_ir.specs.Form.{form_of};
 ghost use Rattle.dae_ir.specs.Streams.{actions_of};
 ghost use Rattle.dae_select_facts.specs.Knowns.{facts_by};
-ghost use Rattle.dae_elide.specs.Alike.{BeginsAlike};
+ghost use Rattle.dae_elide.specs.LikeSteps.{BeginsAlike};
 ghost use Rattle.dae_elide.specs.Elided.{as_actions, elided, elided_check, elided_item, is_known, kept_width};
 ghost use Rattle.dae_elide.specs.Walked.{IsElided, chosen_by};
 

@@ -4,7 +4,7 @@ ghost use Rattle.std.specs.Prelude.{◌≡◌, IfOk};
 ghost use Rattle.dae_ir.specs.Form.{form_of};
 ghost use Rattle.dae_ir.specs.Code.{Done};
 ghost use Rattle.dae_ir.specs.Streams.{actions_of, step_onto};
-ghost use Rattle.dae_elide.specs.Alike.{first_of, second_of};
+ghost use Rattle.dae_elide.specs.LikeSteps.{first_of, second_of};
 ghost use Rattle.dae_elide.specs.Elided.{as_action, as_actions};
 ghost use Rattle.dae_elide.specs.Walked.{IsLike};
 

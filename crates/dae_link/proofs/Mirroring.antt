@@ -14,14 +14,14 @@ use Rattle.dae_select_walks.specs.Live.{function_lives}
 use Rattle.dae_select_blocks.specs.Sizes.{is_leaf}
 use Rattle.dae_regalloc.specs.Given.{IsRegister}
 use Rattle.dae_regalloc.specs.Seen.{AreBelow}
-use Rattle.dae_link.specs.Settled.{mirrored, mirrored_home, own_homes, AreHomesOf}
+use Rattle.dae_link.specs.Settled.{mirrored_register, mirrored_home, own_homes, AreHomesOf}
 
 -- ---- a home
 
-mirrored_right : (r : ℕ) → is_home_register r ≡ true → is_home_register (mirrored r) ≡ true
+mirrored_right : (r : ℕ) → is_home_register r ≡ true → is_home_register (mirrored_register r) ≡ true
 mirrored_right r h = grind (arith, nat_tests)
 
-mirrored_apart : (q r : ℕ) → is_home_register q ≡ true → is_home_register r ≡ true → mirrored q ≡ mirrored r → q ≡ r
+mirrored_apart : (q r : ℕ) → is_home_register q ≡ true → is_home_register r ≡ true → mirrored_register q ≡ mirrored_register r → q ≡ r
 mirrored_apart q r a b e = grind (arith, nat_tests)
 
 same_register : (q r : ℕ) → Register q ≡ Register r → q ≡ r
@@ -32,9 +32,9 @@ home_right n (Register r) is = mirrored_right r is
 home_right n (Slot i) is = is
 
 home_apart : (n : ℕ) (g h : Home) → IsHome n g → IsHome n h → g ≢ h → mirrored_home g ≢ mirrored_home h
-home_apart n (Register q) (Register r) a b ne = λ same. ne (ap (λ (i : ℕ). Register i) (mirrored_apart q r a b (same_register (mirrored q) (mirrored r) same)))
-home_apart n (Register q) (Slot i) a b ne = λ same. (let no : Register (mirrored q) ≡ Slot i = same in cc)
-home_apart n (Slot i) (Register r) a b ne = λ same. (let no : Slot i ≡ Register (mirrored r) = same in cc)
+home_apart n (Register q) (Register r) a b ne = λ same. ne (ap (λ (i : ℕ). Register i) (mirrored_apart q r a b (same_register (mirrored_register q) (mirrored_register r) same)))
+home_apart n (Register q) (Slot i) a b ne = λ same. (let no : Register (mirrored_register q) ≡ Slot i = same in cc)
+home_apart n (Slot i) (Register r) a b ne = λ same. (let no : Slot i ≡ Register (mirrored_register r) = same in cc)
 home_apart n (Slot i) (Slot j) a b ne = ne
 
 -- ---- homes of a table

@@ -34,11 +34,11 @@ is_frameless f homes = is_leaf (actions_of f.body) && have_registers homes
 -- ---- leaves take registers from the other end, so that what is live at their calls is seldom in these
 
 -- as far from x24 as the register is from x8. What would be x10 or x17 stays itself, and so do x25 to x27, where numbers may stay
-abbrev pub mirrored : ℕ → ℕ
-mirrored r = if (nat_eq r 15 || nat_eq r 22) || nat_lt 24 r then r else 32 - r
+abbrev pub mirrored_register : ℕ → ℕ
+mirrored_register r = if (nat_eq r 15 || nat_eq r 22) || nat_lt 24 r then r else 32 - r
 
 abbrev pub mirrored_home : Home → Home
-mirrored_home (Register r) = Register (mirrored r)
+mirrored_home (Register r) = Register (mirrored_register r)
 mirrored_home (Slot i) = Slot i
 
 -- the homes of a function's variables, from those that they are given by their places

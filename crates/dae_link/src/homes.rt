@@ -5,7 +5,7 @@ ghost use Rattle.std.specs.List.{AllByRecursion, AllZip, list_all};
 ghost use Rattle.dae_ir.specs.Streams.{actions_of};
 ghost use Rattle.dae_select_blocks.specs.Sizes.{is_leaf};
 ghost use Rattle.dae_select_calls.specs.Layouts.{AreSmall};
-ghost use Rattle.dae_link.specs.Settled.{IsLayoutOf, IsFrameWithin, AreTooMany, IsTooDeep, AreUnplaced, is_numberable, has_register, have_registers, is_frameless, mirrored, mirrored_home, own_homes, AreHomesOf};
+ghost use Rattle.dae_link.specs.Settled.{IsLayoutOf, IsFrameWithin, AreTooMany, IsTooDeep, AreUnplaced, is_numberable, has_register, have_registers, is_frameless, mirrored_register, mirrored_home, own_homes, AreHomesOf};
 ghost use Rattle.dae_link.specs.declared.error.CodeError.TheVariants as errors;
 
 use crate::error::CodeError;
@@ -88,8 +88,8 @@ fn is_frameless(function: &StreamFunction, homes: &[Home]) -> bool
 
 /// The register that is as far from x24 as this one is from x8. What would be x10 or x17, where no variable is, stays itself, and
 /// so do x25 to x27, where numbers may stay.
-fn mirrored(register: u8) -> u8
-    ensures { result ≡ mirrored register }
+fn mirrored_register(register: u8) -> u8
+    ensures { result ≡ mirrored_register register }
 {
     if register == 15 || register == 22 || register > 24 {
         register
@@ -102,7 +102,7 @@ fn mirrored_home(home: Home) -> Home
     ensures { result ≡ mirrored_home home }
 {
     match home {
-        Home::Register(register) => Home::Register(mirrored(register)),
+        Home::Register(register) => Home::Register(mirrored_register(register)),
         Home::Slot(slot) => Home::Slot(slot),
     }
 }

@@ -52,7 +52,7 @@ pub fn leaf_codes_of(
 }
 
 /// The same code once more.
-fn copy_code(alloc: Global, made: &FunctionCode) -> Result<FunctionCode, AllocError>
+fn copy_function_code(alloc: Global, made: &FunctionCode) -> Result<FunctionCode, AllocError>
     ensures code { IfOk result (λ copy. copy.code.items ≡ made.now.code.items) }
     ensures entry { IfOk result (λ copy. copy.entry ≡ made.now.entry) }
     ensures places { IfOk result (λ copy. copy.places.items ≡ made.now.places.items) }
@@ -92,7 +92,7 @@ pub fn code_of_function(
 {
     match kept {
         Some(made) => {
-            let copy = copy_code(alloc, made)?;
+            let copy = copy_function_code(alloc, made)?;
             Ok(copy)
         }
         None => function_code(alloc, layouts, function, body),

@@ -18,7 +18,8 @@ use std::alloc::{AllocError, Global};
 /// The variable that an action sets, where it isn't among those that are live before it.
 fn added_by(action: &Action, before: &LiveSet) -> Option<u32>
     ensures some { IfSome result (λ v. (member before.now v ≡ false)
-        × (with_all (only v) (member before.now) ≡ with_all (member before.now) (sets action.now))) }
+        × (with_all (only v) (member before.now)
+        ≡ with_all (member before.now) (sets action.now))) }
     ensures none { IfNone result
         (with_all (member before.now) (sets action.now) ≡ member before.now) }
 {

@@ -6,7 +6,6 @@ ghost use Rattle.dae_types_typed.specs.Sound.{members_of, tables_of};
 ghost use Rattle.dae_types.specs.Layouts.{align_of_type, is_sized, member_behind, member_of_type, size_of_type};
 
 use dae_types_kinds::{Layout, Shape};
-use dae_types_sound::{is_complete, layout_at, shape_of};
 use dae_types_tables::{place_member, round_up};
 use dae_types_typed::{FileParts, TypedFile};
 
@@ -14,9 +13,9 @@ use dae_types_typed::{FileParts, TypedFile};
 fn is_sized(parts: &FileParts, type_id: usize) -> bool
     ensures { result ≡ is_sized (tables_of parts.now) type_id }
 {
-    match shape_of(parts, type_id) {
+    match parts.shape_of(type_id) {
         Shape::NoParameters | Shape::Parameter(_, _) => false,
-        _ => is_complete(parts, type_id),
+        _ => parts.is_complete(type_id),
     }
 }
 
@@ -26,7 +25,7 @@ pub fn size_of(file: &TypedFile, type_id: usize) -> Option<u32>
 {
     let parts = file.parts();
     if is_sized(parts, type_id) {
-        Some(layout_at(parts, type_id).size)
+        Some(parts.layout_at(type_id).size)
     } else {
         None
     }
@@ -38,7 +37,7 @@ pub fn align_of(file: &TypedFile, type_id: usize) -> Option<u32>
 {
     let parts = file.parts();
     if is_sized(parts, type_id) {
-        Some(layout_at(parts, type_id).align)
+        Some(parts.layout_at(type_id).align)
     } else {
         None
     }
@@ -52,7 +51,7 @@ fn member_in_structure(parts: &FileParts, structure: usize, name: u32) -> Option
     let mut before = Layout { size: 0, align: 1 };
     for component in parts.components.as_slice() {
         if component.structure == structure {
-            let own = layout_at(parts, component.type_id);
+            let own = parts.layout_at(component.type_id);
             if component.name == name {
                 return Some((round_up(before.size, own.align), component.type_id));
             }
@@ -68,7 +67,7 @@ pub fn member(file: &TypedFile, type_id: usize, name: u32) -> Option<(u32, usize
     ensures { result ≡ member_of_type (tables_of file.now) type_id name }
 {
     let parts = file.parts();
-    match shape_of(parts, type_id) {
+    match parts.shape_of(type_id) {
         Shape::Struct(structure) => member_in_structure(parts, structure, name),
         _ => None,
     }

@@ -3,39 +3,14 @@
 ghost use Rattle.std.specs.Prelude.{◌≡◌, slice_get};
 ghost use Rattle.std.specs.List.{list_all};
 ghost use Rattle.dae_types_kinds.specs.Types as types;
-ghost use Rattle.dae_types_typed.specs.Linkage.{is_function, is_library, is_object, is_reference, type_in};
+ghost use Rattle.dae_types_typed.specs.Linkage.{is_library, is_reference};
 ghost use Rattle.dae_types_typed.specs.Sound.{defined_routines, is_declared, is_there, routines_in};
 ghost use Rattle.dae_types_sound.specs.Declarations.{defined_routine, is_callable, is_sound_declaration, is_sound_use, same_numbers};
 
 use crate::functions::is_called_main;
-use crate::tables::{is_complete, same_entity, shape_of};
 use dae_types_file_plans::{FileDeclaration, Role};
 use dae_types_kinds::{Entity, Shape, Use};
-use dae_types_typed::{FileParts, TypedFunction};
-
-// The types that are there from the start.
-const INT: usize = 6;
-
-const VOID: usize = 0;
-
-/// The type that a file gives an object or a function, at its end.
-fn type_in(parts: &FileParts, entity: Entity) -> usize
-    ensures { result ≡ type_in parts.now entity }
-{
-    match entity {
-        Entity::Object(number) => match parts.objects.as_slice().get(number) {
-            Some(object) => object.type_id,
-            None => INT,
-        },
-        Entity::Function(number) => match parts.routines.as_slice().get(number) {
-            Some(routine) => routine.type_id,
-            None => VOID,
-        },
-        Entity::Local(_) => VOID,
-        Entity::Type(_) => VOID,
-        Entity::Enumerator(_) => VOID,
-    }
-}
+use dae_types_typed::{FileParts, TypedFunction, is_function, is_object, same_entity};
 
 fn is_there(parts: &FileParts, entity: Entity) -> bool
     ensures { result ≡ is_there parts.now entity }
@@ -43,24 +18,6 @@ fn is_there(parts: &FileParts, entity: Entity) -> bool
     match entity {
         Entity::Object(number) => number < parts.objects.len(),
         Entity::Function(number) => number < parts.routines.len(),
-        _ => false,
-    }
-}
-
-fn is_object(entity: Entity) -> bool
-    ensures { result ≡ is_object entity }
-{
-    match entity {
-        Entity::Object(_) => true,
-        _ => false,
-    }
-}
-
-fn is_function(entity: Entity) -> bool
-    ensures { result ≡ is_function entity }
-{
-    match entity {
-        Entity::Function(_) => true,
         _ => false,
     }
 }
@@ -86,11 +43,11 @@ fn is_reference(role: Role) -> bool
 fn is_sound_declaration(parts: &FileParts, d: FileDeclaration) -> bool
     ensures { result ≡ is_sound_declaration parts.now d }
 {
-    let type_id = type_in(parts, d.entity);
-    let kind = is_function_shape(shape_of(parts, type_id)) == is_function(d.entity);
+    let type_id = parts.type_in(d.entity);
+    let kind = is_function_shape(parts.shape_of(type_id)) == is_function(d.entity);
     is_there(parts, d.entity)
         && kind
-        && (!is_object(d.entity) || is_reference(d.role) || is_complete(parts, type_id))
+        && (!is_object(d.entity) || is_reference(d.role) || parts.is_complete(type_id))
 }
 
 /// Whether what a file declares is there, with a type that it may have.

@@ -10,22 +10,13 @@ use dae_types_typed::FileParts;
 use indexmap::IndexSet;
 use std::alloc::Global;
 
-fn name_at(parts: &FileParts, number: u32) -> Option<&[u8]>
-    ensures { option_copied result ≡ slice_get parts.now.names number }
-{
-    match parts.names.as_slice().get(number as usize) {
-        Some(bytes) => Some(bytes.as_slice()),
-        None => None,
-    }
-}
-
 fn object_name(parts: &FileParts, object: Object) -> Option<&[u8]>
     ensures { option_copied result ≡ object_name parts.now (Some object) }
 {
     if object.own {
         None
     } else {
-        name_at(parts, object.name)
+        parts.name_at(object.name)
     }
 }
 
@@ -35,7 +26,7 @@ fn routine_name(parts: &FileParts, routine: Routine) -> Option<&[u8]>
     if routine.own || routine.library.is_some() {
         None
     } else {
-        name_at(parts, routine.name)
+        parts.name_at(routine.name)
     }
 }
 

@@ -6,7 +6,7 @@ ghost use Rattle.dae_types_kinds.specs.Types.{finished, layout, placed, rounded}
 ghost use Rattle.dae_types_typed.specs.Sound.{has_complete_type, laid_out, members_of, tables_of};
 ghost use Rattle.dae_types_sound.specs.Shapes.{are_laid_out, are_sound_shapes, is_laid_out, is_sound_shape, same_layout, by_members};
 
-use crate::tables::{is_complete, layout, layout_at};
+use crate::tables::layout;
 use dae_types_kinds::{Layout, Shape};
 use dae_types_typed::FileParts;
 
@@ -14,7 +14,7 @@ fn is_sound_shape(parts: &FileParts, number: usize, shape: Shape) -> bool
     ensures { result ≡ is_sound_shape (tables_of parts.now) number shape }
 {
     match shape {
-        Shape::Array(element, _) => element < number && is_complete(parts, element),
+        Shape::Array(element, _) => element < number && parts.is_complete(element),
         Shape::Parameter(before, _) => before < number,
         _ => true,
     }
@@ -37,7 +37,7 @@ pub fn are_complete_members(parts: &FileParts) -> bool
     ensures { result ≡ list_all (has_complete_type (tables_of parts.now)) parts.now.components }
 {
     for component in parts.components.as_slice() {
-        if !is_complete(parts, component.type_id) {
+        if !parts.is_complete(component.type_id) {
             return false;
         }
     }
@@ -73,7 +73,7 @@ fn laid_out(parts: &FileParts, structure: usize) -> Layout
     let mut l = layout(0, 1);
     for component in parts.components.as_slice() {
         if component.structure == structure {
-            l = placed(l, layout_at(parts, component.type_id));
+            l = placed(l, parts.layout_at(component.type_id));
         }
     }
     finished(l)

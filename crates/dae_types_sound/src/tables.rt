@@ -1,97 +1,26 @@
 // Look-ups in the tables of a file.
 
 ghost use Rattle.std.specs.Prelude.{◌≡◌, IfOk, [], length, slice_get};
-ghost use Rattle.dae_types_kinds.specs.Types.{is_complete, layout, layout_at, layout_else, layout_of, layout_within, repeated, shape_of};
+ghost use Rattle.dae_types_kinds.specs.Types.{layout};
 ghost use Rattle.dae_types_plans.specs.Steps.{parameter_types, parameters_from};
 ghost use Rattle.dae_types_kinds.specs.declared.tables.Entity.TheVariants as entities;
-ghost use Rattle.dae_types_typed.specs.Sound.{same_entity, tables_of};
+ghost use Rattle.dae_types_typed.specs.Sound.{tables_of};
 ghost use Rattle.dae_types_sound.specs.Used.{AreUsed};
 ghost use Rattle.dae_types_sound.specs.Names.{names_in, parameter_list, shorter, used_count, used_counts, used_layout, used_layouts};
 
 use crate::extents::FileNames;
 use crate::used::{used_functions, used_objects};
 use dae_base::Items;
-use dae_types_kinds::{Entity, Layout, Object, Routine, Shape};
+use dae_types_kinds::{Layout, Object, Routine, Shape};
 use dae_types_ready::Doubt;
 use dae_types_typed::FileParts;
 use indexmap::IndexSet;
 use std::alloc::Global;
 
-/// The shape of a type of a file; of a number that is no type's, void.
-#[tactic(auto, unfolding(dae_types_kinds::specs::Types::shape_of))]
-pub fn shape_of(parts: &FileParts, type_id: usize) -> Shape
-    ensures { result ≡ shape_of (tables_of parts.now) type_id }
-{
-    match parts.shapes.as_slice().get(type_id) {
-        Some(shape) => *shape,
-        None => Shape::Void,
-    }
-}
-
 pub fn layout(size: u32, align: u32) -> Layout
     ensures { result ≡ layout size align }
 {
     Layout { size, align }
-}
-
-/// The layout of a structure, where it is complete.
-#[tactic(auto, unfolding(dae_types_kinds::specs::Types::layout_of))]
-pub fn layout_of(parts: &FileParts, structure: usize) -> Option<Layout>
-    ensures { result ≡ layout_of (tables_of parts.now) structure }
-{
-    match parts.structures.as_slice().get(structure) {
-        Some(structure) => structure.layout,
-        None => None,
-    }
-}
-
-fn repeated(count: Option<u32>, element: Layout) -> Layout
-    ensures { result ≡ repeated count element }
-{
-    match count {
-        Some(count) => layout(element.size.saturating_mul(count), element.align),
-        None => layout(0, element.align),
-    }
-}
-
-fn layout_within(parts: &FileParts, depth: usize, type_id: usize) -> Layout
-    ensures { result ≡ layout_within depth (tables_of parts.now) type_id }
-{
-    if depth == 0 {
-        return layout(0, 1);
-    }
-    match shape_of(parts, type_id) {
-        Shape::Void => layout(0, 1),
-        Shape::Char | Shape::SignedChar | Shape::UnsignedChar => layout(1, 1),
-        Shape::Short | Shape::UnsignedShort => layout(2, 2),
-        Shape::Array(element, count) => repeated(count, layout_within(parts, depth - 1, element)),
-        Shape::Struct(structure) => match layout_of(parts, structure) {
-            Some(layout) => layout,
-            None => layout(0, 1),
-        },
-        _ => layout(4, 4),
-    }
-}
-
-/// The bytes and the alignment of a type (C90 6.5.2.1); of what has none, 0 and 1.
-#[tactic(auto, unfolding(dae_types_kinds::specs::Types::layout_at))]
-pub fn layout_at(parts: &FileParts, type_id: usize) -> Layout
-    ensures { result ≡ layout_at (tables_of parts.now) type_id }
-{
-    layout_within(parts, parts.shapes.len(), type_id)
-}
-
-/// Whether a type is complete (C90 6.1.2.5).
-pub fn is_complete(parts: &FileParts, type_id: usize) -> bool
-    ensures { result ≡ is_complete (tables_of parts.now) type_id }
-{
-    match shape_of(parts, type_id) {
-        Shape::Void => false,
-        Shape::Array(_, count) => count.is_some(),
-        Shape::Struct(structure) => layout_of(parts, structure).is_some(),
-        Shape::Function(_, _) => false,
-        _ => true,
-    }
 }
 
 // The types that are there from the start: int, and the list of no parameters.
@@ -107,9 +36,9 @@ fn parameter_list(parts: &FileParts, routine: usize) -> Shape
         Some(routine) => routine.type_id,
         None => INT,
     };
-    match shape_of(parts, type_id) {
-        Shape::Function(_, parameters) => shape_of(parts, parameters),
-        _ => shape_of(parts, NO_PARAMETERS),
+    match parts.shape_of(type_id) {
+        Shape::Function(_, parameters) => parts.shape_of(parameters),
+        _ => parts.shape_of(NO_PARAMETERS),
     }
 }
 
@@ -126,7 +55,7 @@ fn shorter(parts: &FileParts, list: Shape) -> Option<Shape>
     ensures { result ≡ shorter (tables_of parts.now) list }
 {
     match list {
-        Shape::Parameter(before, _) => Some(shape_of(parts, before)),
+        Shape::Parameter(before, _) => Some(parts.shape_of(before)),
         _ => None,
     }
 }
@@ -146,17 +75,6 @@ fn count_from(parts: &FileParts, list: Shape) -> usize
     parts.shapes.len()
 }
 
-/// Whether two are the same object or the same function.
-pub fn same_entity(left: Entity, right: Entity) -> bool
-    ensures { result ≡ same_entity left right }
-{
-    match (left, right) {
-        (Entity::Object(left), Entity::Object(right)) => left == right,
-        (Entity::Function(left), Entity::Function(right)) => left == right,
-        _ => false,
-    }
-}
-
 /// The layout of an object, where that is among those that are used.
 fn used_layout(
     parts: &FileParts,
@@ -168,7 +86,7 @@ fn used_layout(
     ensures { result ≡ used_layout parts.now number object }
 {
     if used.contains(&number) {
-        return Some(layout_at(parts, object.type_id));
+        return Some(parts.layout_at(object.type_id));
     }
     None
 }

@@ -2,7 +2,7 @@
 
 ghost use Rattle.std.specs.List.{AllByRecursion};
 ghost use Rattle.std.specs.Prelude.{false, ◌≡◌, ◌&&◌, ℕ, suc, ◌+◌, ◌<◌, ◌≤◌, ◌∷◌, ◌++◌, [], IfOk, MatchOption, OnOk, length, filter, option_copied, slice_get, is_some};
-ghost use Rattle.dae_types_kinds.specs.Types.{counts_agree, layout_of, shape_of};
+ghost use Rattle.dae_types_kinds.specs.Types.{counts_agree, layout_of};
 ghost use Rattle.dae_types_typed.specs.Sound.{bytes_of, is_member_of, tables_of};
 ghost use Rattle.dae_unit.specs.Across.{same_tag, tag_of, members_within, structures_within, shapes_within, same_plain, same_within_files, same_across};
 ghost use Rattle.dae_unit.specs.Couples.{AreEnclosed, AreKnown, IsFound, IsNotedOther, agree_within, all_agree, all_hold, cost, depth_of, goals_at, goes_on, shape_in, weight};
@@ -53,25 +53,10 @@ fn same_tag(left: Option<&[u8]>, right: Option<&[u8]>) -> bool
     }
 }
 
-/// The shape of a type of a file.
-#[tactic(auto, unfolding(dae_types_kinds::specs::Types::shape_of))]
-pub fn shape_of(parts: &FileParts, type_id: usize) -> Shape
-    ensures { result ≡ shape_of (tables_of parts.now) type_id }
-{
-    match parts.shapes.as_slice().get(type_id) {
-        Some(shape) => *shape,
-        None => Shape::Void,
-    }
-}
-
-#[tactic(auto, unfolding(dae_types_kinds::specs::Types::layout_of))]
 fn is_complete(parts: &FileParts, structure: usize) -> bool
     ensures { result ≡ is_some (layout_of (tables_of parts.now) structure) }
 {
-    match parts.structures.as_slice().get(structure) {
-        Some(structure) => structure.layout.is_some(),
-        None => false,
-    }
+    parts.layout_of(structure).is_some()
 }
 
 /// The first member of a structure among components, and the components behind it.
@@ -114,7 +99,7 @@ fn shapes_of(f: &FileParts, g: &FileParts, couple: Couple) -> (Shape, Shape)
     if couple.structures {
         return (Shape::Struct(couple.left), Shape::Struct(couple.right));
     }
-    (shape_of(f, couple.left), shape_of(g, couple.right))
+    (f.shape_of(couple.left), g.shape_of(couple.right))
 }
 
 /// A couple by the numbers of its structures, where both types are structures.

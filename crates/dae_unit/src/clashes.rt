@@ -5,7 +5,6 @@ ghost use Rattle.std.specs.Borrow.{Bor};
 ghost use Rattle.std.specs.List.{list_any};
 ghost use Rattle.std.specs.Map.{lookup};
 ghost use Rattle.std.specs.Str.{bytes_eq};
-ghost use Rattle.dae_types_typed.specs.Linkage.{is_function, type_in};
 ghost use Rattle.dae_unit.specs.Clashes.{clashes, same_types, types_differ, first_clash, is_library_in, is_missing, first_missing, is_main};
 ghost use Rattle.dae_unit.specs.Couples.{AreKnownOf, entries_or_none, same_two};
 ghost use Rattle.dae_unit.specs.Identities.{AreGivers};
@@ -22,33 +21,9 @@ use crate::identities::Identity;
 use crate::linkage::{declares_same, defines, external_name, same_name};
 use crate::rows::FileRow;
 use dae_types_kinds::{Entity, Use};
-use dae_types_typed::{FileParts, TypedFile};
+use dae_types_typed::{TypedFile, is_function};
 use indexmap::{IndexMap, IndexSet};
 use std::alloc::{AllocError, Global};
-
-// The types that are there from the start.
-const INT: usize = 6;
-
-const VOID: usize = 0;
-
-/// The type that a file gives an object or a function, at its end.
-pub fn type_in(parts: &FileParts, entity: Entity) -> usize
-    ensures { result ≡ type_in parts.now entity }
-{
-    match entity {
-        Entity::Object(number) => match parts.objects.as_slice().get(number) {
-            Some(object) => object.type_id,
-            None => INT,
-        },
-        Entity::Function(number) => match parts.routines.as_slice().get(number) {
-            Some(routine) => routine.type_id,
-            None => VOID,
-        },
-        Entity::Local(_) => VOID,
-        Entity::Type(_) => VOID,
-        Entity::Enumerator(_) => VOID,
-    }
-}
 
 /// Takes what is known of the types of two files.
 fn take_known(alloc: Global, known: &mut KnownTypes, two: (usize, usize)) -> Verdicts
@@ -86,8 +61,8 @@ fn same_types(
         Some(file) => file.parts(),
         None => return Ok(true),
     };
-    let left = type_in(f, x.declaration.entity);
-    let right = type_in(g, y.declaration.entity);
+    let left = f.type_in(x.declaration.entity);
+    let right = g.type_in(y.declaration.entity);
     let two = (x.file, y.file);
     let mut couples = take_known(alloc, known, two);
     let same = same_across(alloc, f, g, &mut couples, (left, right))?;
@@ -345,15 +320,6 @@ pub fn first_missing(
         }
     }
     Ok(None)
-}
-
-fn is_function(entity: Entity) -> bool
-    ensures { result ≡ is_function entity }
-{
-    match entity {
-        Entity::Function(_) => true,
-        _ => false,
-    }
 }
 
 /// Whether a declaration defines the function main that other files know.

@@ -2,9 +2,8 @@
 // are to each other, and whether their types are the same (C90 5.1.1.1, 6.1.2.2, 6.1.2.6 and 6.7).
 #![tactic(auto)]
 
-pub use across::shape_of;
 pub use causes::cause_by;
-pub use clashes::{is_main, type_in};
+pub use clashes::is_main;
 pub use errors::{Clash, JoinError};
 pub use givers::add_identity;
 pub use identities::Identity;

@@ -2,13 +2,12 @@
 
 ghost use Rattle.std.specs.Prelude.{◌≡◌, slice_get, option_copied};
 ghost use Rattle.dae_types_typed.specs.Linkage.{name_in, object_name, routine_name, same_name};
-ghost use Rattle.dae_types_typed.specs.Sound.{same_entity};
 ghost use Rattle.dae_unit.specs.Linkage.{external_name, declares_same, defines, refers};
 
 use crate::rows::FileRow;
 use dae_types_file_plans::Role;
 use dae_types_kinds::Entity;
-use dae_types_typed::{FileParts, TypedFile};
+use dae_types_typed::{FileParts, TypedFile, same_entity};
 
 /// Whether a declaration is a definition.
 pub fn defines(row: FileRow) -> bool
@@ -30,15 +29,6 @@ pub fn refers(row: FileRow) -> bool
     }
 }
 
-fn name_at(parts: &FileParts, number: u32) -> Option<&[u8]>
-    ensures { option_copied result ≡ slice_get parts.now.names number }
-{
-    match parts.names.as_slice().get(number as usize) {
-        Some(bytes) => Some(bytes.as_slice()),
-        None => None,
-    }
-}
-
 fn object_name(parts: &FileParts, number: usize) -> Option<&[u8]>
     ensures { option_copied result ≡ object_name parts.now (slice_get parts.now.objects number) }
 {
@@ -47,7 +37,7 @@ fn object_name(parts: &FileParts, number: usize) -> Option<&[u8]>
             if object.own {
                 None
             } else {
-                name_at(parts, object.name)
+                parts.name_at(object.name)
             }
         }
         None => None,
@@ -62,7 +52,7 @@ fn routine_name(parts: &FileParts, number: usize) -> Option<&[u8]>
             if routine.own || routine.library.is_some() {
                 None
             } else {
-                name_at(parts, routine.name)
+                parts.name_at(routine.name)
             }
         }
         None => None,
@@ -98,16 +88,6 @@ pub fn same_name(left: Option<&[u8]>, right: Option<&[u8]>) -> bool
 {
     match (left, right) {
         (Some(left), Some(right)) => left == right,
-        _ => false,
-    }
-}
-
-fn same_entity(left: Entity, right: Entity) -> bool
-    ensures { result ≡ same_entity left right }
-{
-    match (left, right) {
-        (Entity::Object(left), Entity::Object(right)) => left == right,
-        (Entity::Function(left), Entity::Function(right)) => left == right,
         _ => false,
     }
 }

@@ -2,31 +2,19 @@
 
 ghost use Rattle.std.specs.Prelude.{◌≡◌, ℕ, ◌<◌, ◌^◌, ◌++◌, ◌∷◌, [], List, IfOk, OnOk, if◌then◌else◌, slice_get};
 ghost use Rattle.std.specs.List.{All};
-ghost use Rattle.dae_types_kinds.specs.Types.{layout_of, layout_else, repeated, layout_within, layout_at};
-ghost use Rattle.dae_types_typed.specs.Linkage.{is_object};
-ghost use Rattle.dae_types_typed.specs.Sound.{tables_of};
 ghost use Rattle.dae_unit.specs.Identities.{AreDeclaredIn};
 ghost use Rattle.dae_unit.specs.declared.rows.FileRow.{FileRow};
 ghost use Rattle.dae_unit.specs.Placing.{gives_room, is_first, placed_rows, layout_of_row, object_layouts, literal_layout, literal_layouts, all_literals, rooms_of, rounded_up, place_behind, places_from, end_from, first_place};
 
 use dae_base::Items;
-use dae_types_kinds::{Entity, Layout, Shape};
-use dae_types_typed::{FileParts, TypedFile};
-use dae_unit::{FileRow, Identity, add_identity, refers, shape_of, type_in};
+use dae_types_kinds::Layout;
+use dae_types_typed::{TypedFile, is_object};
+use dae_unit::{FileRow, Identity, add_identity, refers};
 use indexmap::IndexSet;
 use std::alloc::{AllocError, Global};
 
 /// Where the first object stands.
 const FIRST_PLACE: u64 = 16;
-
-fn is_object(entity: Entity) -> bool
-    ensures { result ≡ is_object entity }
-{
-    match entity {
-        Entity::Object(_) => true,
-        _ => false,
-    }
-}
 
 fn gives_room(row: FileRow) -> bool
     ensures { result ≡ gives_room row }
@@ -98,57 +86,15 @@ fn layout(size: u32, align: u32) -> Layout
     Layout { size, align }
 }
 
-#[tactic(auto, unfolding(dae_types_kinds::specs::Types::layout_of))]
-fn layout_of(parts: &FileParts, structure: usize) -> Layout
-    ensures { result ≡ layout_else (layout_of (tables_of parts.now) structure) }
-{
-    match parts.structures.as_slice().get(structure) {
-        Some(structure) => match structure.layout {
-            Some(layout) => layout,
-            None => layout(0, 1),
-        },
-        None => layout(0, 1),
-    }
-}
-
-fn repeated(count: Option<u32>, element: Layout) -> Layout
-    ensures { result ≡ repeated count element }
-{
-    match count {
-        Some(count) => layout(element.size.saturating_mul(count), element.align),
-        None => layout(0, element.align),
-    }
-}
-
-fn layout_within(parts: &FileParts, depth: usize, type_id: usize) -> Layout
-    ensures { result ≡ layout_within depth (tables_of parts.now) type_id }
-{
-    if depth == 0 {
-        return layout(0, 1);
-    }
-    match shape_of(parts, type_id) {
-        Shape::Void => layout(0, 1),
-        Shape::Char | Shape::SignedChar | Shape::UnsignedChar => layout(1, 1),
-        Shape::Short | Shape::UnsignedShort => layout(2, 2),
-        Shape::Array(element, count) => repeated(count, layout_within(parts, depth - 1, element)),
-        Shape::Struct(structure) => layout_of(parts, structure),
-        _ => layout(4, 4),
-    }
-}
-
-#[tactic(auto, unfolding(dae_types_kinds::specs::Types::layout_at))]
-fn layout_at(parts: &FileParts, type_id: usize) -> Layout
-    ensures { result ≡ layout_at (tables_of parts.now) type_id }
-{
-    layout_within(parts, parts.shapes.len(), type_id)
-}
-
 #[tactic(auto, unfolding(dae_unit::specs::Placing::layout_of_row))]
 fn layout_of_row(files: &[TypedFile], row: FileRow) -> Layout
     ensures { result ≡ layout_of_row files.now row }
 {
     match files.get(row.file) {
-        Some(file) => layout_at(file.parts(), type_in(file.parts(), row.declaration.entity)),
+        Some(file) => {
+            let parts = file.parts();
+            parts.layout_at(parts.type_in(row.declaration.entity))
+        }
         None => layout(0, 1),
     }
 }

@@ -6,7 +6,7 @@ use crate::extents::{Extent, Extents, note_statement, over_both};
 use crate::forgetting::variable_set;
 use crate::liveness::{
     LiveBehind, TwoLists, bit_of, bits_in_test, empty_lists, item_transfer, list_transfer,
-    live_at_start, live_at_step, looped,
+    live_at_start, live_at_step, loop_transfer,
 };
 use crate::plan::WebPlan;
 use dae_ir::{Function, Item, Statement};
@@ -219,7 +219,7 @@ fn find_in_statement(
         }
         Statement::Loop(_, body, step) => {
             let both = next_lists(finding);
-            let head = live_at_start(looped(both), behind);
+            let head = live_at_start(loop_transfer(both), behind);
             let again = live_at_step(both.second, head, behind.next);
             let inside = outside | behind.next | head | again;
             let back = LiveBehind {

@@ -170,7 +170,7 @@ fn one_or_other(test: u64, both: TwoLists) -> Transfer {
 }
 
 /// What goes backward through a loop's turns.
-pub fn looped(both: TwoLists) -> Transfer {
+pub fn loop_transfer(both: TwoLists) -> Transfer {
     let body = both.first;
     let through = body.next | body.skips;
     Transfer {
@@ -239,7 +239,7 @@ fn statement_transfer(
             let first = list_transfer(bits, lists, body)?;
             let both = TwoLists { first, second };
             put_lists(lists, place, both);
-            Ok(looped(both))
+            Ok(loop_transfer(both))
         }
     }
 }
