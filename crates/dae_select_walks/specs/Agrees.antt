@@ -10,11 +10,11 @@ use Rattle.dae_meaning.specs.Variables.{Env}
 use Rattle.dae_select_walks.specs.Homes.{Contents, held, none_spared, kept, resident_home, resident_register}
 use Rattle.dae_select_walks.specs.declared.Home.{Home}
 
--- what is settled before the code runs: the side, the number of functions and their homes; of each function the words at which it is
--- entered and at which its actions begin, the words of its private frame, the bytes of its frame in common memory, whether it is a
--- leaf, which makes no call, whether it is bare, a leaf that needs no word of its private frame, and which registers it spares, a leaf
--- that leaves them as they are; whether one instruction enters them all; the word that main returns to; the most words of a private
--- frame and the words of private memory; the call limit; the size of common memory; and the numbers that stay in registers
+-- what is settled before the code runs: the side, the number of functions and their homes; of each function the words at which it is entered and at which its actions
+-- begin, the words of its private frame, the bytes of its frame in common memory, whether it is a leaf, which makes no
+-- call, whether it is bare, a leaf that needs no word of its private frame, and which registers it spares, a leaf that leaves them as
+-- they are; whether one instruction enters them all; the word that main returns to; the most words of a private frame and the words of private memory; the call limit; the size of common memory; and
+-- the numbers that stay in registers
 pub record Plan : Type 0 where
   pub by_a : Bool
   pub functions : ℕ
