@@ -47,6 +47,8 @@ threads|main 0 6 0;v1 = load 4 64;v2 = load 4 68;if v1 != 0;if v2 != 0;v3 = 1;el
 threads|main 0 6 0;v1 = load 4 64;v2 = load 4 68;if v1 != 0;if v2 != 0;v3 = 1;else;v3 = 0;end;else;v3 = 0;end;store 4 64 7;if v3 != 0;print d 1;else;end;halt 0|main 0 6 0;v1 = load 4 64;v2 = load 4 68;if v1 != 0;if v2 != 0;v3 = 1;else;v3 = 0;end;else;v3 = 0;end;store 4 64 7;if v3 != 0;print d 1;else;end;halt 0
 threads|main 0 5 0;v1 = load 4 64;bounds v1 16;v2 = v1 + 16;v3 = load 4 v2;store 4 64 v3;halt 0|main 0 5 0;v1 = load 4 64;v2 = v1 + 16;good 1 v2;v3 = load 4 v2;store 4 64 v3;halt 0
 threads|main 0 5 0;v1 = load 4 64;loop;bounds v1 2047;v2 = v1 + 2047;store 1 v2 7;step;v1 = v1 + 4;good 1 v1;end;halt 0|main 0 5 0;v1 = load 4 64;loop;v2 = v1 + 2047;good 1 v2;store 1 v2 7;step;v1 = v1 + 4;good 1 v1;end;halt 0
+threads|main 0 5 0;v1 = load 4 64;bounds v1 16;v2 = v1 + 16;v3 = load 4 v2;store 4 64 v3;halt 0|main 0 5 0;v1 = load 4 64;v2 = 16 + v1;good 1 v2;v3 = load 4 v2;store 4 64 v3;halt 0
+threads|main 0 5 0;v1 = load 4 64;v2 = 16 + v1;good 1 v1;v2 = 16 + 8;good 1 v2;halt 0|main 0 5 0;v1 = load 4 64;v2 = 16 + v1;good 1 v1;v2 = 16 + 8;good 1 v2;halt 0
 threads|main 0 5 0;v1 = load 4 64;v2 = v1 + 2048;good 1 v2;v3 = load 4 v2;store 4 64 v3;halt 0|main 0 5 0;v1 = load 4 64;v2 = v1 + 2048;good 1 v2;v3 = load 4 v2;store 4 64 v3;halt 0
 threads|main 0 5 0;v1 = load 4 64;v2 = v1 + 16;good 1 v1;v3 = load 4 v2;store 4 64 v3;halt 0|main 0 5 0;v1 = load 4 64;v2 = v1 + 16;good 1 v1;v3 = load 4 v2;store 4 64 v3;halt 0
 threads|main 0 5 0;v1 = load 4 64;v2 = v1 + 16;good 4 v2;v3 = load 4 v2;store 4 64 v3;halt 0|main 0 5 0;v1 = load 4 64;v2 = v1 + 16;good 4 v2;v3 = load 4 v2;store 4 64 v3;halt 0

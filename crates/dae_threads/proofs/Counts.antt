@@ -9,7 +9,7 @@ use Rattle.dae_ir.specs.declared.form.Item.{Item}
 use Rattle.dae_ir.specs.declared.form.Item.TheVariants.{Assign, Load, Store, Print, Expect, Break, Continue, Call, Return, Halt}
 use Rattle.dae_ir.specs.declared.form.Test.{Test}
 use Rattle.dae_threads.specs.Laws.{CountsHeavy}
-use Rattle.dae_threads.specs.Threaded.{is_light, is_nonzero, list_for, firsts, seconds, IsLed, LedTo, LedInBoth, BehindItem, BehindIf, BehindLoop, IsSpread, AtMostOnce, OfNothing, Doubled, IsThreaded, Unchanged, InTurn, InRest, InLists, InLoop, Threads, ChecksFirst}
+use Rattle.dae_threads.specs.Threaded.{is_light, gives_sum, is_nonzero, list_for, firsts, seconds, IsLed, LedTo, LedInBoth, BehindItem, BehindIf, BehindLoop, IsSpread, AtMostOnce, OfNothing, Doubled, IsThreaded, Unchanged, InTurn, InRest, InLists, InLoop, Threads, NumberLast, ChecksFirst}
 
 -- ---- what stands so many times
 
@@ -108,6 +108,7 @@ threaded_size c d (Threads place place' t v i j i' j' more more' x y p p' q q' k
     if_no_larger (form_size p) (form_size q) (form_size x) (form_size y) (form_size k) (form_size p') (form_size q') (times i (form_size x)) (times i' (form_size x)) (times j (form_size y)) (times j' (form_size y)) more more'
     (times (i + i') (form_size x)) (times (j + j') (form_size y)) (led_size v x y i j p p' f) (led_size v x y i' j' q q' g) (times_sum i i' (form_size x)) (times_sum j j' (form_size y))
     (size_spread (i + i') x more spread) (size_spread (j + j') y more' spread') small
+threaded_size c d (NumberLast place v n x k) = omega arith
 threaded_size c d (ChecksFirst place place' v x n k near) = omega arith
 
 -- ---- what is counted of loads, calls and conditions
@@ -149,4 +150,5 @@ module _ (f : Item → ℕ) (h : Test → ℕ) (heavy : CountsHeavy f) where
       if_counts_less (h t) (count_in p) (count_in q) (h (is_nonzero v)) (count_in x) (count_in y) (count_in k) (count_in p') (count_in q') (times i (count_in x)) (times i' (count_in x)) (times j (count_in y)) (times j' (count_in y))
       (times (i + i') (count_in x)) (times (j + j') (count_in y)) (led_count v x y i j p p' r) (led_count v x y i' j' q q' s) (times_sum i i' (count_in x)) (times_sum j j' (count_in y))
       (count_spread (i + i') x more spread) (count_spread (j + j') y more' spread')
+  threaded_count c d (NumberLast place v n x k) = (let none = heavy (gives_sum v x n) refl in omega (arith, none))
   threaded_count c d (ChecksFirst place place' v x n k near) = (let none = heavy (Expect (InBounds x n)) refl in omega (arith, none))

@@ -1,6 +1,7 @@
 -- Code in which conditions are threaded does what the code does, in no more items.
-use Rattle.std.proofs.Common.{◌≡◌, ℕ, zero, suc, ◌+◌, ◌≤◌, Bool, true, false, not, nat_eq, if◌then◌else◌, refl, ap, sym, subst, arith}
+use Rattle.std.proofs.Common.{◌≡◌, ℕ, zero, suc, ◌+◌, ◌%◌, ◌^◌, ◌≤◌, Bool, true, false, not, nat_eq, if◌then◌else◌, refl, ap, sym, subst, arith}
 use Rattle.std.proofs.Common.{Option, Some, None, length}
+use Rattle.std.proofs.Math.Nat.{add_comm}
 use Rattle.std.proofs.lemmas.Bool.{eq-eqb}
 use Rattle.dae_base.specs.Words.{plus}
 use Rattle.dae_base.specs.declared.Place.{Place}
@@ -15,12 +16,13 @@ use Rattle.dae_meaning.proofs.Laws.{bind_alike, turns_alike}
 use Rattle.dae_ir.specs.Code.{Done, Do}
 use Rattle.dae_ir.specs.Form.{Form, Program, Calls, value, holds, does, deeper, calls_of, all_loads}
 use Rattle.dae_ir.specs.declared.form.Operand.{Operand}
-use Rattle.dae_ir.specs.declared.form.Operand.TheVariants.{Variable}
+use Rattle.dae_ir.specs.declared.form.Operand.TheVariants.{Variable, Number}
+use Rattle.dae_ir.specs.declared.form.Value.TheVariants.{Binary}
 use Rattle.dae_ir.specs.declared.form.Check.TheVariants.{Place as Good, InBounds}
-use Rattle.dae_ir.specs.declared.form.Item.TheVariants.{Expect}
+use Rattle.dae_ir.specs.declared.form.Item.TheVariants.{Assign, Expect}
 use Rattle.dae_threads.specs.Forms.{HasNoMoreItems, having_done}
 use Rattle.dae_ir.specs.Laws.{SameVariables}
-use Rattle.dae_threads.specs.Threaded.{gives_sum, is_nonzero, list_for, IsLed, LedTo, LedInBoth, BehindItem, BehindIf, BehindLoop, IsThreaded, Unchanged, InTurn, InRest, InLists, InLoop, Threads, ChecksFirst}
+use Rattle.dae_threads.specs.Threaded.{gives_sum, is_nonzero, list_for, IsLed, LedTo, LedInBoth, BehindItem, BehindIf, BehindLoop, IsThreaded, Unchanged, InTurn, InRest, InLists, InLoop, Threads, NumberLast, ChecksFirst}
 use Rattle.dae_threads.proofs.Items.{Ends, Goes, runs, CallsGo, any, goes_then, choice_goes, no_more, ticks, item_goes, code_goes, itself_goes}
 
 -- ---- one stretch, and then others
@@ -51,6 +53,10 @@ decided v n e = ap (λ (k : ℕ). not (nat_eq k 0)) (is_given v n e)
 sum_got : (v n : ℕ) (x : Operand) (e : Env) → put true v (combined Add (value x e) n) e v ≡ plus (value x e) n
 unfolding combined
 sum_got v n x e = is_given v (plus (value x e) n) e
+
+sum_ordered : (n : ℕ) (x : Operand) (e : Env) → combined Add (value x e) n ≡ combined Add n (value x e)
+unfolding combined
+sum_ordered n x e = ap (λ (sum : ℕ). sum % 2 ^ 32) (add_comm (value x e) n)
 
 -- ---- code, in one program
 
@@ -115,6 +121,12 @@ module _ (p : Program) (counted : ℕ → Bool) (calls : Calls) (enters : CallsG
   check_moved None place v x m k e w a b l = same k (put true v (combined Add (value x e) m) e) w (a + 1 + 1) (b + 1 + 1) (omega (arith, l))
   check_moved (Some code) place v x m k e w a b l = BothOver (Trapped code) (having_done (a + 1 + 1) w) (having_done (b + 1) w) (no_more w (a + 1 + 1) (b + 1) (omega (arith, l)))
 
+  -- a sum is the same with its number behind
+  ordered_goes : (place : Place) (v m : ℕ) (x : Operand) (k : Form) → Goes (run (Do place (Assign v (Binary Add (Number m) x)) k)) (run (Do place (gives_sum v x m) k))
+  ordered_goes place v m x k e w a b l =
+      subst (λ (y : ℕ). Ends (run k (put true v y e) (having_done (a + 1) w)) (run k (put true v (combined Add (value x e) m) e) (having_done (b + 1) w)))
+      (sum_ordered m x e) (same k (put true v (combined Add (value x e) m) e) w (a + 1) (b + 1) (omega (arith, l)))
+
   sum_goes : (place place' : Place) (v : ℕ) (x : Operand) (m : ℕ) (k : Form)
       → Goes (run (Do place (gives_sum v x m) (Do place' (Expect (Good B1 (Variable v))) k))) (run (Do place' (Expect (InBounds x m)) (Do place (gives_sum v x m) k)))
   sum_goes place place' v x m k e w a b l =
@@ -143,6 +155,7 @@ module _ (p : Program) (counted : ℕ → Bool) (calls : Calls) (enters : CallsG
       (led_goes v x y i j f f' first e w (a + 1) (b + 1) (omega (arith, l))) (led_goes v x y i' j' g g' second e w (a + 1) (b + 1) (omega (arith, l))) in
       subst (λ (r : Result Env). Ends r (right ▷ run k)) (bind_both left (decides v x y) (run k))
       (bind_alike SameVariables HasNoMoreItems (left ▷ decides v x y) right (run k) (run k) both (any (run k) (run k) (same k)))
+  threaded_goes c d (NumberLast place v m x k) e w a b l = ordered_goes place v m x k e w a b l
   threaded_goes c d (ChecksFirst place place' v x m k near) e w a b l = sum_goes place place' v x m k e w a b l
 
 -- ---- whole programs

@@ -1,5 +1,5 @@
 -- In code in which conditions are threaded each variable is set before it is read.
-use Rattle.std.proofs.Common.{◌≡◌, ℕ, Bool, true, false, nat_eq, if◌then◌else◌}
+use Rattle.std.proofs.Common.{◌≡◌, ℕ, Bool, true, false, nat_eq, if◌then◌else◌, refl}
 use Rattle.std.proofs.lemmas.Bool.{and_from, and_parts}
 use Rattle.dae_meaning.specs.Variables.{VariableSet}
 use Rattle.dae_ir.specs.Form.{Form}
@@ -9,7 +9,7 @@ use Rattle.dae_ir.specs.declared.form.Operand.TheVariants.{Variable}
 use Rattle.dae_ir.specs.declared.form.Check.TheVariants.{Place as Good}
 use Rattle.dae_ir.specs.SetFirst.{form_flow, IsSetFirst, assured, after_item}
 use Rattle.dae_ir.proofs.Laws.{meet, and_more, assured_more, first_more}
-use Rattle.dae_threads.specs.Threaded.{gives_number, gives_sum, list_for, IsLed, LedTo, LedInBoth, BehindItem, BehindIf, BehindLoop, IsThreaded, Unchanged, InTurn, InRest, InLists, InLoop, Threads, ChecksFirst}
+use Rattle.dae_threads.specs.Threaded.{gives_number, gives_sum, list_for, IsLed, LedTo, LedInBoth, BehindItem, BehindIf, BehindLoop, IsThreaded, Unchanged, InTurn, InRest, InLists, InLoop, Threads, NumberLast, ChecksFirst}
 
 -- ---- sets
 
@@ -98,6 +98,7 @@ threaded_first c d set (Threads place place' t v i j i' j' more more' x y p p' q
     let wider : IsWithin behind new = meet_from behind (assured form_flow set p') (assured form_flow set q') one.1 other.1 in
     let rest : IsFirst new (assured form_flow behind k) k = first_behind k behind new (assured form_flow behind k) wider (condition.3, λ u m. m) in
     ((h.0, one.0, other.0, rest.0), rest.1)
+threaded_first c d set (NumberLast place v n x k) h = ((and_from (has set x) true h.0 refl, h.1), λ u m. m)
 threaded_first c d set (ChecksFirst place place' v x n k near) h =
     let behind : (has_check (after_item set (gives_sum v x n)) (Good B1 (Variable v)) ≡ true) × IsSetFirst form_flow (after_item set (gives_sum v x n)) k = h.1 in
     (((and_parts (has set x) true h.0).0, (h.0, behind.1)), λ u m. m)

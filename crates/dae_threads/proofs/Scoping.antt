@@ -7,18 +7,22 @@ use Rattle.dae_ir.specs.Form.{Form}
 use Rattle.dae_ir.specs.Rounds.{is_jump, stays}
 use Rattle.dae_ir.specs.Scope.{closes, is_end}
 use Rattle.dae_ir.specs.declared.form.Operand.{Operand}
-use Rattle.dae_ir.specs.declared.form.Operand.TheVariants.{Variable}
+use Rattle.dae_meaning.specs.declared.Operator.TheVariants.{Add}
+use Rattle.dae_ir.specs.declared.form.Operand.TheVariants.{Variable, Number}
+use Rattle.dae_ir.specs.declared.form.Value.TheVariants.{Binary}
 use Rattle.dae_ir.specs.declared.form.Check.TheVariants.{Place as Good, InBounds}
 use Rattle.dae_ir.specs.declared.form.Item.{Item}
-use Rattle.dae_ir.specs.declared.form.Item.TheVariants.{Expect}
+use Rattle.dae_ir.specs.declared.form.Item.TheVariants.{Assign, Expect}
 use Rattle.dae_ir.specs.declared.form.Test.{Test}
-use Rattle.dae_threads.specs.Threaded.{gives_number, gives_sum, is_nonzero, list_for, IsLed, LedTo, LedInBoth, BehindItem, BehindIf, BehindLoop, IsThreaded, Unchanged, InTurn, InRest, InLists, InLoop, Threads, ChecksFirst}
+use Rattle.dae_threads.specs.Threaded.{gives_number, gives_sum, is_nonzero, list_for, IsLed, LedTo, LedInBoth, BehindItem, BehindIf, BehindLoop, IsThreaded, Unchanged, InTurn, InRest, InLists, InLoop, Threads, NumberLast, ChecksFirst}
 
 -- ---- each item and each test
 
--- where there may be a sum and a check of the byte there, there may be one of the byte behind what is added to
-abbrev pub KeepsSums : (Item → Type 0) → Type 0
-KeepsSums I = (v : ℕ) (x : Operand) (n : ℕ) → n < 2048 → I (gives_sum v x n) → I (Expect (Good B1 (Variable v))) → I (Expect (InBounds x n))
+-- where there may be a sum, there may be one with its number behind; and with a check of the byte there, one of the byte behind what
+-- is added to
+pub record KeepsSums (I : Item → Type 0) : Type 0 where
+  pub ordered : (v n : ℕ) (x : Operand) → I (Assign v (Binary Add (Number n) x)) → I (gives_sum v x n)
+  pub checked : (v : ℕ) (x : Operand) (n : ℕ) → n < 2048 → I (gives_sum v x n) → I (Expect (Good B1 (Variable v))) → I (Expect (InBounds x n))
 
 module _ (I : Item → Type 0) (J : Test → Type 0) where
   either_each : (x y : Form) → Each I J x → Each I J y → (c : Bool) → Each I J (if c then y else x)
@@ -42,7 +46,8 @@ module _ (I : Item → Type 0) (J : Test → Type 0) where
     threaded_each c d (Threads place place' t v i j i' j' more more' x y p p' q q' k f g spread spread' small) r =
         let behind : J (is_nonzero v) × Each I J x × Each I J y × Each I J k = r.3 in
         (r.0, led_each v x y behind.1 behind.2 i j p p' f r.1, led_each v x y behind.1 behind.2 i' j' q q' g r.2, behind.3)
-    threaded_each c d (ChecksFirst place place' v x n k near) r = let check : I (Expect (Good B1 (Variable v))) × Each I J k = r.1 in (sums v x n near r.0 check.0, (r.0, check.1))
+    threaded_each c d (NumberLast place v n x k) r = (sums.ordered v n x r.0, r.1)
+    threaded_each c d (ChecksFirst place place' v x n k near) r = let check : I (Expect (Good B1 (Variable v))) × Each I J k = r.1 in (sums.checked v x n near r.0 check.0, (r.0, check.1))
 
 each_weaker : (I I' : Item → Type 0) (J J' : Test → Type 0) → ((item : Item) → I item → I' item) → ((t : Test) → J t → J' t) → (code : Form) → Each I J code → Each I' J' code
 each_weaker I I' J J' f g Done r = tt
@@ -92,7 +97,7 @@ module _ (f : Item → Bool) (h : Test → Bool) where
       let a = three_parts (every f h p) (every f h q) (every f h k) all in
       three_from (every f h p) (every f h q) (every f h k') a.0 a.1 (led_has v x y r s i1 j1 k k' rest a.2)
 
-  module _ (checks : (x : Operand) (n : ℕ) → f (Expect (InBounds x n)) ≡ true) where
+  module _ (sums : (v n : ℕ) (x : Operand) → f (gives_sum v x n) ≡ true) (checks : (x : Operand) (n : ℕ) → f (Expect (InBounds x n)) ≡ true) where
     pub threaded_has : (c d : Form) → IsThreaded c d → Has c → Has d
     threaded_has c d (Unchanged c1) all = all
     threaded_has c d (InTurn c1 d1 e1 one other) all = threaded_has d1 e1 other (threaded_has c1 d1 one all)
@@ -109,6 +114,9 @@ module _ (f : Item → Bool) (h : Test → Bool) where
         let a = four_parts (h t) (every f h p) (every f h q) (every f h (If place' (is_nonzero v) x y k)) all in
         let b = four_parts (h (is_nonzero v)) (every f h x) (every f h y) (every f h k) a.3 in
         four_from (h t) (every f h p') (every f h q') (every f h k) a.0 (led_has v x y b.1 b.2 i j p p' one a.1) (led_has v x y b.1 b.2 i' j' q q' other a.2) b.3
+    threaded_has c d (NumberLast place v n x k) all =
+        let a = and_parts (f (Assign v (Binary Add (Number n) x))) (every f h k) all in
+        and_from (f (gives_sum v x n)) (every f h k) (sums v n x) a.1
     threaded_has c d (ChecksFirst place place' v x n k near) all =
         let a = three_parts (f (gives_sum v x n)) (f (Expect (Good B1 (Variable v)))) (every f h k) all in
         three_from (f (Expect (InBounds x n))) (f (gives_sum v x n)) (every f h k) (checks x n) a.0 a.2
@@ -159,6 +167,7 @@ threaded_stays c d inside (Threads place place' t v i j i' j' more more' x y p p
     let a = three_parts (stays inside p) (stays inside q) (stays inside (If place' (is_nonzero v) x y k)) all in
     let b = three_parts (stays inside x) (stays inside y) (stays inside k) a.2 in
     three_from (stays inside p') (stays inside q') (stays inside k) (led_stays inside v x y b.0 b.1 i j p p' one a.0) (led_stays inside v x y b.0 b.1 i' j' q q' other a.1) b.2
+threaded_stays c d inside (NumberLast place v n x k) all = all
 threaded_stays c d inside (ChecksFirst place place' v x n k near) all = all
 
 -- ---- its own list ends as before
@@ -170,4 +179,5 @@ threaded_closes c d (InRest place item k k' rest) = ap (λ (b : Bool). is_end it
 threaded_closes c d (InLists place t p p' q q' k k' one other rest) = threaded_closes k k' rest
 threaded_closes c d (InLoop place p p' q q' k k' one other rest) = threaded_closes k k' rest
 threaded_closes c d (Threads place place' t v i j i' j' more more' x y p p' q q' k one other spread spread' small) = refl
+threaded_closes c d (NumberLast place v n x k) = refl
 threaded_closes c d (ChecksFirst place place' v x n k near) = refl

@@ -7,16 +7,19 @@ use Rattle.dae_base.specs.declared.Place.{Place}
 use Rattle.dae_base.specs.declared.Width.TheVariants.{B1}
 use Rattle.dae_ir.specs.Code.{Done, Do, If, Loop}
 use Rattle.dae_ir.specs.Form.{Form, before, row, form_of}
-use Rattle.dae_ir.specs.declared.form.Operand.TheVariants.{Variable}
+use Rattle.dae_meaning.specs.declared.Operator.TheVariants.{Add}
+use Rattle.dae_ir.specs.declared.form.Operand.TheVariants.{Variable, Number}
+use Rattle.dae_ir.specs.declared.form.Value.{Value}
+use Rattle.dae_ir.specs.declared.form.Value.TheVariants.{Binary}
 use Rattle.dae_ir.specs.declared.form.Check.TheVariants.{Place as Good, InBounds}
 use Rattle.dae_ir.specs.declared.form.Item.{Item}
-use Rattle.dae_ir.specs.declared.form.Item.TheVariants.{Expect}
+use Rattle.dae_ir.specs.declared.form.Item.TheVariants.{Assign, Expect}
 use Rattle.dae_ir.specs.declared.form.Test.{Test}
 use Rattle.dae_ir.specs.declared.form.Statement.{Statement, Simple, If', Loop'}
 use Rattle.dae_ir.specs.declared.form.Statement.TheVariants as statement
 use Rattle.dae_ir.proofs.Laws.{before_if, before_loop, rest, rest_one, rest_end}
-use Rattle.dae_threads.specs.Threaded.{gives_number, gives_sum, is_nonzero, list_for, firsts, seconds, IsLed, LedTo, LedInBoth, BehindItem, BehindIf, BehindLoop, IsSpread, IsThreaded, Unchanged, InTurn, InRest, InLists, InLoop, Threads, ChecksFirst}
-use Rattle.dae_threads.specs.Walked.{list_before, IsCopy, AreCopiedBehind, IsThreadedTo, IsJoinedWith, IsJoined, IsMovedBefore, AreWithBoth, AreWithNext}
+use Rattle.dae_threads.specs.Threaded.{gives_number, gives_sum, is_nonzero, list_for, firsts, seconds, IsLed, LedTo, LedInBoth, BehindItem, BehindIf, BehindLoop, IsSpread, IsThreaded, Unchanged, InTurn, InRest, InLists, InLoop, Threads, NumberLast, ChecksFirst}
+use Rattle.dae_threads.specs.Walked.{value_in_order, statement_in_order, list_before, IsCopy, AreCopiedBehind, IsThreadedTo, IsJoinedWith, IsJoined, AreExchanged, AreWithBoth, AreWithNext}
 
 -- ---- lists, one behind another
 
@@ -182,19 +185,32 @@ joined_pair xs s t s' ys joined is k =
     subst (λ (d : Form). IsThreaded (list_before xs (before s (before t k))) d) (sym (list_then xs (s' ∷ []) ys k is))
     (threaded_behind_all xs (before s (before t k)) (before s' k) (joined k))
 
--- a check of a sum comes before the sum
-pub sum_moved : (s t : Statement) (place place' : Place) (v u w n : ℕ) → s ≡ statement.Simple place (gives_sum v (Variable w) n) → t ≡ statement.Simple place' (Expect (Good B1 (Variable u))) → v ≡ u → n < 2048
-    → IsMovedBefore s t (statement.Simple place' (Expect (InBounds (Variable w) n)))
-sum_moved s t place place' v u w n sum check is near =
-    let checks : t ≡ statement.Simple place' (Expect (Good B1 (Variable v))) = check ∙ ap (λ (i : ℕ). statement.Simple place' (Expect (Good B1 (Variable i)))) (sym is) in
-    subst (λ (x : Statement). IsMovedBefore x t (statement.Simple place' (Expect (InBounds (Variable w) n)))) (sym sum)
-    (subst (λ (x : Statement). IsMovedBefore (statement.Simple place (gives_sum v (Variable w) n)) x (statement.Simple place' (Expect (InBounds (Variable w) n)))) (sym checks)
-    (λ k. ChecksFirst place place' v (Variable w) n k near))
+-- a sum is written with its number behind
+value_ordered : (place : Place) (v : ℕ) (x : Value) (k : Form) → IsThreaded (Do place (Assign v x) k) (Do place (Assign v (value_in_order x)) k)
+value_ordered place v (Binary Add (Number n) y) k = NumberLast place v n y k
+value_ordered place v (Binary Add (Variable u) y) k = Unchanged (Do place (Assign v (Binary Add (Variable u) y)) k)
+value_ordered place v _ k = Unchanged _
 
-pub moved_pair : (xs : List Statement) (s t t' : Statement) (ys : List Statement) → IsMovedBefore s t t' → ys ≡ xs ++ t' ∷ s ∷ [] → AreWithBoth xs s t ys
-moved_pair xs s t t' ys moved is k =
-    subst (λ (d : Form). IsThreaded (list_before xs (before s (before t k))) d) (sym (list_then xs (t' ∷ s ∷ []) ys k is))
-    (threaded_behind_all xs (before s (before t k)) (before t' (before s k)) (moved k))
+statement_ordered : (s : Statement) → IsThreadedTo s (statement_in_order s)
+statement_ordered (Simple place (Assign v x)) k = value_ordered place v x k
+statement_ordered _ k = Unchanged _
+
+-- a check of a sum comes before the sum
+pub sum_moved : (s t : Statement) (place place' : Place) (v u w n : ℕ) → statement_in_order s ≡ statement.Simple place (gives_sum v (Variable w) n) → t ≡ statement.Simple place' (Expect (Good B1 (Variable u))) → v ≡ u → n < 2048
+    → AreExchanged s t (statement.Simple place' (Expect (InBounds (Variable w) n))) (statement.Simple place (gives_sum v (Variable w) n))
+sum_moved s t place place' v u w n sum check is near k =
+    let given : Statement = statement.Simple place (gives_sum v (Variable w) n) in
+    let first : Statement = statement.Simple place' (Expect (InBounds (Variable w) n)) in
+    let checks : t ≡ statement.Simple place' (Expect (Good B1 (Variable v))) = check ∙ ap (λ (i : ℕ). statement.Simple place' (Expect (Good B1 (Variable i)))) (sym is) in
+    let ordered : IsThreaded (before s (before t k)) (before given (before t k)) = subst (λ (x : Statement). IsThreaded (before s (before t k)) (before x (before t k))) sum (statement_ordered s (before t k)) in
+    let moved : IsThreaded (before given (before t k)) (before first (before given k)) =
+    subst (λ (x : Statement). IsThreaded (before given (before x k)) (before first (before given k))) (sym checks) (ChecksFirst place place' v (Variable w) n k near) in
+    InTurn (before s (before t k)) (before given (before t k)) (before first (before given k)) ordered moved
+
+pub moved_pair : (xs : List Statement) (s t t' s' : Statement) (ys : List Statement) → AreExchanged s t t' s' → ys ≡ xs ++ t' ∷ s' ∷ [] → AreWithBoth xs s t ys
+moved_pair xs s t t' s' ys moved is k =
+    subst (λ (d : Form). IsThreaded (list_before xs (before s (before t k))) d) (sym (list_then xs (t' ∷ s' ∷ []) ys k is))
+    (threaded_behind_all xs (before s (before t k)) (before t' (before s' k)) (moved k))
 
 pub apart_pair : (xs : List Statement) (s t : Statement) (ys : List Statement) → ys ≡ xs ++ s ∷ t ∷ [] → AreWithBoth xs s t ys
 apart_pair xs s t ys is k =

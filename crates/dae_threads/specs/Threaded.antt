@@ -1,6 +1,7 @@
 -- Code in which conditions are threaded. Where an If gives a variable a number at each of its ends, and the If behind it tests
 -- whether that variable isn't 0, this one goes: at each end the list stands that it would choose there. The code is no larger. And
--- where a variable gets a sum, and the byte there is checked next, the byte so many bytes behind what is added to is checked before.
+-- where a variable gets a sum, and the byte there is checked next, the byte so many bytes behind what is added to is checked before;
+-- a sum may be written with its number behind for that.
 use Rattle.std.specs.Prelude.{◌≡◌, ℕ, ◌+◌, ◌≤◌, ◌<◌, Bool, true, false, nat_eq, if◌then◌else◌}
 use Rattle.dae_base.specs.declared.Place.{Place}
 use Rattle.dae_base.specs.declared.Width.TheVariants.{B1}
@@ -72,7 +73,8 @@ gives_sum v x n = Assign v (Binary Add x (Number n))
 
 -- ---- code
 
--- The code, or what it becomes step by step, in its parts, by one If that goes, or by a check that comes before a sum.
+-- The code, or what it becomes step by step, in its parts, by one If that goes, by a sum of a number with that number behind, or by a
+-- check that comes before a sum.
 pub data IsThreaded : Form → Form → Type 0 where
   Unchanged : (c : Form) → IsThreaded c c
   InTurn : (c d e : Form) → IsThreaded c d → IsThreaded d e → IsThreaded c e
@@ -84,5 +86,7 @@ pub data IsThreaded : Form → Form → Type 0 where
   Threads : (place place' : Place) (t : Test) (v i j i' j' more more' : ℕ) (x y p p' q q' k : Form)
       → IsLed v x y i j p p' → IsLed v x y i' j' q q' → IsSpread (i + i') x more → IsSpread (j + j') y more' → more + more' ≤ 1
       → IsThreaded (If place t p q (If place' (is_nonzero v) x y k)) (If place t p' q' k)
+  NumberLast : (place : Place) (v n : ℕ) (x : Operand) (k : Form)
+      → IsThreaded (Do place (Assign v (Binary Add (Number n) x)) k) (Do place (gives_sum v x n) k)
   ChecksFirst : (place place' : Place) (v : ℕ) (x : Operand) (n : ℕ) (k : Form) → n < 2048
       → IsThreaded (Do place (gives_sum v x n) (Do place' (Expect (Good B1 (Variable v))) k)) (Do place' (Expect (InBounds x n)) (Do place (gives_sum v x n) k))
