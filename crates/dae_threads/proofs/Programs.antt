@@ -1,5 +1,5 @@
 -- Whole forms in which conditions are threaded.
-use Rattle.std.proofs.Common.{◌≡◌, ℕ, zero, suc, ◌<◌, ◌≤◌, Bool, true, false, not, List, [], ◌∷◌, length, Option, Some, refl, ap, sym, ◌∙◌, subst, arith}
+use Rattle.std.proofs.Common.{◌≡◌, ℕ, zero, suc, ◌<◌, ◌≤◌, true, false, not, List, [], ◌∷◌, length, Option, Some, refl, ap, sym, ◌∙◌, subst, arith}
 use Rattle.std.specs.Prelude.{slice_get, IsTrue}
 use Rattle.std.specs.List.{AllByRecursion}
 use Rattle.std.proofs.lemmas.Bool.{and_from, and_parts}
@@ -102,7 +102,7 @@ module _ (all new : List Function) (keeps : KeepsArguments all new) where
         names = subst (λ (n : ℕ). Each (ItemIn new n) (TestIn n) d) (sym r.variables)
             (threaded_names (ItemIn all f.variables) (ItemIn new f.variables) (TestIn f.variables) (TestIn f.variables) (item_in f.variables) (λ t h. h) (sums_in f.variables) c d r.body i.names);
         loops = threaded_stays c d false r.body i.loops;
-        ends = subst (λ (b : Bool). IsTrue b) (sym (threaded_closes c d r.body)) i.ends;
+        ends = threaded_closes c d r.body i.ends;
       }
 
   functions_in : (fs gs : List Function) → AreThreadedFunctions fs gs → AllByRecursion (FunctionIn all) fs → AllByRecursion (FunctionIn new) gs

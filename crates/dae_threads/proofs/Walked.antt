@@ -18,7 +18,7 @@ use Rattle.dae_ir.specs.declared.form.Test.{Test}
 use Rattle.dae_ir.specs.declared.form.Statement.{Statement, Simple, If', Loop'}
 use Rattle.dae_ir.specs.declared.form.Statement.TheVariants as statement
 use Rattle.dae_ir.proofs.Laws.{before_if, before_loop, rest, rest_one, rest_end}
-use Rattle.dae_threads.specs.Threaded.{gives_number, gives_sum, is_nonzero, list_for, firsts, seconds, IsLed, LedTo, LedInBoth, BehindItem, BehindIf, BehindLoop, IsSpread, IsThreaded, Unchanged, InTurn, InRest, InLists, InLoop, Threads, NumberLast, ChecksFirst}
+use Rattle.dae_threads.specs.Threaded.{gives_number, gives_sum, ends_early, code_then, is_nonzero, list_for, firsts, seconds, IsLed, LedTo, LedInBoth, BehindItem, BehindIf, BehindLoop, IsSpread, IsThreaded, Unchanged, InTurn, InRest, InLists, InLoop, Threads, ListBehind, NumberLast, ChecksFirst}
 use Rattle.dae_threads.specs.Walked.{value_in_order, statement_in_order, list_before, IsCopy, AreCopiedBehind, IsThreadedTo, IsJoinedWith, IsJoined, AreExchanged, AreWithBoth, AreWithNext}
 
 -- ---- lists, one behind another
@@ -223,6 +223,40 @@ pub next_alone : (xs xs' : List Statement) (t : Statement) (ys : List Statement)
 next_alone xs xs' t ys is longer k =
     across _ _ _ _ (list_then xs' [] xs (before t k) is) (list_then xs' (t ∷ []) ys k longer) (Unchanged (list_before xs' (before t k)))
 
+-- ---- lists behind their conditions
+
+pub next_as_is : (xs : List Statement) (s : Statement) (ys : List Statement) → ys ≡ xs ++ s ∷ [] → AreWithNext xs s ys
+next_as_is xs s ys is k =
+    subst (λ (d : Form). IsThreaded (list_before xs (before s k)) d) (sym (list_then xs (s ∷ []) ys k is)) (Unchanged (list_before xs (before s k)))
+
+-- what comes in place of a statement comes behind others
+pub next_instead : (xs : List Statement) (s s' : Statement) (ys : List Statement) → IsThreadedTo s s' → AreWithNext xs s' ys → AreWithNext xs s ys
+next_instead xs s s' ys one next k =
+    InTurn (list_before xs (before s k)) (list_before xs (before s' k)) (list_before ys k) (threaded_behind_all xs (before s k) (before s' k) (one k)) (next k)
+
+then_before : (s : Statement) (c d : Form) → code_then (before s c) d ≡ before s (code_then c d)
+then_before (Simple place item) c d = refl
+then_before (If' place t s p u q) c d = refl
+then_before (Loop' place s p u q) c d = refl
+
+then_list : (ss : List Statement) (k : Form) → code_then (form_of ss) k ≡ list_before ss k
+then_list [] k = refl
+then_list (s ∷ ss) k = then_before s (form_of ss) k ∙ ap (before s) (then_list ss k)
+
+-- the first list comes behind the condition, where the second one ends early
+pub list_behind : (xs : List Statement) (place : Place) (t : Test) (none p q : Vec Statement Global) (ys : List Statement) → none.items ≡ [] → ends_early (form_of q.items) ≡ true
+    → ys ≡ xs ++ statement.If place t none q ∷ p.items → AreWithNext xs (statement.If place t p q) ys
+list_behind xs place t none p q ys nothing early is k =
+    let x : Form = form_of p.items in
+    let y : Form = form_of q.items in
+    let list : Form = list_before p.items k in
+    let condition : before (statement.If place t none q) list ≡ If place t Done y list = before_if place t none q list ∙ ap (λ (l : List Statement). If place t (form_of l) y list) nothing in
+    let step : IsThreaded (If place t x y k) (If place t Done y list) = subst (λ (c : Form). IsThreaded (If place t x y k) (If place t Done y c)) (then_list p.items k) (ListBehind place t x y k early) in
+    across (list_before xs (before (statement.If place t p q) k)) (list_before xs (If place t x y k)) (list_before ys k) (list_before xs (If place t Done y list))
+    (ap (λ (c : Form). list_before xs c) (before_if place t p q k))
+    (list_then xs (statement.If place t none q ∷ p.items) ys k is ∙ ap (λ (c : Form). list_before xs c) condition)
+    (threaded_behind_all xs (If place t x y k) (If place t Done y list) step)
+
 -- the first i statements have become those
 abbrev pub ThreadedUpTo : List Statement → ℕ → List Statement → Type 0
 ThreadedUpTo ss i out = IsThreaded (form_of ss) (list_before out (form_of (drop i ss)))
@@ -237,6 +271,10 @@ threaded_next ss i s s' out out' lt is one joined so_far =
     let second : IsThreaded (list_before out (before s behind)) (list_before out (before s' behind)) = threaded_behind_all out (before s behind) (before s' behind) (one behind) in
     InTurn (form_of ss) (list_before out (before s behind)) (list_before out' behind) first
     (InTurn (list_before out (before s behind)) (list_before out (before s' behind)) (list_before out' behind) second (joined behind))
+
+-- one statement more came behind those
+pub threaded_further : (ss : List Statement) (i : ℕ) (s : Statement) (out out' : List Statement) → i < length ss → s ≡ get_or ss i s → AreWithNext out s out' → ThreadedUpTo ss i out → ThreadedUpTo ss (i + 1) out'
+threaded_further ss i s out out' lt is one so_far = threaded_next ss i s s out out' lt is (λ k. Unchanged (before s k)) one so_far
 
 pub threaded_all : (ss : List Statement) (i : ℕ) (out : List Statement) → length ss ≤ i → ThreadedUpTo ss i out → IsThreaded (form_of ss) (form_of out)
 threaded_all ss i out le so_far =
