@@ -99,7 +99,7 @@ if_no_larger : (p q x y k p' q' i i' j j' more more' : ℕ) (xs ys : ℕ) → p'
 if_no_larger p q x y k p' q' i i' j j' more more' xs ys a b c d e f g = omega (arith, a, b, c, d, e, f, g)
 
 then_size : (c d : Form) → form_size (code_then c d) ≡ form_size c + form_size d
-then_size Done d = refl
+then_size Done d = omega arith
 then_size (Do place item k) d = (let e = then_size k d in omega (arith, e))
 then_size (If place t p q k) d = (let e = then_size k d in omega (arith, e))
 then_size (Loop place p q k) d = (let e = then_size k d in omega (arith, e))
@@ -148,7 +148,7 @@ module _ (f : Item → ℕ) (h : Test → ℕ) (heavy : CountsHeavy f) where
   if_counts_less t p q u x y k p' q' i i' j j' xs ys a b c d e g = omega (arith, a, b, c, d, e, g)
 
   then_count : (c d : Form) → count_in (code_then c d) ≡ count_in c + count_in d
-  then_count Done d = refl
+  then_count Done d = omega arith
   then_count (Do place item k) d = (let e = then_count k d in omega (arith, e))
   then_count (If place t p q k) d = (let e = then_count k d in omega (arith, e))
   then_count (Loop place p q k) d = (let e = then_count k d in omega (arith, e))

@@ -159,12 +159,12 @@ module _ (p : Program) (counted : ℕ → Bool) (calls : Calls) (enters : CallsG
   -- behind what ends early nothing is done
   early_goes : (c : Form) → ends_early c ≡ true → (f : Run Env) (e : Env) (w : World) → run c e w ▷ f ≡ run c e w
   early_goes Done h f e w = absurd (let z : false ≡ true = h in cc)
-  early_goes (Do place item k) h f e w = by (leads_away item) refl h where
-    by : (b : Bool) → leads_away item ≡ b → (b || ends_early k) ≡ true → run (Do place item k) e w ▷ f ≡ run (Do place item k) e w
-    by true is early = away_goes item is (run k) f e w
-    by false is early =
+  early_goes (Do place item k) h f e w = by (leads_away item) refl h (λ early. early_goes k early f) where
+    by : (b : Bool) → leads_away item ≡ b → (b || ends_early k) ≡ true → (ends_early k ≡ true → (g : Env) (v : World) → run k g v ▷ f ≡ run k g v) → run (Do place item k) e w ▷ f ≡ run (Do place item k) e w
+    by true is early rest = away_goes item is (run k) f e w
+    by false is early rest =
         let r : Result Env = does p counted calls item e w in
-        bind_both r (run k) f ∙ bind_same r (λ g v. run k g v ▷ f) (run k) (early_goes k early f)
+        bind_both r (run k) f ∙ bind_same r (λ g v. run k g v ▷ f) (run k) (rest early)
   early_goes (If place t x y k) h f e w =
       let r : Result Env = if holds t e then run x e (ticked w) else run y e (ticked w) in
       bind_both r (run k) f ∙ bind_same r (λ g v. run k g v ▷ f) (run k) (early_goes k h f)

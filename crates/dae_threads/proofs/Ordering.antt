@@ -113,10 +113,10 @@ all_behind_item (Halt x) h set v = refl
 
 all_behind : (c : Form) → ends_early c ≡ true → (set : VariableSet) (v : ℕ) → assured form_flow set c v ≡ true
 all_behind Done h set v = absurd (let z : false ≡ true = h in cc)
-all_behind (Do place item k) h set v = by (leads_away item) refl h where
-  by : (b : Bool) → leads_away item ≡ b → (b || ends_early k) ≡ true → assured form_flow (after_item set item) k v ≡ true
-  by true is early = assured_grows k (after_item set item) v (all_behind_item item is set v)
-  by false is early = all_behind k early (after_item set item) v
+all_behind (Do place item k) h set v = by (leads_away item) refl h (λ early. all_behind k early (after_item set item) v) where
+  by : (b : Bool) → leads_away item ≡ b → (b || ends_early k) ≡ true → (ends_early k ≡ true → assured form_flow (after_item set item) k v ≡ true) → assured form_flow (after_item set item) k v ≡ true
+  by true is early rest = assured_grows k (after_item set item) v (all_behind_item item is set v)
+  by false is early rest = rest early
 all_behind (If place t p q k) h set v = all_behind k h (meet (assured form_flow set p) (assured form_flow set q)) v
 all_behind (Loop place p q k) h set v = all_behind k h set v
 
