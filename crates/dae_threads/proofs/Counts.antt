@@ -1,7 +1,7 @@
 -- Code in which conditions are threaded is no larger, and A has no more to do.
 use Rattle.std.proofs.Common.{◌≡◌, ℕ, zero, suc, ◌+◌, ◌≤◌, Bool, true, false, nat_eq, if◌then◌else◌, refl, ap, ◌∙◌, arith}
 use Rattle.dae_base.specs.declared.Place.{Place}
-use Rattle.dae_ir.specs.Code.{Done, Do}
+use Rattle.dae_ir.specs.Code.{Done, Do, If, Loop}
 use Rattle.dae_ir.specs.Form.{Form}
 use Rattle.dae_ir.specs.Sizes.{form_size, item_weight, tally}
 use Rattle.dae_ir.specs.declared.form.Check.TheVariants.{InBounds}
@@ -9,7 +9,7 @@ use Rattle.dae_ir.specs.declared.form.Item.{Item}
 use Rattle.dae_ir.specs.declared.form.Item.TheVariants.{Assign, Load, Store, Print, Expect, Break, Continue, Call, Return, Halt}
 use Rattle.dae_ir.specs.declared.form.Test.{Test}
 use Rattle.dae_threads.specs.Laws.{CountsHeavy}
-use Rattle.dae_threads.specs.Threaded.{is_light, is_nonzero, list_for, firsts, seconds, IsLed, LedTo, LedInBoth, BehindItem, BehindIf, BehindLoop, IsSpread, AtMostOnce, OfNothing, Doubled, IsThreaded, Unchanged, InTurn, InRest, InLists, InLoop, Threads, ChecksFirst}
+use Rattle.dae_threads.specs.Threaded.{is_light, gives_sum, code_then, is_nonzero, list_for, firsts, seconds, IsLed, LedTo, LedInBoth, BehindItem, BehindIf, BehindLoop, IsSpread, AtMostOnce, OfNothing, Doubled, IsThreaded, Unchanged, InTurn, InRest, InLists, InLoop, Threads, ListBehind, NumberLast, ChecksFirst}
 
 -- ---- what stands so many times
 
@@ -98,6 +98,12 @@ if_no_larger : (p q x y k p' q' i i' j j' more more' : ℕ) (xs ys : ℕ) → p'
     → 1 + (p' + (q' + k)) ≤ 1 + (p + (q + (1 + (x + (y + k)))))
 if_no_larger p q x y k p' q' i i' j j' more more' xs ys a b c d e f g = omega (arith, a, b, c, d, e, f, g)
 
+then_size : (c d : Form) → form_size (code_then c d) ≡ form_size c + form_size d
+then_size Done d = omega arith
+then_size (Do place item k) d = (let e = then_size k d in omega (arith, e))
+then_size (If place t p q k) d = (let e = then_size k d in omega (arith, e))
+then_size (Loop place p q k) d = (let e = then_size k d in omega (arith, e))
+
 pub threaded_size : (c d : Form) → IsThreaded c d → form_size d ≤ form_size c
 threaded_size c d (Unchanged c1) = omega arith
 threaded_size c d (InTurn c1 d1 e1 f g) = (let one = threaded_size c1 d1 f in let other = threaded_size d1 e1 g in omega (arith, one, other))
@@ -108,6 +114,8 @@ threaded_size c d (Threads place place' t v i j i' j' more more' x y p p' q q' k
     if_no_larger (form_size p) (form_size q) (form_size x) (form_size y) (form_size k) (form_size p') (form_size q') (times i (form_size x)) (times i' (form_size x)) (times j (form_size y)) (times j' (form_size y)) more more'
     (times (i + i') (form_size x)) (times (j + j') (form_size y)) (led_size v x y i j p p' f) (led_size v x y i' j' q q' g) (times_sum i i' (form_size x)) (times_sum j j' (form_size y))
     (size_spread (i + i') x more spread) (size_spread (j + j') y more' spread') small
+threaded_size c d (ListBehind place t x y k early) = (let e = then_size x k in omega (arith, e))
+threaded_size c d (NumberLast place v n x k) = omega arith
 threaded_size c d (ChecksFirst place place' v x n k near) = omega arith
 
 -- ---- what is counted of loads, calls and conditions
@@ -139,6 +147,12 @@ module _ (f : Item → ℕ) (h : Test → ℕ) (heavy : CountsHeavy f) where
   if_counts_less : (t p q u x y k p' q' i i' j j' xs ys : ℕ) → p' ≡ p + (i + j) → q' ≡ q + (i' + j') → xs ≡ i + i' → ys ≡ j + j' → xs ≤ x → ys ≤ y → t + (p' + (q' + k)) ≤ t + (p + (q + (u + (x + (y + k)))))
   if_counts_less t p q u x y k p' q' i i' j j' xs ys a b c d e g = omega (arith, a, b, c, d, e, g)
 
+  then_count : (c d : Form) → count_in (code_then c d) ≡ count_in c + count_in d
+  then_count Done d = omega arith
+  then_count (Do place item k) d = (let e = then_count k d in omega (arith, e))
+  then_count (If place t p q k) d = (let e = then_count k d in omega (arith, e))
+  then_count (Loop place p q k) d = (let e = then_count k d in omega (arith, e))
+
   pub threaded_count : (c d : Form) → IsThreaded c d → count_in d ≤ count_in c
   threaded_count c d (Unchanged c1) = omega arith
   threaded_count c d (InTurn c1 d1 e1 r s) = (let one = threaded_count c1 d1 r in let other = threaded_count d1 e1 s in omega (arith, one, other))
@@ -149,4 +163,6 @@ module _ (f : Item → ℕ) (h : Test → ℕ) (heavy : CountsHeavy f) where
       if_counts_less (h t) (count_in p) (count_in q) (h (is_nonzero v)) (count_in x) (count_in y) (count_in k) (count_in p') (count_in q') (times i (count_in x)) (times i' (count_in x)) (times j (count_in y)) (times j' (count_in y))
       (times (i + i') (count_in x)) (times (j + j') (count_in y)) (led_count v x y i j p p' r) (led_count v x y i' j' q q' s) (times_sum i i' (count_in x)) (times_sum j j' (count_in y))
       (count_spread (i + i') x more spread) (count_spread (j + j') y more' spread')
+  threaded_count c d (ListBehind place t x y k early) = (let e = then_count x k in omega (arith, e))
+  threaded_count c d (NumberLast place v n x k) = (let none = heavy (gives_sum v x n) refl in omega (arith, none))
   threaded_count c d (ChecksFirst place place' v x n k near) = (let none = heavy (Expect (InBounds x n)) refl in omega (arith, none))

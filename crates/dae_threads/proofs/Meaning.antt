@@ -1,6 +1,7 @@
 -- Code in which conditions are threaded does what the code does, in no more items.
-use Rattle.std.proofs.Common.{◌≡◌, ℕ, zero, suc, ◌+◌, ◌≤◌, Bool, true, false, not, nat_eq, if◌then◌else◌, refl, ap, sym, subst, arith}
+use Rattle.std.proofs.Common.{◌≡◌, ℕ, zero, suc, ◌+◌, ◌%◌, ◌^◌, ◌≤◌, Bool, true, false, not, ◌||◌, nat_eq, if◌then◌else◌, refl, ap, sym, ◌∙◌, subst, arith}
 use Rattle.std.proofs.Common.{Option, Some, None, length}
+use Rattle.std.proofs.Math.Nat.{add_comm}
 use Rattle.std.proofs.lemmas.Bool.{eq-eqb}
 use Rattle.dae_base.specs.Words.{plus}
 use Rattle.dae_base.specs.declared.Place.{Place}
@@ -12,15 +13,18 @@ use Rattle.dae_meaning.specs.Operations.{combined, compared, misplaced}
 use Rattle.dae_meaning.specs.declared.Operator.TheVariants.{Add}
 use Rattle.dae_meaning.specs.Variables.{Env, put, entered}
 use Rattle.dae_meaning.proofs.Laws.{bind_alike, turns_alike}
-use Rattle.dae_ir.specs.Code.{Done, Do}
+use Rattle.dae_ir.specs.Code.{Done, Do, If, Loop}
 use Rattle.dae_ir.specs.Form.{Form, Program, Calls, value, holds, does, deeper, calls_of, all_loads}
 use Rattle.dae_ir.specs.declared.form.Operand.{Operand}
-use Rattle.dae_ir.specs.declared.form.Operand.TheVariants.{Variable}
+use Rattle.dae_ir.specs.declared.form.Operand.TheVariants.{Variable, Number}
+use Rattle.dae_ir.specs.declared.form.Value.TheVariants.{Binary}
 use Rattle.dae_ir.specs.declared.form.Check.TheVariants.{Place as Good, InBounds}
-use Rattle.dae_ir.specs.declared.form.Item.TheVariants.{Expect}
+use Rattle.dae_ir.specs.declared.form.Item.{Item}
+use Rattle.dae_ir.specs.declared.form.Item.TheVariants.{Assign, Load, Store, Print, Expect, Break, Continue, Call, Return, Halt}
+use Rattle.dae_ir.specs.declared.form.Test.{Test}
 use Rattle.dae_threads.specs.Forms.{HasNoMoreItems, having_done}
 use Rattle.dae_ir.specs.Laws.{SameVariables}
-use Rattle.dae_threads.specs.Threaded.{gives_sum, is_nonzero, list_for, IsLed, LedTo, LedInBoth, BehindItem, BehindIf, BehindLoop, IsThreaded, Unchanged, InTurn, InRest, InLists, InLoop, Threads, ChecksFirst}
+use Rattle.dae_threads.specs.Threaded.{gives_sum, leads_away, ends_early, code_then, is_nonzero, list_for, IsLed, LedTo, LedInBoth, BehindItem, BehindIf, BehindLoop, IsThreaded, Unchanged, InTurn, InRest, InLists, InLoop, Threads, ListBehind, NumberLast, ChecksFirst}
 use Rattle.dae_threads.proofs.Items.{Ends, Goes, runs, CallsGo, any, goes_then, choice_goes, no_more, ticks, item_goes, code_goes, itself_goes}
 
 -- ---- one stretch, and then others
@@ -39,6 +43,13 @@ bind_both (At Skips e w) f g = refl
 bind_both (At Returns e w) f g = refl
 bind_both (Over end w) f g = refl
 
+bind_same : (r : Result Env) (f g : Run Env) → ((e : Env) (w : World) → f e w ≡ g e w) → r ▷ f ≡ r ▷ g
+bind_same (At Next e w) f g h = h e w
+bind_same (At Leaves e w) f g h = refl
+bind_same (At Skips e w) f g h = refl
+bind_same (At Returns e w) f g h = refl
+bind_same (Over end w) f g h = refl
+
 -- ---- a variable that got a number
 
 is_given : (v n : ℕ) (e : Env) → put true v n e v ≡ n
@@ -51,6 +62,10 @@ decided v n e = ap (λ (k : ℕ). not (nat_eq k 0)) (is_given v n e)
 sum_got : (v n : ℕ) (x : Operand) (e : Env) → put true v (combined Add (value x e) n) e v ≡ plus (value x e) n
 unfolding combined
 sum_got v n x e = is_given v (plus (value x e) n) e
+
+sum_ordered : (n : ℕ) (x : Operand) (e : Env) → combined Add (value x e) n ≡ combined Add n (value x e)
+unfolding combined
+sum_ordered n x e = ap (λ (sum : ℕ). sum % 2 ^ 32) (add_comm (value x e) n)
 
 -- ---- code, in one program
 
@@ -115,6 +130,64 @@ module _ (p : Program) (counted : ℕ → Bool) (calls : Calls) (enters : CallsG
   check_moved None place v x m k e w a b l = same k (put true v (combined Add (value x e) m) e) w (a + 1 + 1) (b + 1 + 1) (omega (arith, l))
   check_moved (Some code) place v x m k e w a b l = BothOver (Trapped code) (having_done (a + 1 + 1) w) (having_done (b + 1) w) (no_more w (a + 1 + 1) (b + 1) (omega (arith, l)))
 
+  -- ---- a list that comes behind its If
+
+  then_goes : (c d : Form) (e : Env) (w : World) → run (code_then c d) e w ≡ run c e w ▷ run d
+  then_goes Done d e w = refl
+  then_goes (Do place item k) d e w =
+      let r : Result Env = does p counted calls item e w in
+      bind_same r (run (code_then k d)) (λ f v. run k f v ▷ run d) (then_goes k d) ∙ sym (bind_both r (run k) (run d))
+  then_goes (If place t x y k) d e w =
+      let r : Result Env = if holds t e then run x e (ticked w) else run y e (ticked w) in
+      bind_same r (run (code_then k d)) (λ f v. run k f v ▷ run d) (then_goes k d) ∙ sym (bind_both r (run k) (run d))
+  then_goes (Loop place x y k) d e w =
+      let r : Result Env = turns (run x) (run y) n e w in
+      bind_same r (run (code_then k d)) (λ f v. run k f v ▷ run d) (then_goes k d) ∙ sym (bind_both r (run k) (run d))
+
+  away_goes : (item : Item) → leads_away item ≡ true → (f g : Run Env) (e : Env) (w : World) → (does p counted calls item e w ▷ f) ▷ g ≡ does p counted calls item e w ▷ f
+  away_goes (Assign v x) h f g e w = absurd (let z : false ≡ true = h in cc)
+  away_goes (Load v kind x) h f g e w = absurd (let z : false ≡ true = h in cc)
+  away_goes (Store width x y) h f g e w = absurd (let z : false ≡ true = h in cc)
+  away_goes (Print spelling x) h f g e w = absurd (let z : false ≡ true = h in cc)
+  away_goes (Expect check) h f g e w = absurd (let z : false ≡ true = h in cc)
+  away_goes Break h f g e w = refl
+  away_goes Continue h f g e w = refl
+  away_goes (Call v k xs) h f g e w = absurd (let z : false ≡ true = h in cc)
+  away_goes (Return x) h f g e w = refl
+  away_goes (Halt x) h f g e w = refl
+
+  -- behind what ends early nothing is done
+  early_goes : (c : Form) → ends_early c ≡ true → (f : Run Env) (e : Env) (w : World) → run c e w ▷ f ≡ run c e w
+  early_goes Done h f e w = absurd (let z : false ≡ true = h in cc)
+  early_goes (Do place item k) h f e w = by (leads_away item) refl h (λ early. early_goes k early f) where
+    by : (b : Bool) → leads_away item ≡ b → (b || ends_early k) ≡ true → (ends_early k ≡ true → (g : Env) (v : World) → run k g v ▷ f ≡ run k g v) → run (Do place item k) e w ▷ f ≡ run (Do place item k) e w
+    by true is early rest = away_goes item is (run k) f e w
+    by false is early rest =
+        let r : Result Env = does p counted calls item e w in
+        bind_both r (run k) f ∙ bind_same r (λ g v. run k g v ▷ f) (run k) (rest early)
+  early_goes (If place t x y k) h f e w =
+      let r : Result Env = if holds t e then run x e (ticked w) else run y e (ticked w) in
+      bind_both r (run k) f ∙ bind_same r (λ g v. run k g v ▷ f) (run k) (early_goes k h f)
+  early_goes (Loop place x y k) h f e w =
+      let r : Result Env = turns (run x) (run y) n e w in
+      bind_both r (run k) f ∙ bind_same r (λ g v. run k g v ▷ f) (run k) (early_goes k h f)
+
+  either_goes : (d : Bool) (x y k : Form) → ends_early y ≡ true → (e : Env) (w : World)
+      → (if d then run x e w else run y e w) ▷ run k ≡ (if d then run Done e w else run y e w) ▷ run (code_then x k)
+  either_goes true x y k early e w = sym (then_goes x k e w)
+  either_goes false x y k early e w = early_goes y early (run k) e w ∙ sym (early_goes y early (run (code_then x k)) e w)
+
+  list_goes : (place : Place) (t : Test) (x y k : Form) → ends_early y ≡ true → Goes (run (If place t x y k)) (run (If place t Done y (code_then x k)))
+  list_goes place t x y k early e w a b l =
+      subst (λ (r : Result Env). Ends (run (If place t x y k) e (having_done a w)) r)
+      (either_goes (holds t e) x y k early e (ticked (having_done b w))) (same (If place t x y k) e w a b l)
+
+  -- a sum is the same with its number behind
+  ordered_goes : (place : Place) (v m : ℕ) (x : Operand) (k : Form) → Goes (run (Do place (Assign v (Binary Add (Number m) x)) k)) (run (Do place (gives_sum v x m) k))
+  ordered_goes place v m x k e w a b l =
+      subst (λ (y : ℕ). Ends (run k (put true v y e) (having_done (a + 1) w)) (run k (put true v (combined Add (value x e) m) e) (having_done (b + 1) w)))
+      (sum_ordered m x e) (same k (put true v (combined Add (value x e) m) e) w (a + 1) (b + 1) (omega (arith, l)))
+
   sum_goes : (place place' : Place) (v : ℕ) (x : Operand) (m : ℕ) (k : Form)
       → Goes (run (Do place (gives_sum v x m) (Do place' (Expect (Good B1 (Variable v))) k))) (run (Do place' (Expect (InBounds x m)) (Do place (gives_sum v x m) k)))
   sum_goes place place' v x m k e w a b l =
@@ -143,6 +216,8 @@ module _ (p : Program) (counted : ℕ → Bool) (calls : Calls) (enters : CallsG
       (led_goes v x y i j f f' first e w (a + 1) (b + 1) (omega (arith, l))) (led_goes v x y i' j' g g' second e w (a + 1) (b + 1) (omega (arith, l))) in
       subst (λ (r : Result Env). Ends r (right ▷ run k)) (bind_both left (decides v x y) (run k))
       (bind_alike SameVariables HasNoMoreItems (left ▷ decides v x y) right (run k) (run k) both (any (run k) (run k) (same k)))
+  threaded_goes c d (ListBehind place t x y k early) e w a b l = list_goes place t x y k early e w a b l
+  threaded_goes c d (NumberLast place v m x k) e w a b l = ordered_goes place v m x k e w a b l
   threaded_goes c d (ChecksFirst place place' v x m k near) e w a b l = sum_goes place place' v x m k e w a b l
 
 -- ---- whole programs

@@ -1,15 +1,18 @@
 -- In code in which conditions are threaded each variable is set before it is read.
-use Rattle.std.proofs.Common.{◌≡◌, ℕ, Bool, true, false, nat_eq, if◌then◌else◌}
-use Rattle.std.proofs.lemmas.Bool.{and_from, and_parts}
+use Rattle.std.proofs.Common.{◌≡◌, ℕ, Bool, true, false, ◌||◌, nat_eq, if◌then◌else◌, refl, sym, subst}
+use Rattle.std.proofs.lemmas.Bool.{or_right, and_from, and_parts}
 use Rattle.dae_meaning.specs.Variables.{VariableSet}
+use Rattle.dae_ir.specs.Code.{Done, Do, If, Loop}
 use Rattle.dae_ir.specs.Form.{Form}
 use Rattle.dae_base.specs.declared.Width.TheVariants.{B1}
 use Rattle.dae_ir.specs.Classes.{IsWithin, has, has_check}
 use Rattle.dae_ir.specs.declared.form.Operand.TheVariants.{Variable}
 use Rattle.dae_ir.specs.declared.form.Check.TheVariants.{Place as Good}
+use Rattle.dae_ir.specs.declared.form.Item.{Item}
+use Rattle.dae_ir.specs.declared.form.Item.TheVariants.{Assign, Load, Store, Print, Expect, Break, Continue, Call, Return, Halt}
 use Rattle.dae_ir.specs.SetFirst.{form_flow, IsSetFirst, assured, after_item}
 use Rattle.dae_ir.proofs.Laws.{meet, and_more, assured_more, first_more}
-use Rattle.dae_threads.specs.Threaded.{gives_number, gives_sum, list_for, IsLed, LedTo, LedInBoth, BehindItem, BehindIf, BehindLoop, IsThreaded, Unchanged, InTurn, InRest, InLists, InLoop, Threads, ChecksFirst}
+use Rattle.dae_threads.specs.Threaded.{gives_number, gives_sum, leads_away, ends_early, code_then, list_for, IsLed, LedTo, LedInBoth, BehindItem, BehindIf, BehindLoop, IsThreaded, Unchanged, InTurn, InRest, InLists, InLoop, Threads, ListBehind, NumberLast, ChecksFirst}
 
 -- ---- sets
 
@@ -62,6 +65,61 @@ module _ (v : ℕ) (x y : Form) (before behind : VariableSet) (one : IsFirst bef
       let rest = led_first i1 j1 k k' set f h.2 less in
       ((h.0, h.1, rest.0), rest.1)
 
+-- ---- a list behind its If
+
+then_assured : (c d : Form) (set : VariableSet) → assured form_flow set (code_then c d) ≡ assured form_flow (assured form_flow set c) d
+then_assured Done d set = refl
+then_assured (Do place item k) d set = then_assured k d (after_item set item)
+then_assured (If place t p q k) d set = then_assured k d (meet (assured form_flow set p) (assured form_flow set q))
+then_assured (Loop place p q k) d set = then_assured k d set
+
+then_first : (c d : Form) (set : VariableSet) → IsSetFirst form_flow set c → IsSetFirst form_flow (assured form_flow set c) d → IsSetFirst form_flow set (code_then c d)
+then_first Done d set r s = s
+then_first (Do place item k) d set r s = (r.0, then_first k d (after_item set item) r.1 s)
+then_first (If place t p q k) d set r s = (r.0, r.1, r.2, then_first k d (meet (assured form_flow set p) (assured form_flow set q)) r.3 s)
+then_first (Loop place p q k) d set r s = (r.0, r.1, then_first k d set r.2 s)
+
+after_grows : (set : VariableSet) (item : Item) → IsWithin set (after_item set item)
+after_grows set (Assign v x) = λ u h. or_right (nat_eq u v) (set u) h
+after_grows set (Load v kind x) = λ u h. or_right (nat_eq u v) (set u) h
+after_grows set (Store width x y) = λ u h. h
+after_grows set (Print spelling x) = λ u h. h
+after_grows set (Expect check) = λ u h. h
+after_grows set Break = λ u h. refl
+after_grows set Continue = λ u h. refl
+after_grows set (Call v f xs) = λ u h. or_right (nat_eq u v) (set u) h
+after_grows set (Return x) = λ u h. refl
+after_grows set (Halt x) = λ u h. refl
+
+assured_grows : (c : Form) (set : VariableSet) → IsWithin set (assured form_flow set c)
+assured_grows Done set v h = h
+assured_grows (Do place item k) set v h = assured_grows k (after_item set item) v (after_grows set item v h)
+assured_grows (If place t p q k) set v h =
+    assured_grows k (meet (assured form_flow set p) (assured form_flow set q)) v (and_from (assured form_flow set p v) (assured form_flow set q v) (assured_grows p set v h) (assured_grows q set v h))
+assured_grows (Loop place p q k) set v h = assured_grows k set v h
+
+-- behind what leads elsewhere all may be said to be set
+all_behind_item : (item : Item) → leads_away item ≡ true → (set : VariableSet) (v : ℕ) → after_item set item v ≡ true
+all_behind_item (Assign u x) h set v = absurd (let z : false ≡ true = h in cc)
+all_behind_item (Load u kind x) h set v = absurd (let z : false ≡ true = h in cc)
+all_behind_item (Store width x y) h set v = absurd (let z : false ≡ true = h in cc)
+all_behind_item (Print spelling x) h set v = absurd (let z : false ≡ true = h in cc)
+all_behind_item (Expect check) h set v = absurd (let z : false ≡ true = h in cc)
+all_behind_item Break h set v = refl
+all_behind_item Continue h set v = refl
+all_behind_item (Call u f xs) h set v = absurd (let z : false ≡ true = h in cc)
+all_behind_item (Return x) h set v = refl
+all_behind_item (Halt x) h set v = refl
+
+all_behind : (c : Form) → ends_early c ≡ true → (set : VariableSet) (v : ℕ) → assured form_flow set c v ≡ true
+all_behind Done h set v = absurd (let z : false ≡ true = h in cc)
+all_behind (Do place item k) h set v = by (leads_away item) refl h (λ early. all_behind k early (after_item set item) v) where
+  by : (b : Bool) → leads_away item ≡ b → (b || ends_early k) ≡ true → (ends_early k ≡ true → assured form_flow (after_item set item) k v ≡ true) → assured form_flow (after_item set item) k v ≡ true
+  by true is early rest = assured_grows k (after_item set item) v (all_behind_item item is set v)
+  by false is early rest = rest early
+all_behind (If place t p q k) h set v = all_behind k h (meet (assured form_flow set p) (assured form_flow set q)) v
+all_behind (Loop place p q k) h set v = all_behind k h set v
+
 -- ---- code
 
 pub threaded_first : (c d : Form) (set : VariableSet) → IsThreaded c d → IsSetFirst form_flow set c → IsFirst set (assured form_flow set c) d
@@ -98,6 +156,17 @@ threaded_first c d set (Threads place place' t v i j i' j' more more' x y p p' q
     let wider : IsWithin behind new = meet_from behind (assured form_flow set p') (assured form_flow set q') one.1 other.1 in
     let rest : IsFirst new (assured form_flow behind k) k = first_behind k behind new (assured form_flow behind k) wider (condition.3, λ u m. m) in
     ((h.0, one.0, other.0, rest.0), rest.1)
+threaded_first c d set (ListBehind place t x y k early) h =
+    let a = assured form_flow set x in
+    let b = assured form_flow set y in
+    let past : VariableSet = meet set b in
+    let wider : IsWithin set past = λ v s. and_from (set v) (b v) s (all_behind y early set v) in
+    let behind : VariableSet = assured form_flow past x in
+    let more : IsWithin (meet a b) behind = λ v m. assured_more x set past wider v (and_parts (a v) (b v) m).0 in
+    let rest : IsFirst behind (assured form_flow (meet a b) k) k = first_behind k (meet a b) behind (assured form_flow (meet a b) k) more (h.3, λ u m. m) in
+    let list : IsSetFirst form_flow past (code_then x k) = then_first x k past (first_more x set past wider h.1) rest.0 in
+    ((h.0, tt, h.2, list), subst (λ (s : VariableSet). IsWithin (assured form_flow (meet a b) k) s) (sym (then_assured x k past)) rest.1)
+threaded_first c d set (NumberLast place v n x k) h = ((and_from (has set x) true h.0 refl, h.1), λ u m. m)
 threaded_first c d set (ChecksFirst place place' v x n k near) h =
     let behind : (has_check (after_item set (gives_sum v x n)) (Good B1 (Variable v)) ≡ true) × IsSetFirst form_flow (after_item set (gives_sum v x n)) k = h.1 in
     (((and_parts (has set x) true h.0).0, (h.0, behind.1)), λ u m. m)

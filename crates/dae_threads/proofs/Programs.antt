@@ -1,8 +1,8 @@
 -- Whole forms in which conditions are threaded.
-use Rattle.std.proofs.Common.{◌≡◌, ℕ, zero, suc, ◌<◌, ◌≤◌, Bool, true, false, not, List, [], ◌∷◌, length, Option, Some, refl, ap, sym, ◌∙◌, subst, arith}
+use Rattle.std.proofs.Common.{◌≡◌, ℕ, zero, suc, ◌<◌, ◌≤◌, true, false, not, List, [], ◌∷◌, length, Option, Some, refl, ap, sym, ◌∙◌, subst, arith}
 use Rattle.std.specs.Prelude.{slice_get, IsTrue}
 use Rattle.std.specs.List.{AllByRecursion}
-use Rattle.std.proofs.lemmas.Bool.{and_parts}
+use Rattle.std.proofs.lemmas.Bool.{and_from, and_parts}
 use Rattle.dae_meaning.specs.Alike.{Alike}
 use Rattle.dae_meaning.specs.Worlds.{World}
 use Rattle.dae_meaning.specs.Variables.{VariableSet, parameters_set}
@@ -60,7 +60,7 @@ takes_same (f ∷ fs) (g ∷ gs) a (suc k) count t = takes_same fs gs a.1 k coun
 -- ---- what is well made stays so
 
 never_still : (f g : Function) → IsThreadedFunction f g → IsTrue (never_returns (form_of f.body)) → IsTrue (never_returns (form_of g.body))
-never_still f g r h = threaded_has (λ item. not (is_return item)) (λ t. true) (λ x n. refl) (form_of f.body) (form_of g.body) r.body h
+never_still f g r h = threaded_has (λ item. not (is_return item)) (λ t. true) (λ v n x. refl) (λ x n. refl) (form_of f.body) (form_of g.body) r.body h
 
 main_same : (fs gs : List Function) → AreThreadedFunctions fs gs → (k : ℕ) → IsMain (slice_get fs k) → IsMain (slice_get gs k)
 main_same [] [] a k m = m
@@ -88,7 +88,10 @@ module _ (all new : List Function) (keeps : KeepsArguments all new) where
   item_in n (Halt x) i = i
 
   sums_in : (n : ℕ) → KeepsSums (ItemIn new n)
-  sums_in n v x m near i j = (i.1.0, near)
+  sums_in n = record {
+    ordered = λ v m x i. (i.0, (i.1.1, i.1.0));
+    checked = λ v x m near i j. (i.1.0, near);
+  }
 
   function_in : (f g : Function) → IsThreadedFunction f g → FunctionIn all f → FunctionIn new g
   function_in f g r i =
@@ -99,7 +102,7 @@ module _ (all new : List Function) (keeps : KeepsArguments all new) where
         names = subst (λ (n : ℕ). Each (ItemIn new n) (TestIn n) d) (sym r.variables)
             (threaded_names (ItemIn all f.variables) (ItemIn new f.variables) (TestIn f.variables) (TestIn f.variables) (item_in f.variables) (λ t h. h) (sums_in f.variables) c d r.body i.names);
         loops = threaded_stays c d false r.body i.loops;
-        ends = subst (λ (b : Bool). IsTrue b) (sym (threaded_closes c d r.body)) i.ends;
+        ends = threaded_closes c d r.body i.ends;
       }
 
   functions_in : (fs gs : List Function) → AreThreadedFunctions fs gs → AllByRecursion (FunctionIn all) fs → AllByRecursion (FunctionIn new) gs
@@ -123,7 +126,10 @@ firsts_in (f ∷ fs) (g ∷ gs) a s = (first_in f g a.0 s.0, firsts_in fs gs a.1
 
 -- the address that is checked leads to what is added to
 sums_kept : (of : ℕ → VariableSet) (s : VariableSet) → KeepsSums (AddressesKept of s)
-sums_kept of s v x n near h address = (and_parts (has s x) true (h address)).0
+sums_kept of s = record {
+  ordered = λ v n x h in_s. and_from (has s x) true (h in_s) refl;
+  checked = λ v x n near h address. (and_parts (has s x) true (h address)).0;
+}
 
 abbrev HasNoMore : Classes → Form → Form → Type 0
 HasNoMore c old new = (own_loads c new ≤ own_loads c old) × (conditions_a c new ≤ conditions_a c old)

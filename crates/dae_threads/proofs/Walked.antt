@@ -7,16 +7,19 @@ use Rattle.dae_base.specs.declared.Place.{Place}
 use Rattle.dae_base.specs.declared.Width.TheVariants.{B1}
 use Rattle.dae_ir.specs.Code.{Done, Do, If, Loop}
 use Rattle.dae_ir.specs.Form.{Form, before, row, form_of}
-use Rattle.dae_ir.specs.declared.form.Operand.TheVariants.{Variable}
+use Rattle.dae_meaning.specs.declared.Operator.TheVariants.{Add}
+use Rattle.dae_ir.specs.declared.form.Operand.TheVariants.{Variable, Number}
+use Rattle.dae_ir.specs.declared.form.Value.{Value}
+use Rattle.dae_ir.specs.declared.form.Value.TheVariants.{Binary}
 use Rattle.dae_ir.specs.declared.form.Check.TheVariants.{Place as Good, InBounds}
 use Rattle.dae_ir.specs.declared.form.Item.{Item}
-use Rattle.dae_ir.specs.declared.form.Item.TheVariants.{Expect}
+use Rattle.dae_ir.specs.declared.form.Item.TheVariants.{Assign, Expect}
 use Rattle.dae_ir.specs.declared.form.Test.{Test}
 use Rattle.dae_ir.specs.declared.form.Statement.{Statement, Simple, If', Loop'}
 use Rattle.dae_ir.specs.declared.form.Statement.TheVariants as statement
 use Rattle.dae_ir.proofs.Laws.{before_if, before_loop, rest, rest_one, rest_end}
-use Rattle.dae_threads.specs.Threaded.{gives_number, gives_sum, is_nonzero, list_for, firsts, seconds, IsLed, LedTo, LedInBoth, BehindItem, BehindIf, BehindLoop, IsSpread, IsThreaded, Unchanged, InTurn, InRest, InLists, InLoop, Threads, ChecksFirst}
-use Rattle.dae_threads.specs.Walked.{list_before, IsCopy, AreCopiedBehind, IsThreadedTo, IsJoinedWith, IsJoined, IsMovedBefore, AreWithBoth, AreWithNext}
+use Rattle.dae_threads.specs.Threaded.{gives_number, gives_sum, ends_early, code_then, is_nonzero, list_for, firsts, seconds, IsLed, LedTo, LedInBoth, BehindItem, BehindIf, BehindLoop, IsSpread, IsThreaded, Unchanged, InTurn, InRest, InLists, InLoop, Threads, ListBehind, NumberLast, ChecksFirst}
+use Rattle.dae_threads.specs.Walked.{value_in_order, statement_in_order, list_before, IsCopy, AreCopiedBehind, IsThreadedTo, IsJoinedWith, IsJoined, AreExchanged, AreWithBoth, AreWithNext}
 
 -- ---- lists, one behind another
 
@@ -182,19 +185,32 @@ joined_pair xs s t s' ys joined is k =
     subst (λ (d : Form). IsThreaded (list_before xs (before s (before t k))) d) (sym (list_then xs (s' ∷ []) ys k is))
     (threaded_behind_all xs (before s (before t k)) (before s' k) (joined k))
 
--- a check of a sum comes before the sum
-pub sum_moved : (s t : Statement) (place place' : Place) (v u w n : ℕ) → s ≡ statement.Simple place (gives_sum v (Variable w) n) → t ≡ statement.Simple place' (Expect (Good B1 (Variable u))) → v ≡ u → n < 2048
-    → IsMovedBefore s t (statement.Simple place' (Expect (InBounds (Variable w) n)))
-sum_moved s t place place' v u w n sum check is near =
-    let checks : t ≡ statement.Simple place' (Expect (Good B1 (Variable v))) = check ∙ ap (λ (i : ℕ). statement.Simple place' (Expect (Good B1 (Variable i)))) (sym is) in
-    subst (λ (x : Statement). IsMovedBefore x t (statement.Simple place' (Expect (InBounds (Variable w) n)))) (sym sum)
-    (subst (λ (x : Statement). IsMovedBefore (statement.Simple place (gives_sum v (Variable w) n)) x (statement.Simple place' (Expect (InBounds (Variable w) n)))) (sym checks)
-    (λ k. ChecksFirst place place' v (Variable w) n k near))
+-- a sum is written with its number behind
+value_ordered : (place : Place) (v : ℕ) (x : Value) (k : Form) → IsThreaded (Do place (Assign v x) k) (Do place (Assign v (value_in_order x)) k)
+value_ordered place v (Binary Add (Number n) y) k = NumberLast place v n y k
+value_ordered place v (Binary Add (Variable u) y) k = Unchanged (Do place (Assign v (Binary Add (Variable u) y)) k)
+value_ordered place v _ k = Unchanged _
 
-pub moved_pair : (xs : List Statement) (s t t' : Statement) (ys : List Statement) → IsMovedBefore s t t' → ys ≡ xs ++ t' ∷ s ∷ [] → AreWithBoth xs s t ys
-moved_pair xs s t t' ys moved is k =
-    subst (λ (d : Form). IsThreaded (list_before xs (before s (before t k))) d) (sym (list_then xs (t' ∷ s ∷ []) ys k is))
-    (threaded_behind_all xs (before s (before t k)) (before t' (before s k)) (moved k))
+statement_ordered : (s : Statement) → IsThreadedTo s (statement_in_order s)
+statement_ordered (Simple place (Assign v x)) k = value_ordered place v x k
+statement_ordered _ k = Unchanged _
+
+-- a check of a sum comes before the sum
+pub sum_moved : (s t : Statement) (place place' : Place) (v u w n : ℕ) → statement_in_order s ≡ statement.Simple place (gives_sum v (Variable w) n) → t ≡ statement.Simple place' (Expect (Good B1 (Variable u))) → v ≡ u → n < 2048
+    → AreExchanged s t (statement.Simple place' (Expect (InBounds (Variable w) n))) (statement.Simple place (gives_sum v (Variable w) n))
+sum_moved s t place place' v u w n sum check is near k =
+    let given : Statement = statement.Simple place (gives_sum v (Variable w) n) in
+    let first : Statement = statement.Simple place' (Expect (InBounds (Variable w) n)) in
+    let checks : t ≡ statement.Simple place' (Expect (Good B1 (Variable v))) = check ∙ ap (λ (i : ℕ). statement.Simple place' (Expect (Good B1 (Variable i)))) (sym is) in
+    let ordered : IsThreaded (before s (before t k)) (before given (before t k)) = subst (λ (x : Statement). IsThreaded (before s (before t k)) (before x (before t k))) sum (statement_ordered s (before t k)) in
+    let moved : IsThreaded (before given (before t k)) (before first (before given k)) =
+    subst (λ (x : Statement). IsThreaded (before given (before x k)) (before first (before given k))) (sym checks) (ChecksFirst place place' v (Variable w) n k near) in
+    InTurn (before s (before t k)) (before given (before t k)) (before first (before given k)) ordered moved
+
+pub moved_pair : (xs : List Statement) (s t t' s' : Statement) (ys : List Statement) → AreExchanged s t t' s' → ys ≡ xs ++ t' ∷ s' ∷ [] → AreWithBoth xs s t ys
+moved_pair xs s t t' s' ys moved is k =
+    subst (λ (d : Form). IsThreaded (list_before xs (before s (before t k))) d) (sym (list_then xs (t' ∷ s' ∷ []) ys k is))
+    (threaded_behind_all xs (before s (before t k)) (before t' (before s' k)) (moved k))
 
 pub apart_pair : (xs : List Statement) (s t : Statement) (ys : List Statement) → ys ≡ xs ++ s ∷ t ∷ [] → AreWithBoth xs s t ys
 apart_pair xs s t ys is k =
@@ -206,6 +222,40 @@ next_with_last xs xs' s t ys is both k = subst (λ (c : Form). IsThreaded c (lis
 pub next_alone : (xs xs' : List Statement) (t : Statement) (ys : List Statement) → xs ≡ xs' ++ [] → ys ≡ xs' ++ t ∷ [] → AreWithNext xs t ys
 next_alone xs xs' t ys is longer k =
     across _ _ _ _ (list_then xs' [] xs (before t k) is) (list_then xs' (t ∷ []) ys k longer) (Unchanged (list_before xs' (before t k)))
+
+-- ---- lists behind their conditions
+
+pub next_as_is : (xs : List Statement) (s : Statement) (ys : List Statement) → ys ≡ xs ++ s ∷ [] → AreWithNext xs s ys
+next_as_is xs s ys is k =
+    subst (λ (d : Form). IsThreaded (list_before xs (before s k)) d) (sym (list_then xs (s ∷ []) ys k is)) (Unchanged (list_before xs (before s k)))
+
+-- what comes in place of a statement comes behind others
+pub next_instead : (xs : List Statement) (s s' : Statement) (ys : List Statement) → IsThreadedTo s s' → AreWithNext xs s' ys → AreWithNext xs s ys
+next_instead xs s s' ys one next k =
+    InTurn (list_before xs (before s k)) (list_before xs (before s' k)) (list_before ys k) (threaded_behind_all xs (before s k) (before s' k) (one k)) (next k)
+
+then_before : (s : Statement) (c d : Form) → code_then (before s c) d ≡ before s (code_then c d)
+then_before (Simple place item) c d = refl
+then_before (If' place t s p u q) c d = refl
+then_before (Loop' place s p u q) c d = refl
+
+then_list : (ss : List Statement) (k : Form) → code_then (form_of ss) k ≡ list_before ss k
+then_list [] k = refl
+then_list (s ∷ ss) k = then_before s (form_of ss) k ∙ ap (before s) (then_list ss k)
+
+-- the first list comes behind the condition, where the second one ends early
+pub list_behind : (xs : List Statement) (place : Place) (t : Test) (none p q : Vec Statement Global) (ys : List Statement) → none.items ≡ [] → ends_early (form_of q.items) ≡ true
+    → ys ≡ xs ++ statement.If place t none q ∷ p.items → AreWithNext xs (statement.If place t p q) ys
+list_behind xs place t none p q ys nothing early is k =
+    let x : Form = form_of p.items in
+    let y : Form = form_of q.items in
+    let list : Form = list_before p.items k in
+    let condition : before (statement.If place t none q) list ≡ If place t Done y list = before_if place t none q list ∙ ap (λ (l : List Statement). If place t (form_of l) y list) nothing in
+    let step : IsThreaded (If place t x y k) (If place t Done y list) = subst (λ (c : Form). IsThreaded (If place t x y k) (If place t Done y c)) (then_list p.items k) (ListBehind place t x y k early) in
+    across (list_before xs (before (statement.If place t p q) k)) (list_before xs (If place t x y k)) (list_before ys k) (list_before xs (If place t Done y list))
+    (ap (λ (c : Form). list_before xs c) (before_if place t p q k))
+    (list_then xs (statement.If place t none q ∷ p.items) ys k is ∙ ap (λ (c : Form). list_before xs c) condition)
+    (threaded_behind_all xs (If place t x y k) (If place t Done y list) step)
 
 -- the first i statements have become those
 abbrev pub ThreadedUpTo : List Statement → ℕ → List Statement → Type 0
@@ -221,6 +271,10 @@ threaded_next ss i s s' out out' lt is one joined so_far =
     let second : IsThreaded (list_before out (before s behind)) (list_before out (before s' behind)) = threaded_behind_all out (before s behind) (before s' behind) (one behind) in
     InTurn (form_of ss) (list_before out (before s behind)) (list_before out' behind) first
     (InTurn (list_before out (before s behind)) (list_before out (before s' behind)) (list_before out' behind) second (joined behind))
+
+-- one statement more came behind those
+pub threaded_further : (ss : List Statement) (i : ℕ) (s : Statement) (out out' : List Statement) → i < length ss → s ≡ get_or ss i s → AreWithNext out s out' → ThreadedUpTo ss i out → ThreadedUpTo ss (i + 1) out'
+threaded_further ss i s out out' lt is one so_far = threaded_next ss i s s out out' lt is (λ k. Unchanged (before s k)) one so_far
 
 pub threaded_all : (ss : List Statement) (i : ℕ) (out : List Statement) → length ss ≤ i → ThreadedUpTo ss i out → IsThreaded (form_of ss) (form_of out)
 threaded_all ss i out le so_far =

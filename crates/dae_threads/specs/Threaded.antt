@@ -1,7 +1,9 @@
 -- Code in which conditions are threaded. Where an If gives a variable a number at each of its ends, and the If behind it tests
 -- whether that variable isn't 0, this one goes: at each end the list stands that it would choose there. The code is no larger. And
--- where a variable gets a sum, and the byte there is checked next, the byte so many bytes behind what is added to is checked before.
-use Rattle.std.specs.Prelude.{◌≡◌, ℕ, ◌+◌, ◌≤◌, ◌<◌, Bool, true, false, nat_eq, if◌then◌else◌}
+-- where a variable gets a sum, and the byte there is checked next, the byte so many bytes behind what is added to is checked before;
+-- a sum may be written with its number behind for that. And where the second list of an If leads elsewhere, the first one may come
+-- behind the If.
+use Rattle.std.specs.Prelude.{◌≡◌, ℕ, ◌+◌, ◌≤◌, ◌<◌, Bool, true, false, ◌||◌, nat_eq, if◌then◌else◌}
 use Rattle.dae_base.specs.declared.Place.{Place}
 use Rattle.dae_base.specs.declared.Width.TheVariants.{B1}
 use Rattle.dae_meaning.specs.declared.Comparison.TheVariants.{NotEqual}
@@ -14,7 +16,7 @@ use Rattle.dae_ir.specs.declared.form.Value.TheVariants.{Same, Binary}
 use Rattle.dae_ir.specs.declared.form.Test.{Test}
 use Rattle.dae_ir.specs.declared.form.Check.TheVariants.{Place as Good, InBounds}
 use Rattle.dae_ir.specs.declared.form.Item.{Item}
-use Rattle.dae_ir.specs.declared.form.Item.TheVariants.{Assign, Load, Expect, Call}
+use Rattle.dae_ir.specs.declared.form.Item.TheVariants.{Assign, Load, Expect, Break, Continue, Call, Return, Halt}
 
 -- ---- one If behind another
 
@@ -70,9 +72,34 @@ pub data IsSpread : ℕ → Form → ℕ → Type 0 where
 abbrev pub gives_sum : ℕ → Operand → ℕ → Item
 gives_sum v x n = Assign v (Binary Add x (Number n))
 
+-- ---- a list behind its If
+
+-- what stands behind the item isn't reached
+abbrev pub leads_away : Item → Bool
+leads_away Break = true
+leads_away Continue = true
+leads_away (Return x) = true
+leads_away (Halt x) = true
+leads_away item = false
+
+-- such an item stands in the code's own list, so that its end isn't reached
+abbrev pub ends_early : Form → Bool
+ends_early Done = false
+ends_early (Do place item k) = leads_away item || ends_early k
+ends_early (If place t p q k) = ends_early k
+ends_early (Loop place body step k) = ends_early k
+
+-- the code c, and d behind it
+abbrev pub code_then : Form → Form → Form
+code_then Done d = d
+code_then (Do place item k) d = Do place item (code_then k d)
+code_then (If place t p q k) d = If place t p q (code_then k d)
+code_then (Loop place body step k) d = Loop place body step (code_then k d)
+
 -- ---- code
 
--- The code, or what it becomes step by step, in its parts, by one If that goes, or by a check that comes before a sum.
+-- The code, or what it becomes step by step, in its parts, by one If that goes, by a list that comes behind its If, by a sum of a
+-- number with that number behind, or by a check that comes before a sum.
 pub data IsThreaded : Form → Form → Type 0 where
   Unchanged : (c : Form) → IsThreaded c c
   InTurn : (c d e : Form) → IsThreaded c d → IsThreaded d e → IsThreaded c e
@@ -84,5 +111,9 @@ pub data IsThreaded : Form → Form → Type 0 where
   Threads : (place place' : Place) (t : Test) (v i j i' j' more more' : ℕ) (x y p p' q q' k : Form)
       → IsLed v x y i j p p' → IsLed v x y i' j' q q' → IsSpread (i + i') x more → IsSpread (j + j') y more' → more + more' ≤ 1
       → IsThreaded (If place t p q (If place' (is_nonzero v) x y k)) (If place t p' q' k)
+  ListBehind : (place : Place) (t : Test) (x y k : Form) → ends_early y ≡ true
+      → IsThreaded (If place t x y k) (If place t Done y (code_then x k))
+  NumberLast : (place : Place) (v n : ℕ) (x : Operand) (k : Form)
+      → IsThreaded (Do place (Assign v (Binary Add (Number n) x)) k) (Do place (gives_sum v x n) k)
   ChecksFirst : (place place' : Place) (v : ℕ) (x : Operand) (n : ℕ) (k : Form) → n < 2048
       → IsThreaded (Do place (gives_sum v x n) (Do place' (Expect (Good B1 (Variable v))) k)) (Do place' (Expect (InBounds x n)) (Do place (gives_sum v x n) k))

@@ -3,15 +3,16 @@ use Rattle.std.specs.Prelude.{◌≡◌, ℕ, nat_eq, if◌then◌else◌, List,
 use Rattle.dae_base.specs.declared.Place.{Place}
 use Rattle.dae_meaning.specs.declared.Comparison.{Comparison}
 use Rattle.dae_meaning.specs.declared.Comparison.TheVariants.{NotEqual}
+use Rattle.dae_meaning.specs.declared.Operator.TheVariants.{Add}
 use Rattle.dae_ir.specs.Code.{If}
 use Rattle.dae_ir.specs.Form.{Form, before, form_of}
 use Rattle.dae_ir.specs.declared.form.Operand.{Operand}
 use Rattle.dae_ir.specs.declared.form.Operand.TheVariants.{Variable, Number}
 use Rattle.dae_ir.specs.declared.form.Value.{Value}
-use Rattle.dae_ir.specs.declared.form.Value.TheVariants.{Same}
+use Rattle.dae_ir.specs.declared.form.Value.TheVariants.{Same, Binary}
 use Rattle.dae_ir.specs.declared.form.Item.{Item}
 use Rattle.dae_ir.specs.declared.form.Item.TheVariants.{Assign}
-use Rattle.dae_ir.specs.declared.form.Statement.{Statement}
+use Rattle.dae_ir.specs.declared.form.Statement.{Statement, Simple}
 use Rattle.dae_threads.specs.Threaded.{is_nonzero, IsLed, IsThreaded}
 use Rattle.dae_threads.specs.declared.leading.LedList.{LedList}
 
@@ -35,6 +36,25 @@ beside_zero x y = None
 abbrev pub nonzero_tested : Comparison → Operand → Operand → Option ℕ
 nonzero_tested NotEqual x y = beside_zero x y
 nonzero_tested comparison x y = None
+
+-- ---- sums
+
+-- a sum, with a number behind
+abbrev pub sum_in_order : Operand → Operand → Value
+sum_in_order (Number n) y = Binary Add y (Number n)
+sum_in_order (Variable v) y = Binary Add (Variable v) y
+
+abbrev pub value_in_order : Value → Value
+value_in_order (Binary Add x y) = sum_in_order x y
+value_in_order x = x
+
+abbrev pub item_in_order : Item → Item
+item_in_order (Assign v x) = Assign v (value_in_order x)
+item_in_order item = item
+
+abbrev pub statement_in_order : Statement → Statement
+statement_in_order (Simple place item) = Simple place (item_in_order item)
+statement_in_order s = s
 
 -- ---- statements
 
@@ -67,9 +87,9 @@ IsJoinedWith s v x y s' = (place : Place) (k : Form) → IsThreaded (before s (I
 abbrev pub IsJoined : (s t : Statement) → Statement → Type 0
 IsJoined s t s' = (k : Form) → IsThreaded (before s (before t k)) (before s' k)
 
--- a statement that may come before s in place of t behind it
-abbrev pub IsMovedBefore : (s t : Statement) → Statement → Type 0
-IsMovedBefore s t t' = (k : Form) → IsThreaded (before s (before t k)) (before t' (before s k))
+-- a statement that may come first in place of t behind s, and what comes behind it in place of s
+abbrev pub AreExchanged : (s t t' s' : Statement) → Type 0
+AreExchanged s t t' s' = (k : Form) → IsThreaded (before s (before t k)) (before t' (before s' k))
 
 -- ys are xs, behind which a statement came
 abbrev pub AreWithNext : (xs : List Statement) → Statement → List Statement → Type 0

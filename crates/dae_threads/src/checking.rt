@@ -1,5 +1,6 @@
 // Checks that come before sums: where a variable gets the sum of another one and a number, and the byte there is checked next, the
-// byte so many bytes behind the other variable may be checked before it.
+// byte so many bytes behind the other variable may be checked before it. The number may stand first in the sum, as the address of an
+// array does; it stands last in what is written.
 
 ghost use Rattle.std.specs.Prelude.{◌≡◌, ◌<◌, IfOk, OnOk};
 ghost use Rattle.dae_base.specs.declared.Width.TheVariants.{B1};
@@ -7,10 +8,8 @@ ghost use Rattle.dae_ir.specs.declared.form.Check.TheVariants.{Place as Good};
 ghost use Rattle.dae_ir.specs.declared.form.Item.TheVariants.{Assign, Expect};
 ghost use Rattle.dae_ir.specs.declared.form.Operand.TheVariants.{Variable};
 ghost use Rattle.dae_ir.specs.declared.form.Statement.TheVariants.{Simple};
-ghost use Rattle.dae_ir.specs.declared.form.Value.TheVariants.{Binary};
-ghost use Rattle.dae_meaning.specs.declared.Operator.TheVariants.{Add};
 ghost use Rattle.dae_threads.specs.Threaded.{gives_sum};
-ghost use Rattle.dae_threads.specs.Walked.{IsMovedBefore};
+ghost use Rattle.dae_threads.specs.Walked.{AreExchanged, item_in_order, statement_in_order, sum_in_order, value_in_order};
 
 use crate::deciding::NotThreaded;
 use dae_base::{Place, Width};
@@ -33,13 +32,20 @@ pub struct ByteChecked {
     pub variable: u32,
 }
 
+/// A check, and the sum that comes behind it.
+#[derive(Drop)]
+pub struct CheckedSum {
+    pub check: Statement,
+    pub sum: Statement,
+}
+
 fn sum_of_operands(
     place: Place,
     target: u32,
     x: Operand,
     y: Operand,
 ) -> Result<SumGiven, NotThreaded>
-    ensures { IfOk result (λ sum. Simple place (Assign target (Binary Add x y))
+    ensures { IfOk result (λ sum. Simple place (Assign target (sum_in_order x y))
         ≡ Simple sum.place (gives_sum sum.target (Variable sum.variable) sum.offset)) }
 {
     match x {
@@ -52,12 +58,20 @@ fn sum_of_operands(
             }),
             Operand::Variable(_) => Err(NotThreaded::Kept),
         },
-        Operand::Number(_) => Err(NotThreaded::Kept),
+        Operand::Number(offset) => match y {
+            Operand::Variable(variable) => Ok(SumGiven {
+                place,
+                target,
+                variable,
+                offset,
+            }),
+            Operand::Number(_) => Err(NotThreaded::Kept),
+        },
     }
 }
 
 fn sum_of_value(place: Place, target: u32, value: Value) -> Result<SumGiven, NotThreaded>
-    ensures { IfOk result (λ sum. Simple place (Assign target value)
+    ensures { IfOk result (λ sum. Simple place (Assign target (value_in_order value))
         ≡ Simple sum.place (gives_sum sum.target (Variable sum.variable) sum.offset)) }
 {
     match value {
@@ -67,7 +81,7 @@ fn sum_of_value(place: Place, target: u32, value: Value) -> Result<SumGiven, Not
 }
 
 fn sum_of_item(place: Place, item: &Item) -> Result<SumGiven, NotThreaded>
-    ensures { IfOk result (λ sum. Simple place item.now
+    ensures { IfOk result (λ sum. Simple place (item_in_order item.now)
         ≡ Simple sum.place (gives_sum sum.target (Variable sum.variable) sum.offset)) }
 {
     match item {
@@ -77,7 +91,7 @@ fn sum_of_item(place: Place, item: &Item) -> Result<SumGiven, NotThreaded>
 }
 
 fn sum_of_statement(statement: &Statement) -> Result<SumGiven, NotThreaded>
-    ensures { IfOk result (λ sum. statement.now
+    ensures { IfOk result (λ sum. statement_in_order statement.now
         ≡ Simple sum.place (gives_sum sum.target (Variable sum.variable) sum.offset)) }
 {
     match statement {
@@ -127,13 +141,18 @@ fn expect_sum(sum: SumGiven, byte: ByteChecked) -> Result<(), NotThreaded>
     }
 }
 
-/// The check that may come before a statement in place of the one behind it.
-pub fn check_of_sum(statement: &Statement, next: &Statement) -> Result<Statement, NotThreaded>
-    ensures { IfOk result (IsMovedBefore statement.now next.now) }
+/// The check and the sum that may come in place of a sum and a check behind it.
+pub fn check_of_sum(statement: &Statement, next: &Statement) -> Result<CheckedSum, NotThreaded>
+    ensures { IfOk result (λ both. AreExchanged statement.now next.now both.check both.sum) }
 {
     let sum = sum_of_statement(statement)?;
     let byte = byte_of_statement(next)?;
     expect_sum(sum, byte)?;
-    let check = Check::InBounds(Operand::Variable(sum.variable), sum.offset);
-    Ok(Statement::Simple(byte.place, Item::Expect(check)))
+    let base = Operand::Variable(sum.variable);
+    let check = Check::InBounds(base, sum.offset);
+    let value = Value::Binary(Operator::Add, base, Operand::Number(sum.offset));
+    Ok(CheckedSum {
+        check: Statement::Simple(byte.place, Item::Expect(check)),
+        sum: Statement::Simple(sum.place, Item::Assign(sum.target, value)),
+    })
 }

@@ -40,7 +40,7 @@ fn push_apart(
     ensures { OnOk result (AreWithBoth out.old.items statement next out.new.items) }
 {
     match check_of_sum(&statement, &next) {
-        Ok(check) => push_two(out, check, statement),
+        Ok(first) => push_two(out, first.check, first.sum),
         Err(_) => push_two(out, statement, next),
     }
 }

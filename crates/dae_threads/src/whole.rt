@@ -3,6 +3,7 @@
 ghost use Rattle.std.specs.Prelude.{IfOk};
 ghost use Rattle.dae_threads.specs.Forms.{AreThreadedFunctions, IsThreadedFunction, IsThreadingOf};
 
+use crate::flattening::flatten_list;
 use crate::threading::thread_list;
 use dae_base::Items;
 use dae_ir::{Function, Ir};
@@ -11,7 +12,8 @@ use std::alloc::{AllocError, Global};
 fn thread_function(alloc: Global, function: Function) -> Result<Function, AllocError>
     ensures { IfOk result (IsThreadedFunction function) }
 {
-    let body = thread_list(alloc, function.body.as_slice())?;
+    let threaded = thread_list(alloc, function.body.as_slice())?;
+    let body = flatten_list(alloc, &threaded)?;
     Ok(Function {
         name: function.name,
         parameters: function.parameters,
@@ -22,8 +24,8 @@ fn thread_function(alloc: Global, function: Function) -> Result<Function, AllocE
 }
 
 /// The form in which an If that tests what the If before it gave a variable goes, where each end of that one gave a number, and the
-/// code doesn't grow: the lists of the condition stand at those ends. Checks of sums come before the sums. The form is given up, also
-/// where memory is wanting.
+/// code doesn't grow: the lists of the condition stand at those ends. Checks of sums come before the sums, and the first list of an If
+/// behind it where the second one ends early. The form is given up, also where memory is wanting.
 #[tactic(auto, using(crate::proofs::Wholes::threaded_push))]
 pub fn thread_conditions(alloc: Global, ir: Ir) -> Result<Ir, AllocError>
     ensures { IfOk result (IsThreadingOf ir) }
