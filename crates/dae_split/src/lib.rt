@@ -3,6 +3,7 @@
 // messages, the copies and the regions. It promises just that pair, and fails only where memory is wanting.
 #![tactic(auto)]
 
+pub use regions::is_jump;
 pub use streams::split;
 
 mod classes;

@@ -15,7 +15,8 @@ use crate::work::{Task, Zone};
 use dae_base::{Items, Side};
 use dae_ir::{Class, Item, Statement, Test};
 
-fn is_jump(item: &Item) -> bool
+/// Whether an item goes to another turn of its loop or behind it.
+pub fn is_jump(item: &Item) -> bool
     ensures { result ≡ is_jump item.now }
 {
     matches!(item, Item::Break | Item::Continue)

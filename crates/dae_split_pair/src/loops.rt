@@ -2,15 +2,10 @@
 
 ghost use Rattle.std.specs.Prelude.{◌≡◌, ◌&&◌};
 ghost use Rattle.dae_ir.specs.Form.{Form, before, form_of};
-ghost use Rattle.dae_ir.specs.Rounds.{stays, is_jump};
+ghost use Rattle.dae_ir.specs.Rounds.{stays};
 
-use dae_ir::{Item, Statement};
-
-fn is_jump(item: &Item) -> bool
-    ensures { result ≡ is_jump item.now }
-{
-    matches!(item, Item::Break | Item::Continue)
-}
+use dae_ir::Statement;
+use dae_split::is_jump;
 
 #[cycle(stays)]
 fn statement_stays(inside: bool, statement: &Statement) -> bool
