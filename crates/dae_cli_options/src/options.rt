@@ -1,6 +1,6 @@
 // The options of jobs and their ranges.
 ghost use Rattle.std.specs.Prelude.{◌≡◌, ◌≤◌, drop, length, take};
-ghost use Rattle.dae_cli_options.specs.Options.{AreCosts, AreDepths, AreInRange, OptionsInRange, usual};
+ghost use Rattle.dae_cli_options.specs.Options.{AreCosts, AreDepths, AreInRange, OptionsInRange};
 ghost use Rattle.dae_cli_options.specs.Ranges.{IsFromTo};
 
 use dae_base::Depths;
@@ -145,28 +145,6 @@ impl RunOptions {
         ensures { result ≡ values }
     {
         RunOptions { values }
-    }
-
-    /// How a program is run where nothing else is asked for: each processor and the memory in its turn, with queues of
-    /// eight items.
-    pub fn usual() -> RunOptions
-        ensures { result ≡ usual }
-    {
-        let depths = Depths {
-            ld: 8,
-            al: 8,
-            sa: 8,
-            sd: 8,
-            ab: 8,
-            eb: 8,
-            cq: 8,
-        };
-        RunOptions::new(OptionValues {
-            depths,
-            schedule: Schedule::Round,
-            steps: 10_000_000,
-            show: None,
-        })
     }
 
     /// The values.
