@@ -11,7 +11,7 @@ ghost use Rattle.dae_types_sound.specs.Names.{names_in, parameter_list, shorter,
 use crate::extents::FileNames;
 use crate::used::{used_functions, used_objects};
 use dae_base::Items;
-use dae_types_kinds::{Layout, Object, Routine, Shape};
+use dae_types_kinds::{INT_ID, Layout, NO_PARAMETERS_ID, Object, Routine, Shape};
 use dae_types_ready::Doubt;
 use dae_types_typed::FileParts;
 use indexmap::IndexSet;
@@ -23,22 +23,17 @@ pub fn layout(size: u32, align: u32) -> Layout
     Layout { size, align }
 }
 
-// The types that are there from the start: int, and the list of no parameters.
-const INT: usize = 6;
-
-const NO_PARAMETERS: usize = 8;
-
 /// The list of the types of a function's parameters.
 fn parameter_list(parts: &FileParts, routine: usize) -> Shape
     ensures { result ≡ parameter_list (tables_of parts.now) routine }
 {
     let type_id = match parts.routines.as_slice().get(routine) {
         Some(routine) => routine.type_id,
-        None => INT,
+        None => INT_ID,
     };
     match parts.shape_of(type_id) {
         Shape::Function(_, parameters) => parts.shape_of(parameters),
-        _ => parts.shape_of(NO_PARAMETERS),
+        _ => parts.shape_of(NO_PARAMETERS_ID),
     }
 }
 

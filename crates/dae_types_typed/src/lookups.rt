@@ -6,12 +6,7 @@ ghost use Rattle.dae_types_typed.specs.Linkage.{is_function, is_object, type_in}
 ghost use Rattle.dae_types_typed.specs.Sound.{same_entity, tables_of};
 
 use crate::files::FileParts;
-use dae_types_kinds::{Entity, Layout, Shape};
-
-// The types that are there from the start.
-const VOID: usize = 0;
-
-const INT: usize = 6;
+use dae_types_kinds::{Entity, INT_ID, Layout, Shape, VOID_ID};
 
 fn layout(size: u32, align: u32) -> Layout
     ensures { result ≡ layout size align }
@@ -129,15 +124,15 @@ impl FileParts {
         match entity {
             Entity::Object(number) => match self.objects.as_slice().get(number) {
                 Some(object) => object.type_id,
-                None => INT,
+                None => INT_ID,
             },
             Entity::Function(number) => match self.routines.as_slice().get(number) {
                 Some(routine) => routine.type_id,
-                None => VOID,
+                None => VOID_ID,
             },
-            Entity::Local(_) => VOID,
-            Entity::Type(_) => VOID,
-            Entity::Enumerator(_) => VOID,
+            Entity::Local(_) => VOID_ID,
+            Entity::Type(_) => VOID_ID,
+            Entity::Enumerator(_) => VOID_ID,
         }
     }
 
