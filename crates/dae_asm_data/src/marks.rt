@@ -1,7 +1,6 @@
 //! Line marks.
 
 ghost use Rattle.std.specs.Prelude.{◌≡◌, ℕ, Option, None, IfSome, IfNone, IfOk, IfErr};
-ghost use Rattle.dae_image.specs.Contents.{follows};
 ghost use Rattle.dae_image.specs.declared.LineMark as images;
 ghost use Rattle.dae_asm_sheet.specs.Rows.{row_seen, rows_seen, marks_in};
 ghost use Rattle.dae_asm_values.specs.Values.{IsWord};
@@ -14,7 +13,7 @@ use crate::faults::{Found, ValueFault};
 use crate::rows::mark_in;
 use dae_asm_sheet::Row;
 use dae_base::Side;
-use dae_image::LineMark;
+use dae_image::{LineMark, follows};
 use std::alloc::Global;
 
 /// How many words the codes of a text have, and how many names it has.
@@ -33,19 +32,6 @@ impl Counts {
             Side::A => self.words_a,
             Side::E => self.words_e,
         }
-    }
-}
-
-fn follows(last: Option<LineMark>, mark: LineMark) -> bool
-    ensures { result ≡ follows last mark }
-{
-    let Some(last) = last else {
-        return true;
-    };
-    match (last.side, mark.side) {
-        (Side::A, Side::E) => true,
-        (Side::E, Side::A) => false,
-        (Side::A, Side::A) | (Side::E, Side::E) => last.word < mark.word,
     }
 }
 

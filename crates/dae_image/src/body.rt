@@ -82,7 +82,8 @@ impl Header {
     }
 }
 
-fn follows(last: Option<LineMark>, mark: LineMark) -> bool
+/// Whether a mark may stand behind the last one: those of A come first, and the words of a side rise.
+pub fn follows(last: Option<LineMark>, mark: LineMark) -> bool
     ensures { result ≡ follows last mark }
 {
     let Some(last) = last else {

@@ -1,11 +1,10 @@
 // The marks of lines: the words of both codes at which another line begins.
 
 ghost use Rattle.std.specs.Prelude.{◌≡◌, ◌≤◌, ◌<◌, ◌^◌, length, OnOk, IfOk};
-ghost use Rattle.dae_image.specs.Contents.{follows};
 ghost use Rattle.dae_link.specs.Marked.{words_in, is_mark, mark_at, is_other_side, is_another_line, HasMarkMore, HasMarksOf, IsMarked, IsRoomy, AreMarks};
 
 use dae_base::Side;
-use dae_image::LineMark;
+use dae_image::{LineMark, follows};
 use dae_select::PlacedWord;
 use std::alloc::{AllocError, Global};
 
@@ -28,19 +27,6 @@ pub struct LineMarks {
 const MOST_OF_A: usize = 131_072;
 
 const MOST: usize = 262_144;
-
-fn follows(last: Option<LineMark>, mark: LineMark) -> bool
-    ensures { result ≡ follows last mark }
-{
-    let Some(last) = last else {
-        return true;
-    };
-    match (last.side, mark.side) {
-        (Side::A, Side::E) => true,
-        (Side::E, Side::A) => false,
-        (Side::A, Side::A) | (Side::E, Side::E) => last.word < mark.word,
-    }
-}
 
 fn words_in(room: MarkRoom, side: Side) -> usize
     ensures { result ≡ words_in room side }
