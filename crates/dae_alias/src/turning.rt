@@ -12,7 +12,7 @@ ghost use Rattle.dae_ir.specs.declared.form.Item.TheVariants as item;
 
 use crate::held::Held;
 use crate::walking::{Walk, begin_again, meet, pass, start};
-use dae_base::{Items, LoadKind, Place};
+use dae_base::{LoadKind, Place};
 use dae_ir::{Item, Operand, Statement, Value};
 use std::alloc::{AllocError, Global};
 
@@ -104,34 +104,6 @@ fn write_item(out: &mut Vec<Statement>, place: Place, item: Item) -> Result<(), 
     Ok(())
 }
 
-fn copy_operands(alloc: Global, xs: &[Operand]) -> Result<Items<Operand>, AllocError>
-    ensures { IfOk result (λ ys. ys ≡ xs.now) }
-{
-    let mut ys = Vec::new(alloc);
-    ys.extend_from_slice(xs)?;
-    Ok(Items::from_vec(ys))
-}
-
-fn copy_item(alloc: Global, item: &Item) -> Result<Item, AllocError>
-    ensures { IfOk result (λ copy. copy ≡ item.now) }
-{
-    match item {
-        Item::Assign(variable, x) => Ok(Item::Assign(*variable, *x)),
-        Item::Load(variable, kind, x) => Ok(Item::Load(*variable, *kind, *x)),
-        Item::Store(width, x, y) => Ok(Item::Store(*width, *x, *y)),
-        Item::Print(spelling, x) => Ok(Item::Print(*spelling, *x)),
-        Item::Expect(check) => Ok(Item::Expect(*check)),
-        Item::Break => Ok(Item::Break),
-        Item::Continue => Ok(Item::Continue),
-        Item::Call(variable, function, xs) => {
-            let xs = copy_operands(alloc, xs.as_slice())?;
-            Ok(Item::Call(*variable, *function, xs))
-        }
-        Item::Return(x) => Ok(Item::Return(*x)),
-        Item::Halt(x) => Ok(Item::Halt(*x)),
-    }
-}
-
 fn turn_load(
     alloc: Global,
     table: &[Option<u32>],
@@ -177,7 +149,7 @@ fn turn_item(
         };
         return turn_load(alloc, table, walk, out, load);
     }
-    let copy = copy_item(alloc, item)?;
+    let copy = item.copy(alloc)?;
     pass(alloc, walk, item)?;
     write_item(out, place, copy)
 }

@@ -9,7 +9,7 @@ ghost use Rattle.dae_elide.specs.Elided.{as_actions, elided, elided_check, elide
 ghost use Rattle.dae_elide.specs.Walked.{IsElided, chosen_by};
 
 use crate::likes::{action_like, first_list, second_list};
-use dae_base::{Items, Width};
+use dae_base::Width;
 use dae_ir::{Branch, Check, Class, Item, Operand, Statement, Step, Value};
 use dae_select_facts::{
     Known, bounds_in, facts_at_turn, facts_behind, facts_behind_turn, facts_in_list, facts_past_if,
@@ -70,14 +70,6 @@ fn elide_check(memory: u32, classes: &[Class], known: &Known, check: Check) -> I
     }
 }
 
-fn copy_operands(alloc: Global, operands: &[Operand]) -> Result<Items<Operand>, AllocError>
-    ensures { IfOk result (λ new. new ≡ operands.now) }
-{
-    let mut new = Vec::new(alloc);
-    new.extend_from_slice(operands)?;
-    Ok(Items::from_vec(new))
-}
-
 fn elide_item(
     alloc: Global,
     memory: u32,
@@ -89,19 +81,10 @@ fn elide_item(
         new ≡ elided_item memory (chosen_by classes.now) (facts_by known.now) item.now) }
 {
     match item {
-        Item::Assign(variable, value) => Ok(Item::Assign(*variable, *value)),
-        Item::Load(variable, kind, operand) => Ok(Item::Load(*variable, *kind, *operand)),
-        Item::Store(width, x, y) => Ok(Item::Store(*width, *x, *y)),
-        Item::Print(spelling, operand) => Ok(Item::Print(*spelling, *operand)),
         Item::Expect(check) => Ok(elide_check(memory, classes, known, *check)),
-        Item::Break => Ok(Item::Break),
-        Item::Continue => Ok(Item::Continue),
-        Item::Call(variable, function, operands) => {
-            let operands = copy_operands(alloc, operands.as_slice())?;
-            Ok(Item::Call(*variable, *function, operands))
-        }
-        Item::Return(operand) => Ok(Item::Return(*operand)),
-        Item::Halt(operand) => Ok(Item::Halt(*operand)),
+        Item::Assign(_, _) | Item::Load(_, _, _) | Item::Store(_, _, _) => item.copy(alloc),
+        Item::Print(_, _) | Item::Break | Item::Continue => item.copy(alloc),
+        Item::Call(_, _, _) | Item::Return(_) | Item::Halt(_) => item.copy(alloc),
     }
 }
 

@@ -10,8 +10,7 @@ use crate::keeping::{
     fit, keep_check, keep_operand, keep_operands, keep_test, keep_value, keep_variable,
 };
 use crate::plan::{HoistPlan, NotHoisted, value_for};
-use dae_base::Items;
-use dae_ir::{Item, Operand, Statement, Value};
+use dae_ir::{Item, Statement, Value};
 use std::alloc::{AllocError, Global};
 
 /// The variables of which is known that they are set before a place, beside the parameters.
@@ -27,14 +26,6 @@ fn found_or(found: Option<Value>, value: Value) -> Value
         Some(other) => other,
         None => value,
     }
-}
-
-fn copy_operands(alloc: Global, operands: &[Operand]) -> Result<Items<Operand>, AllocError>
-    ensures { IfOk result (λ new. new ≡ operands.now) }
-{
-    let mut new = Vec::new(alloc);
-    new.extend_from_slice(operands)?;
-    Ok(Items::from_vec(new))
 }
 
 // What is assigned to a variable in place of a value.
@@ -86,11 +77,10 @@ fn hoist_item(alloc: Global, plan: &HoistPlan, set: &[u32], item: &Item) -> Resu
             keep_check(plan, *check)?;
             Ok(Item::Expect(*check))
         }
-        Item::Call(variable, function, xs) => {
+        Item::Call(variable, _, xs) => {
             keep_variable(plan, *variable)?;
             keep_operands(plan, xs.as_slice())?;
-            let xs = copy_operands(alloc, xs.as_slice())?;
-            Ok(Item::Call(*variable, *function, xs))
+            Ok(item.copy(alloc)?)
         }
         Item::Return(x) => {
             keep_operand(plan, *x)?;

@@ -1,7 +1,10 @@
 // The structured form.
 
+ghost use Rattle.std.specs.Prelude.{◌≡◌, IfOk};
+
 use dae_base::{Items, LoadKind, Place, Text, Width};
 use dae_meaning::{Comparison, Operator, Spelling};
+use std::alloc::{AllocError, Global};
 
 /// A variable of the function, or a number.
 #[derive(Clone, Copy, PartialEq, Eq)]
@@ -57,6 +60,37 @@ pub enum Item {
     Call(u32, u32, Items<Operand>),
     Return(Operand),
     Halt(Operand),
+}
+
+fn copy_operands(alloc: Global, operands: &[Operand]) -> Result<Items<Operand>, AllocError>
+    ensures { IfOk result (λ copy. copy ≡ operands.now) }
+{
+    let mut copy = Vec::new(alloc);
+    copy.extend_from_slice(operands)?;
+    Ok(Items::from_vec(copy))
+}
+
+impl Item {
+    /// Another item that is the same.
+    pub fn copy(&self, alloc: Global) -> Result<Item, AllocError>
+        ensures { IfOk result (λ copy. copy ≡ self.now) }
+    {
+        match self {
+            Item::Assign(variable, value) => Ok(Item::Assign(*variable, *value)),
+            Item::Load(variable, kind, operand) => Ok(Item::Load(*variable, *kind, *operand)),
+            Item::Store(width, x, y) => Ok(Item::Store(*width, *x, *y)),
+            Item::Print(spelling, operand) => Ok(Item::Print(*spelling, *operand)),
+            Item::Expect(check) => Ok(Item::Expect(*check)),
+            Item::Break => Ok(Item::Break),
+            Item::Continue => Ok(Item::Continue),
+            Item::Call(variable, function, operands) => {
+                let operands = copy_operands(alloc, operands.as_slice())?;
+                Ok(Item::Call(*variable, *function, operands))
+            }
+            Item::Return(operand) => Ok(Item::Return(*operand)),
+            Item::Halt(operand) => Ok(Item::Halt(*operand)),
+        }
+    }
 }
 
 /// A statement, with the place that it comes from. An `If` has its two branches. A `Loop` repeats its body and its step:

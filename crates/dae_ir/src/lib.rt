@@ -1,5 +1,5 @@
 // The structured form of a program, and the pair of streams that it is split into for the two processors of a decoupled
-// machine (Smith, "Decoupled Access/Execute Computer Architectures"). Types alone, and in specs/ what they mean: the form,
+// machine (Smith, "Decoupled Access/Execute Computer Architectures"). Types and copies of items, and in specs/ what they mean: the form,
 // the classes of its variables, its groups and regions, what the pair does in canonical order, which streams are a form's
 // pair, what an action does, sizes, and a pair's budget.
 #![tactic(auto)]

@@ -1,40 +1,10 @@
 // Copies of statements.
 
-ghost use Rattle.std.specs.Prelude.{◌≡◌, ◌≤◌, [], length, take, IfOk, OnOk};
+ghost use Rattle.std.specs.Prelude.{◌≤◌, [], length, take, IfOk, OnOk};
 ghost use Rattle.dae_threads.specs.Walked.{AreCopiedBehind, IsCopy};
 
-use dae_base::Items;
-use dae_ir::{Item, Operand, Statement};
+use dae_ir::Statement;
 use std::alloc::{AllocError, Global};
-
-fn copy_operands(alloc: Global, operands: &[Operand]) -> Result<Items<Operand>, AllocError>
-    ensures { IfOk result (λ new. new ≡ operands.now) }
-{
-    let mut new = Vec::new(alloc);
-    new.extend_from_slice(operands)?;
-    Ok(Items::from_vec(new))
-}
-
-/// A copy of an item.
-pub fn copy_item(alloc: Global, item: &Item) -> Result<Item, AllocError>
-    ensures { IfOk result (λ new. new ≡ item.now) }
-{
-    match item {
-        Item::Assign(variable, value) => Ok(Item::Assign(*variable, *value)),
-        Item::Load(variable, kind, operand) => Ok(Item::Load(*variable, *kind, *operand)),
-        Item::Store(width, x, y) => Ok(Item::Store(*width, *x, *y)),
-        Item::Print(spelling, operand) => Ok(Item::Print(*spelling, *operand)),
-        Item::Expect(check) => Ok(Item::Expect(*check)),
-        Item::Break => Ok(Item::Break),
-        Item::Continue => Ok(Item::Continue),
-        Item::Call(variable, function, operands) => {
-            let operands = copy_operands(alloc, operands.as_slice())?;
-            Ok(Item::Call(*variable, *function, operands))
-        }
-        Item::Return(operand) => Ok(Item::Return(*operand)),
-        Item::Halt(operand) => Ok(Item::Halt(*operand)),
-    }
-}
 
 #[cycle(copy)]
 fn copy_statement(alloc: Global, statement: &Statement) -> Result<Statement, AllocError>
@@ -42,7 +12,7 @@ fn copy_statement(alloc: Global, statement: &Statement) -> Result<Statement, All
 {
     match statement {
         Statement::Simple(place, item) => {
-            let copy = copy_item(alloc, item)?;
+            let copy = item.copy(alloc)?;
             Ok(Statement::Simple(*place, copy))
         }
         Statement::If(place, test, yes, no) => {

@@ -8,7 +8,6 @@ ghost use Rattle.dae_threads.specs.Threaded as spec;
 ghost use Rattle.dae_threads.specs.Threaded.{IsThreaded};
 ghost use Rattle.dae_threads.specs.Walked.{AreWithNext};
 
-use crate::copying::copy_item;
 use dae_base::Place;
 use dae_ir::{Item, Statement, Test};
 use std::alloc::{AllocError, Global};
@@ -93,7 +92,7 @@ fn flatten_statement(
 {
     match statement {
         Statement::Simple(place, item) => {
-            let copy = copy_item(alloc, item)?;
+            let copy = item.copy(alloc)?;
             push_statement(out, Statement::Simple(*place, copy))
         }
         Statement::If(place, test, yes, no) => {

@@ -6,7 +6,6 @@ ghost use Rattle.dae_threads.specs.Threaded.{IsThreaded};
 ghost use Rattle.dae_threads.specs.Walked.{AreWithBoth, AreWithNext, IsThreadedTo};
 
 use crate::checking::check_of_sum;
-use crate::copying::copy_item;
 use crate::deciding::NotThreaded;
 use crate::leading::join_condition;
 use dae_ir::Statement;
@@ -77,7 +76,7 @@ fn thread_statement(alloc: Global, statement: &Statement) -> Result<Statement, A
 {
     match statement {
         Statement::Simple(place, item) => {
-            let copy = copy_item(alloc, item)?;
+            let copy = item.copy(alloc)?;
             Ok(Statement::Simple(*place, copy))
         }
         Statement::If(place, test, yes, no) => {
