@@ -6,8 +6,8 @@ use crate::candidates::{
     clear_flags, has_flag, holds_loop, no_flags, set_flag, stamp, taken_variables, variable_set,
 };
 use crate::events::{Event, Events, add_events, events_in};
-use crate::plan::{HoistPlan, NotHoisted};
-use dae_ir::{Class, Function, Item, Operand, Statement, Test, Value};
+use crate::plan::HoistPlan;
+use dae_ir::{Class, Function, Item, NotChanged, Operand, Statement, Test, Value};
 use std::alloc::{AllocError, Global};
 
 /// A variable holds a value, for variables of a class.
@@ -373,13 +373,13 @@ pub fn find_invariants(
     alloc: Global,
     row: &[Class],
     function: &Function,
-) -> Result<HoistPlan, NotHoisted>
+) -> Result<HoistPlan, NotChanged>
     ensures parameters { IfOk result (λ plan. plan.parameters ≡ function.now.parameters) }
     ensures variables { IfOk result (λ plan. plan.variables ≡ function.now.variables) }
     ensures row { IfOk result (λ plan. plan.row.items ≡ row.now) }
 {
     if !holds_loop(function.body.as_slice()) {
-        return Err(NotHoisted::Kept);
+        return Err(NotChanged::Kept);
     }
     let mut finding = Finding {
         values: no_values(alloc, function.variables)?,
@@ -400,7 +400,7 @@ pub fn find_invariants(
     add_events(&mut events, row, function.body.as_slice())?;
     find_in_list(alloc, &mut finding, &events, &[], function.body.as_slice())?;
     if !finding.found {
-        return Err(NotHoisted::Kept);
+        return Err(NotChanged::Kept);
     }
     let row = copied(alloc, row)?;
     Ok(HoistPlan {

@@ -9,8 +9,8 @@ ghost use Rattle.dae_hoist.specs.Planned.{IsHoistedList, IsHoistedStatement, hoi
 use crate::keeping::{
     fit, keep_check, keep_operand, keep_operands, keep_test, keep_value, keep_variable,
 };
-use crate::plan::{HoistPlan, NotHoisted, value_for};
-use dae_ir::{Item, Statement, Value};
+use crate::plan::{HoistPlan, value_for};
+use dae_ir::{Item, NotChanged, Statement, Value};
 use std::alloc::{AllocError, Global};
 
 /// The variables of which is known that they are set before a place, beside the parameters.
@@ -34,7 +34,7 @@ fn hoist_value(
     set: &[u32],
     variable: u32,
     value: Value,
-) -> Result<Value, NotHoisted>
+) -> Result<Value, NotChanged>
     ensures value { IfOk result (λ y.
         y ≡ found_or ((hoisting_of plan.now).holding variable) value) }
     ensures reads { IfOk result (λ _.
@@ -49,7 +49,7 @@ fn hoist_value(
 }
 
 // An item by the plan.
-fn hoist_item(alloc: Global, plan: &HoistPlan, set: &[u32], item: &Item) -> Result<Item, NotHoisted>
+fn hoist_item(alloc: Global, plan: &HoistPlan, set: &[u32], item: &Item) -> Result<Item, NotChanged>
     ensures item { IfOk result (λ new.
         new ≡ hoisted_item (hoisting_of plan.now).holding item.now) }
     ensures kept { IfOk result (λ _. ItemKept (hoisting_of plan.now) set.now item.now) }
@@ -137,7 +137,7 @@ pub fn hoist_list(
     plan: &HoistPlan,
     before: &mut SetVariables,
     statements: &[Statement],
-) -> Result<Vec<Statement>, NotHoisted>
+) -> Result<Vec<Statement>, NotChanged>
     ensures { IfOk result (λ new.
         IsHoistedList (hoisting_of plan.now) statements.now (set_in before.old)
         (set_in before.new) new.items) }
@@ -158,7 +158,7 @@ fn hoist_statement(
     plan: &HoistPlan,
     before: &mut SetVariables,
     statement: &Statement,
-) -> Result<Statement, NotHoisted>
+) -> Result<Statement, NotChanged>
     ensures { IfOk result (λ new.
         IsHoistedStatement (hoisting_of plan.now) statement.now (set_in before.old)
         (set_in before.new) new) }

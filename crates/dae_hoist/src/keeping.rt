@@ -7,22 +7,22 @@ ghost use Rattle.dae_ir.specs.SetFirst.{AllRead};
 ghost use Rattle.dae_hoist.specs.Kept as spec;
 ghost use Rattle.dae_hoist.specs.Planned.{hoisting_of};
 
-use crate::plan::{HoistPlan, NotHoisted, is_kept, leads_to_addresses, led_to_addresses};
-use dae_ir::{Check, Operand, Test, Value};
+use crate::plan::{HoistPlan, is_kept, leads_to_addresses, led_to_addresses};
+use dae_ir::{Check, NotChanged, Operand, Test, Value};
 
 /// A variable is kept.
-pub fn keep_variable(plan: &HoistPlan, variable: u32) -> Result<(), NotHoisted>
+pub fn keep_variable(plan: &HoistPlan, variable: u32) -> Result<(), NotChanged>
     ensures { OnOk result (spec.is_kept (hoisting_of plan.now) variable ≡ true) }
 {
     if is_kept(plan, variable) {
         Ok(())
     } else {
-        Err(NotHoisted::Kept)
+        Err(NotChanged::Kept)
     }
 }
 
 /// What is read is kept.
-pub fn keep_operand(plan: &HoistPlan, x: Operand) -> Result<(), NotHoisted>
+pub fn keep_operand(plan: &HoistPlan, x: Operand) -> Result<(), NotChanged>
     ensures { OnOk result (has (spec.is_kept (hoisting_of plan.now)) x ≡ true) }
 {
     match x {
@@ -32,7 +32,7 @@ pub fn keep_operand(plan: &HoistPlan, x: Operand) -> Result<(), NotHoisted>
 }
 
 /// What a condition reads is kept.
-pub fn keep_test(plan: &HoistPlan, test: Test) -> Result<(), NotHoisted>
+pub fn keep_test(plan: &HoistPlan, test: Test) -> Result<(), NotChanged>
     ensures { OnOk result (has_test (spec.is_kept (hoisting_of plan.now)) test ≡ true) }
 {
     keep_operand(plan, test.left)?;
@@ -41,7 +41,7 @@ pub fn keep_test(plan: &HoistPlan, test: Test) -> Result<(), NotHoisted>
 }
 
 /// What a value reads is kept.
-pub fn keep_value(plan: &HoistPlan, value: Value) -> Result<(), NotHoisted>
+pub fn keep_value(plan: &HoistPlan, value: Value) -> Result<(), NotChanged>
     ensures { OnOk result (has_value (spec.is_kept (hoisting_of plan.now)) value ≡ true) }
 {
     match value {
@@ -58,7 +58,7 @@ pub fn keep_value(plan: &HoistPlan, value: Value) -> Result<(), NotHoisted>
 }
 
 /// What a check reads is kept.
-pub fn keep_check(plan: &HoistPlan, check: Check) -> Result<(), NotHoisted>
+pub fn keep_check(plan: &HoistPlan, check: Check) -> Result<(), NotChanged>
     ensures { OnOk result (has_check (spec.is_kept (hoisting_of plan.now)) check ≡ true) }
 {
     match check {
@@ -70,7 +70,7 @@ pub fn keep_check(plan: &HoistPlan, check: Check) -> Result<(), NotHoisted>
 }
 
 /// Arguments are kept.
-pub fn keep_operands(plan: &HoistPlan, xs: &[Operand]) -> Result<(), NotHoisted>
+pub fn keep_operands(plan: &HoistPlan, xs: &[Operand]) -> Result<(), NotChanged>
     ensures { OnOk result (AllRead (spec.is_kept (hoisting_of plan.now)) xs.now) }
 {
     for x in xs {
@@ -80,7 +80,7 @@ pub fn keep_operands(plan: &HoistPlan, xs: &[Operand]) -> Result<(), NotHoisted>
 }
 
 /// The result and the parameters are kept.
-pub fn keep_parameters(plan: &HoistPlan) -> Result<(), NotHoisted>
+pub fn keep_parameters(plan: &HoistPlan) -> Result<(), NotChanged>
     ensures { OnOk result ((v : ℕ) → v ≤ plan.now.parameters
         → spec.is_kept (hoisting_of plan.now) v ≡ true) }
 {
@@ -115,7 +115,7 @@ fn is_set(plan: &HoistPlan, set: &[u32], variable: u32) -> bool
     (0 < variable && variable <= plan.parameters) || is_listed(set, variable)
 }
 
-fn set_operand(plan: &HoistPlan, set: &[u32], x: Operand) -> Result<(), NotHoisted>
+fn set_operand(plan: &HoistPlan, set: &[u32], x: Operand) -> Result<(), NotChanged>
     ensures set { OnOk result (has (spec.is_set (hoisting_of plan.now) set.now) x ≡ true) }
     ensures there { OnOk result (IsIn plan.now.variables x) }
 {
@@ -124,7 +124,7 @@ fn set_operand(plan: &HoistPlan, set: &[u32], x: Operand) -> Result<(), NotHoist
             if is_set(plan, set, variable) && variable < plan.variables {
                 Ok(())
             } else {
-                Err(NotHoisted::Kept)
+                Err(NotChanged::Kept)
             }
         }
         Operand::Number(_) => Ok(()),
@@ -132,7 +132,7 @@ fn set_operand(plan: &HoistPlan, set: &[u32], x: Operand) -> Result<(), NotHoist
 }
 
 // A value is made of numbers and of variables that are set before.
-fn set_value(plan: &HoistPlan, set: &[u32], value: Value) -> Result<(), NotHoisted>
+fn set_value(plan: &HoistPlan, set: &[u32], value: Value) -> Result<(), NotChanged>
     ensures set { OnOk result
         (has_value (spec.is_set (hoisting_of plan.now) set.now) value ≡ true) }
     ensures there { OnOk result (ValueIn plan.now.variables value) }
@@ -184,7 +184,7 @@ pub fn fit(
     set: &[u32],
     variable: u32,
     found: Option<Value>,
-) -> Result<(), NotHoisted>
+) -> Result<(), NotChanged>
     ensures { OnOk result (spec.Fits (hoisting_of plan.now) set.now variable found) }
 {
     match found {
@@ -192,7 +192,7 @@ pub fn fit(
             if led_to_addresses(plan, variable) == leads_to_addresses(plan, variable) {
                 Ok(())
             } else {
-                Err(NotHoisted::Kept)
+                Err(NotChanged::Kept)
             }
         }
         Some(value) => {
@@ -200,7 +200,7 @@ pub fn fit(
             if !leads_to_addresses(plan, variable) || addressed_value(plan, value) {
                 Ok(())
             } else {
-                Err(NotHoisted::Kept)
+                Err(NotChanged::Kept)
             }
         }
     }

@@ -5,34 +5,8 @@ ghost use Rattle.dae_ir.specs.Classes.{classes_in};
 ghost use Rattle.dae_hoist.specs.Hoisted.{holding_in};
 ghost use Rattle.dae_hoist.specs.Kept.{is_kept};
 ghost use Rattle.dae_hoist.specs.Planned.{hoisting_of};
-ghost use Rattle.dae_hoist.specs.declared.plan.NotHoisted.TheVariants as errors;
 
 use dae_ir::{Class, Value};
-use std::alloc::{AllocError, AllocFailed};
-
-/// Why no variable of a function holds a value for a loop: memory is wanting, or the function is kept as it is, since none was found,
-/// or one may not.
-#[derive(Clone, Copy, PartialEq, Eq, Debug)]
-pub enum NotHoisted {
-    Memory,
-    Kept,
-}
-
-impl From<AllocError> for NotHoisted {
-    ghost from_gives = { λ _ e. e ≡ errors.Memory };
-
-    fn from(_e: AllocError) -> NotHoisted {
-        NotHoisted::Memory
-    }
-}
-
-impl<T: Drop> From<AllocFailed<T>> for NotHoisted {
-    ghost from_gives = { λ _ e. e ≡ errors.Memory };
-
-    fn from(_e: AllocFailed<T>) -> NotHoisted {
-        NotHoisted::Memory
-    }
-}
 
 /// A function's parameters and variables; by its number, the value that a variable is to hold; and the classes of the variables before
 /// and behind.

@@ -7,9 +7,8 @@ ghost use Rattle.dae_hoist.specs.Forms.{IsHoistOf, IsHoistedFunction, IsHoistedO
 use crate::finding::find_invariants;
 use crate::hoisting::{SetVariables, hoist_list};
 use crate::keeping::keep_parameters;
-use crate::plan::NotHoisted;
 use dae_base::Items;
-use dae_ir::{Class, Function, Ir, Statement};
+use dae_ir::{Class, Function, Ir, NotChanged, Statement};
 use std::alloc::{AllocError, Global};
 
 /// A body in which variables hold values for loops, and the classes of the function's variables.
@@ -50,7 +49,7 @@ fn copy_row(alloc: Global, row: &[Class]) -> Result<Items<Class>, AllocError>
     Ok(Items::from_vec(new))
 }
 
-fn hoist_body(alloc: Global, row: &[Class], function: &Function) -> Result<HoistedBody, NotHoisted>
+fn hoist_body(alloc: Global, row: &[Class], function: &Function) -> Result<HoistedBody, NotChanged>
     ensures { IfOk result (λ h.
         IsHoistedFunction (addresses_in row.now) (addresses_in h.row) function.now
         (with_statements function.now h.body)) }
@@ -100,8 +99,8 @@ fn hoist_function(
             },
             row: hoisted.row,
         }),
-        Err(NotHoisted::Memory) => Err(AllocError),
-        Err(NotHoisted::Kept) => keep_function(alloc, row, function),
+        Err(NotChanged::Memory) => Err(AllocError),
+        Err(NotChanged::Kept) => keep_function(alloc, row, function),
     }
 }
 

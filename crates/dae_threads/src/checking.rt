@@ -11,9 +11,8 @@ ghost use Rattle.dae_ir.specs.declared.form.Statement.TheVariants.{Simple};
 ghost use Rattle.dae_threads.specs.Threaded.{gives_sum};
 ghost use Rattle.dae_threads.specs.Walked.{AreExchanged, item_in_order, statement_in_order, sum_in_order, value_in_order};
 
-use crate::deciding::NotThreaded;
 use dae_base::{Place, Width};
-use dae_ir::{Check, Item, Operand, Statement, Value};
+use dae_ir::{Check, Item, NotChanged, Operand, Statement, Value};
 use dae_meaning::Operator;
 
 /// A statement that gives a variable the sum of another one and a number.
@@ -44,7 +43,7 @@ fn sum_of_operands(
     target: u32,
     x: Operand,
     y: Operand,
-) -> Result<SumGiven, NotThreaded>
+) -> Result<SumGiven, NotChanged>
     ensures { IfOk result (λ sum. Simple place (Assign target (sum_in_order x y))
         ≡ Simple sum.place (gives_sum sum.target (Variable sum.variable) sum.offset)) }
 {
@@ -56,7 +55,7 @@ fn sum_of_operands(
                 variable,
                 offset,
             }),
-            Operand::Variable(_) => Err(NotThreaded::Kept),
+            Operand::Variable(_) => Err(NotChanged::Kept),
         },
         Operand::Number(offset) => match y {
             Operand::Variable(variable) => Ok(SumGiven {
@@ -65,84 +64,84 @@ fn sum_of_operands(
                 variable,
                 offset,
             }),
-            Operand::Number(_) => Err(NotThreaded::Kept),
+            Operand::Number(_) => Err(NotChanged::Kept),
         },
     }
 }
 
-fn sum_of_value(place: Place, target: u32, value: Value) -> Result<SumGiven, NotThreaded>
+fn sum_of_value(place: Place, target: u32, value: Value) -> Result<SumGiven, NotChanged>
     ensures { IfOk result (λ sum. Simple place (Assign target (value_in_order value))
         ≡ Simple sum.place (gives_sum sum.target (Variable sum.variable) sum.offset)) }
 {
     match value {
         Value::Binary(Operator::Add, x, y) => sum_of_operands(place, target, x, y),
-        _ => Err(NotThreaded::Kept),
+        _ => Err(NotChanged::Kept),
     }
 }
 
-fn sum_of_item(place: Place, item: &Item) -> Result<SumGiven, NotThreaded>
+fn sum_of_item(place: Place, item: &Item) -> Result<SumGiven, NotChanged>
     ensures { IfOk result (λ sum. Simple place (item_in_order item.now)
         ≡ Simple sum.place (gives_sum sum.target (Variable sum.variable) sum.offset)) }
 {
     match item {
         Item::Assign(target, value) => sum_of_value(place, *target, *value),
-        _ => Err(NotThreaded::Kept),
+        _ => Err(NotChanged::Kept),
     }
 }
 
-fn sum_of_statement(statement: &Statement) -> Result<SumGiven, NotThreaded>
+fn sum_of_statement(statement: &Statement) -> Result<SumGiven, NotChanged>
     ensures { IfOk result (λ sum. statement_in_order statement.now
         ≡ Simple sum.place (gives_sum sum.target (Variable sum.variable) sum.offset)) }
 {
     match statement {
         Statement::Simple(place, item) => sum_of_item(*place, item),
-        Statement::If(_, _, _, _) | Statement::Loop(_, _, _) => Err(NotThreaded::Kept),
+        Statement::If(_, _, _, _) | Statement::Loop(_, _, _) => Err(NotChanged::Kept),
     }
 }
 
-fn byte_of_check(place: Place, check: Check) -> Result<ByteChecked, NotThreaded>
+fn byte_of_check(place: Place, check: Check) -> Result<ByteChecked, NotChanged>
     ensures { IfOk result (λ byte. Simple place (Expect check)
         ≡ Simple byte.place (Expect (Good B1 (Variable byte.variable)))) }
 {
     match check {
         Check::Place(Width::B1, Operand::Variable(variable)) => Ok(ByteChecked { place, variable }),
-        _ => Err(NotThreaded::Kept),
+        _ => Err(NotChanged::Kept),
     }
 }
 
-fn byte_of_item(place: Place, item: &Item) -> Result<ByteChecked, NotThreaded>
+fn byte_of_item(place: Place, item: &Item) -> Result<ByteChecked, NotChanged>
     ensures { IfOk result (λ byte. Simple place item.now
         ≡ Simple byte.place (Expect (Good B1 (Variable byte.variable)))) }
 {
     match item {
         Item::Expect(check) => byte_of_check(place, *check),
-        _ => Err(NotThreaded::Kept),
+        _ => Err(NotChanged::Kept),
     }
 }
 
-fn byte_of_statement(statement: &Statement) -> Result<ByteChecked, NotThreaded>
+fn byte_of_statement(statement: &Statement) -> Result<ByteChecked, NotChanged>
     ensures { IfOk result (λ byte. statement.now
         ≡ Simple byte.place (Expect (Good B1 (Variable byte.variable)))) }
 {
     match statement {
         Statement::Simple(place, item) => byte_of_item(*place, item),
-        Statement::If(_, _, _, _) | Statement::Loop(_, _, _) => Err(NotThreaded::Kept),
+        Statement::If(_, _, _, _) | Statement::Loop(_, _, _) => Err(NotChanged::Kept),
     }
 }
 
 // The sum is what is checked, its number is an immediate of an instruction, and what is added to stays as it is.
-fn expect_sum(sum: SumGiven, byte: ByteChecked) -> Result<(), NotThreaded>
+fn expect_sum(sum: SumGiven, byte: ByteChecked) -> Result<(), NotChanged>
     ensures { OnOk result ((sum.target ≡ byte.variable) × (sum.offset < 2048)) }
 {
     if sum.target == byte.variable && sum.variable != sum.target && sum.offset < 2048 {
         Ok(())
     } else {
-        Err(NotThreaded::Kept)
+        Err(NotChanged::Kept)
     }
 }
 
 /// The check and the sum that may come in place of a sum and a check behind it.
-pub fn check_of_sum(statement: &Statement, next: &Statement) -> Result<CheckedSum, NotThreaded>
+pub fn check_of_sum(statement: &Statement, next: &Statement) -> Result<CheckedSum, NotChanged>
     ensures { IfOk result (λ both. AreExchanged statement.now next.now both.check both.sum) }
 {
     let sum = sum_of_statement(statement)?;

@@ -6,36 +6,11 @@ ghost use Rattle.dae_ir.specs.Code.{Done};
 ghost use Rattle.dae_ir.specs.Form.{before, form_of};
 ghost use Rattle.dae_threads.specs.Threaded.{IsSpread, is_light};
 ghost use Rattle.dae_threads.specs.Walked as spec;
-ghost use Rattle.dae_threads.specs.declared.deciding.NotThreaded.TheVariants as errors;
 
-use dae_ir::{Item, Operand, Statement, Test, Value};
+use dae_ir::{Item, NotChanged, Operand, Statement, Test, Value};
 use dae_meaning::Comparison;
-use std::alloc::{AllocError, AllocFailed};
 
-/// Why a condition isn't threaded: memory is wanting, or it stays as it is.
-#[derive(Clone, Copy, PartialEq, Eq, Debug)]
-pub enum NotThreaded {
-    Memory,
-    Kept,
-}
-
-impl From<AllocError> for NotThreaded {
-    ghost from_gives = { λ _ e. e ≡ errors.Memory };
-
-    fn from(_e: AllocError) -> NotThreaded {
-        NotThreaded::Memory
-    }
-}
-
-impl<T: Drop> From<AllocFailed<T>> for NotThreaded {
-    ghost from_gives = { λ _ e. e ≡ errors.Memory };
-
-    fn from(_e: AllocFailed<T>) -> NotThreaded {
-        NotThreaded::Memory
-    }
-}
-
-fn beside_zero(x: Operand, y: Operand) -> Result<u32, NotThreaded>
+fn beside_zero(x: Operand, y: Operand) -> Result<u32, NotChanged>
     ensures { IfOk result (λ v. spec.beside_zero x y ≡ Some v) }
 {
     match x {
@@ -44,28 +19,28 @@ fn beside_zero(x: Operand, y: Operand) -> Result<u32, NotThreaded>
                 if number == 0 {
                     Ok(variable)
                 } else {
-                    Err(NotThreaded::Kept)
+                    Err(NotChanged::Kept)
                 }
             }
-            Operand::Variable(_) => Err(NotThreaded::Kept),
+            Operand::Variable(_) => Err(NotChanged::Kept),
         },
-        Operand::Number(_) => Err(NotThreaded::Kept),
+        Operand::Number(_) => Err(NotChanged::Kept),
     }
 }
 
 /// The variable of which a condition asks whether it isn't 0.
-pub fn tested_variable(test: Test) -> Result<u32, NotThreaded>
+pub fn tested_variable(test: Test) -> Result<u32, NotChanged>
     ensures { IfOk result (λ v. spec.nonzero_tested test.comparison test.left test.right ≡ Some v) }
 {
     match test.comparison {
         Comparison::NotEqual => beside_zero(test.left, test.right),
-        Comparison::Equal => Err(NotThreaded::Kept),
-        Comparison::LessSigned | Comparison::AtLeastSigned => Err(NotThreaded::Kept),
-        Comparison::LessUnsigned | Comparison::AtLeastUnsigned => Err(NotThreaded::Kept),
+        Comparison::Equal => Err(NotChanged::Kept),
+        Comparison::LessSigned | Comparison::AtLeastSigned => Err(NotChanged::Kept),
+        Comparison::LessUnsigned | Comparison::AtLeastUnsigned => Err(NotChanged::Kept),
     }
 }
 
-fn number_assigned(variable: u32, set: u32, value: Value) -> Result<u32, NotThreaded>
+fn number_assigned(variable: u32, set: u32, value: Value) -> Result<u32, NotChanged>
     ensures { IfOk result (λ n. spec.number_assigned variable set value ≡ Some n) }
 {
     match value {
@@ -73,25 +48,25 @@ fn number_assigned(variable: u32, set: u32, value: Value) -> Result<u32, NotThre
             if set == variable {
                 Ok(number)
             } else {
-                Err(NotThreaded::Kept)
+                Err(NotChanged::Kept)
             }
         }
-        Value::Same(Operand::Variable(_)) => Err(NotThreaded::Kept),
-        Value::Extended(_, _) | Value::Binary(_, _, _) => Err(NotThreaded::Kept),
-        Value::Holds(_) | Value::FrameAddress(_) => Err(NotThreaded::Kept),
+        Value::Same(Operand::Variable(_)) => Err(NotChanged::Kept),
+        Value::Extended(_, _) | Value::Binary(_, _, _) => Err(NotChanged::Kept),
+        Value::Holds(_) | Value::FrameAddress(_) => Err(NotChanged::Kept),
     }
 }
 
 /// The number that an item gives the variable.
-pub fn number_given(variable: u32, item: &Item) -> Result<u32, NotThreaded>
+pub fn number_given(variable: u32, item: &Item) -> Result<u32, NotChanged>
     ensures { IfOk result (λ n. spec.number_given variable item.now ≡ Some n) }
 {
     match item {
         Item::Assign(set, value) => number_assigned(variable, *set, *value),
-        Item::Load(_, _, _) | Item::Store(_, _, _) => Err(NotThreaded::Kept),
-        Item::Print(_, _) | Item::Expect(_) => Err(NotThreaded::Kept),
-        Item::Break | Item::Continue => Err(NotThreaded::Kept),
-        Item::Call(_, _, _) | Item::Return(_) | Item::Halt(_) => Err(NotThreaded::Kept),
+        Item::Load(_, _, _) | Item::Store(_, _, _) => Err(NotChanged::Kept),
+        Item::Print(_, _) | Item::Expect(_) => Err(NotChanged::Kept),
+        Item::Break | Item::Continue => Err(NotChanged::Kept),
+        Item::Call(_, _, _) | Item::Return(_) | Item::Halt(_) => Err(NotChanged::Kept),
     }
 }
 
@@ -117,9 +92,9 @@ fn end_with(number: u32) -> EndCounts {
 }
 
 /// The ends of a list, each of which gives the variable a number.
-fn count_ends(variable: u32, statements: &[Statement]) -> Result<EndCounts, NotThreaded> {
+fn count_ends(variable: u32, statements: &[Statement]) -> Result<EndCounts, NotChanged> {
     if statements.is_empty() {
-        return Err(NotThreaded::Kept);
+        return Err(NotChanged::Kept);
     }
     let last = statements.len() - 1;
     match &statements[last] {
@@ -135,7 +110,7 @@ fn count_ends(variable: u32, statements: &[Statement]) -> Result<EndCounts, NotT
                 seconds: one.seconds.saturating_add(other.seconds),
             })
         }
-        Statement::Loop(_, _, _) => Err(NotThreaded::Kept),
+        Statement::Loop(_, _, _) => Err(NotChanged::Kept),
     }
 }
 
@@ -151,7 +126,7 @@ fn is_light(item: &Item) -> bool
 }
 
 // A statement that stands twice.
-fn simple_cost(statement: &Statement) -> Result<u64, NotThreaded>
+fn simple_cost(statement: &Statement) -> Result<u64, NotChanged>
     ensures { IfOk result (λ more. IsSpread 2 (before statement.now Done) more) }
 {
     match statement {
@@ -159,26 +134,26 @@ fn simple_cost(statement: &Statement) -> Result<u64, NotThreaded>
             if is_light(item) {
                 Ok(1)
             } else {
-                Err(NotThreaded::Kept)
+                Err(NotChanged::Kept)
             }
         }
-        Statement::If(_, _, _, _) | Statement::Loop(_, _, _) => Err(NotThreaded::Kept),
+        Statement::If(_, _, _, _) | Statement::Loop(_, _, _) => Err(NotChanged::Kept),
     }
 }
 
 // A list that stands any number of times.
-fn empty_cost(count: u64, statements: &[Statement]) -> Result<u64, NotThreaded>
+fn empty_cost(count: u64, statements: &[Statement]) -> Result<u64, NotChanged>
     ensures { IfOk result (λ more. IsSpread count (form_of statements.now) more) }
 {
     if statements.is_empty() {
         Ok(0)
     } else {
-        Err(NotThreaded::Kept)
+        Err(NotChanged::Kept)
     }
 }
 
 // A list that stands twice.
-fn double_cost(statements: &[Statement]) -> Result<u64, NotThreaded>
+fn double_cost(statements: &[Statement]) -> Result<u64, NotChanged>
     ensures { IfOk result (λ more. IsSpread 2 (form_of statements.now) more) }
 {
     if statements.len() == 1 {
@@ -188,7 +163,7 @@ fn double_cost(statements: &[Statement]) -> Result<u64, NotThreaded>
 }
 
 /// How many items more there are in a list that stands so many times than in one: one at most.
-pub fn spread_cost(count: u64, statements: &[Statement]) -> Result<u64, NotThreaded>
+pub fn spread_cost(count: u64, statements: &[Statement]) -> Result<u64, NotChanged>
     ensures { IfOk result (λ more. IsSpread count (form_of statements.now) more) }
 {
     if count <= 1 {
@@ -201,21 +176,21 @@ pub fn spread_cost(count: u64, statements: &[Statement]) -> Result<u64, NotThrea
 }
 
 /// The sum of two counts.
-pub fn add_counts(one: u64, other: u64) -> Result<u64, NotThreaded>
+pub fn add_counts(one: u64, other: u64) -> Result<u64, NotChanged>
     ensures { IfOk result (λ sum. sum ≡ one + other) }
 {
-    one.checked_add(other).ok_or(NotThreaded::Kept)
+    one.checked_add(other).ok_or(NotChanged::Kept)
 }
 
 /// Both lists of a condition together have at most one item more.
-pub fn keep_small(more: u64, further: u64) -> Result<(), NotThreaded>
+pub fn keep_small(more: u64, further: u64) -> Result<(), NotChanged>
     ensures { OnOk result (more + further ≤ 1) }
 {
     let sum = add_counts(more, further)?;
     if sum <= 1 {
         Ok(())
     } else {
-        Err(NotThreaded::Kept)
+        Err(NotChanged::Kept)
     }
 }
 
@@ -226,7 +201,7 @@ pub fn expect_small(
     q: &[Statement],
     yes: &[Statement],
     no: &[Statement],
-) -> Result<(), NotThreaded> {
+) -> Result<(), NotChanged> {
     let one = count_ends(variable, p)?;
     let other = count_ends(variable, q)?;
     let more = spread_cost(one.firsts.saturating_add(other.firsts), yes)?;

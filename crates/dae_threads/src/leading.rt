@@ -8,10 +8,10 @@ ghost use Rattle.dae_threads.specs.Walked.{AreCopiedBehind, AreLed, IsJoined, Is
 
 use crate::copying::{copy_behind, copy_first};
 use crate::deciding::{
-    NotThreaded, add_counts, expect_small, keep_small, number_given, spread_cost, tested_variable,
+    add_counts, expect_small, keep_small, number_given, spread_cost, tested_variable,
 };
 use dae_base::Place;
-use dae_ir::{Item, Operand, Statement, Value};
+use dae_ir::{Item, NotChanged, Operand, Statement, Value};
 use std::alloc::{AllocError, Global};
 
 /// Statements at whose ends the lists of a condition stand, and how often the first of these does, and the second.
@@ -60,7 +60,7 @@ fn lead_end(
     no: &[Statement],
     place: Place,
     number: u32,
-) -> Result<LedList, NotThreaded>
+) -> Result<LedList, NotChanged>
     ensures { IfOk result (AreLed variable (form_of yes.now) (form_of no.now)
         (Do place (gives_number variable number) Done)) }
 {
@@ -82,7 +82,7 @@ fn lead_statement(
     variable: u32,
     yes: &[Statement],
     no: &[Statement],
-) -> Result<LedList, NotThreaded>
+) -> Result<LedList, NotChanged>
     ensures { IfOk result (AreLed variable (form_of yes.now) (form_of no.now)
         (before statement.now Done)) }
 {
@@ -105,7 +105,7 @@ fn lead_statement(
                 seconds,
             })
         }
-        Statement::Loop(_, _, _) => Err(NotThreaded::Kept),
+        Statement::Loop(_, _, _) => Err(NotChanged::Kept),
     }
 }
 
@@ -117,12 +117,12 @@ fn lead_list(
     variable: u32,
     yes: &[Statement],
     no: &[Statement],
-) -> Result<LedList, NotThreaded>
+) -> Result<LedList, NotChanged>
     ensures { IfOk result (AreLed variable (form_of yes.now) (form_of no.now)
         (form_of statements.now)) }
 {
     if statements.is_empty() {
-        return Err(NotThreaded::Kept);
+        return Err(NotChanged::Kept);
     }
     let last = statements.len() - 1;
     let led = lead_statement(alloc, &statements[last], variable, yes, no)?;
@@ -143,7 +143,7 @@ fn join_if(
     yes: &[Statement],
     no: &[Statement],
     statement: &Statement,
-) -> Result<Statement, NotThreaded>
+) -> Result<Statement, NotChanged>
     ensures { IfOk result (IsJoinedWith statement.now variable (form_of yes.now) (form_of no.now)) }
 {
     match statement {
@@ -158,7 +158,7 @@ fn join_if(
             keep_small(more, further)?;
             Ok(Statement::If(*place, *test, one.statements, other.statements))
         }
-        Statement::Simple(_, _) | Statement::Loop(_, _, _) => Err(NotThreaded::Kept),
+        Statement::Simple(_, _) | Statement::Loop(_, _, _) => Err(NotChanged::Kept),
     }
 }
 
@@ -167,7 +167,7 @@ pub fn join_condition(
     alloc: Global,
     statement: &Statement,
     next: &Statement,
-) -> Result<Statement, NotThreaded>
+) -> Result<Statement, NotChanged>
     ensures { IfOk result (IsJoined statement.now next.now) }
 {
     match next {
@@ -176,6 +176,6 @@ pub fn join_condition(
             let joined = join_if(alloc, variable, yes, no, statement)?;
             Ok(joined)
         }
-        Statement::Simple(_, _) | Statement::Loop(_, _, _) => Err(NotThreaded::Kept),
+        Statement::Simple(_, _) | Statement::Loop(_, _, _) => Err(NotChanged::Kept),
     }
 }

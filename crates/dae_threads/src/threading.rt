@@ -6,9 +6,8 @@ ghost use Rattle.dae_threads.specs.Threaded.{IsThreaded};
 ghost use Rattle.dae_threads.specs.Walked.{AreWithBoth, AreWithNext, IsThreadedTo};
 
 use crate::checking::check_of_sum;
-use crate::deciding::NotThreaded;
 use crate::leading::join_condition;
-use dae_ir::Statement;
+use dae_ir::{NotChanged, Statement};
 use std::alloc::{AllocError, Global};
 
 fn push_one(out: &mut Vec<Statement>, statement: Statement) -> Result<(), AllocError>
@@ -55,8 +54,8 @@ fn push_pair(
 {
     match join_condition(alloc, &statement, &next) {
         Ok(joined) => push_one(out, joined),
-        Err(NotThreaded::Kept) => push_apart(out, statement, next),
-        Err(NotThreaded::Memory) => Err(AllocError),
+        Err(NotChanged::Kept) => push_apart(out, statement, next),
+        Err(NotChanged::Memory) => Err(AllocError),
     }
 }
 

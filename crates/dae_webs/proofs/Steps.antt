@@ -9,7 +9,7 @@ use Rattle.dae_ir.specs.declared.form.Test.{Test}
 use Rattle.dae_ir.specs.declared.form.Statement.{Statement}
 use Rattle.dae_ir.specs.declared.form.Statement.TheVariants as statement
 use Rattle.dae_ir.proofs.Laws.{before_if, before_loop, rest, rest_one, rest_end, all_before, before_end, form_before}
-use Rattle.dae_webs.specs.declared.plan.NotRenamed.{NotRenamed}
+use Rattle.dae_ir.specs.declared.unchanged.NotChanged.{NotChanged}
 use Rattle.dae_webs.specs.declared.plan.WebPlan.{WebPlan}
 use Rattle.dae_webs.specs.declared.plan.Renaming.{Renaming}
 use Rattle.dae_webs.specs.Current.{Current, has_web}
@@ -39,7 +39,7 @@ module _ (b : Starts) (p q : Vec Statement Global) (n n1 n2 : ℕ) (m m1 m2 : Cu
     number = λ k. ap (λ (c : Form). number_behind n c) (before_loop place p q k) ∙ rw (second.number, first.number) refl;
   }
 
-pub ok_more : (r : Result ℕ NotRenamed) (P Q : ℕ → Type 0) → ((n : ℕ) → P n → Q n) → IfOk r P → IfOk r Q
+pub ok_more : (r : Result ℕ NotChanged) (P Q : ℕ → Type 0) → ((n : ℕ) → P n → Q n) → IfOk r P → IfOk r Q
 ok_more (Ok n) P Q h k = h n k
 ok_more (Err e) P Q h k = tt
 

@@ -6,8 +6,8 @@ ghost use Rattle.dae_webs.specs.Current.{web_of};
 ghost use Rattle.dae_webs.specs.Planned.{ListForgets, StatementForgets, starts_in};
 ghost use Rattle.dae_webs.specs.Renamed.{counted_on, variable_set, without_both, without_next, without_web};
 
-use crate::plan::{NotRenamed, WebPlan, web_of};
-use dae_ir::{Item, Statement};
+use crate::plan::{WebPlan, web_of};
+use dae_ir::{Item, NotChanged, Statement};
 
 /// The variable that an item defines.
 pub fn variable_set(item: &Item) -> Option<u32>
@@ -22,11 +22,11 @@ pub fn variable_set(item: &Item) -> Option<u32>
 }
 
 /// The number of the next definition, behind one of this number, or behind an item that defines no variable.
-pub fn count_on(number: usize, defined: Option<u32>) -> Result<usize, NotRenamed>
+pub fn count_on(number: usize, defined: Option<u32>) -> Result<usize, NotChanged>
     ensures { IfOk result (λ n. n ≡ counted_on number defined) }
 {
     match defined {
-        Some(_) => number.checked_add(1).ok_or(NotRenamed::Memory),
+        Some(_) => number.checked_add(1).ok_or(NotChanged::Memory),
         None => Ok(number),
     }
 }
@@ -59,7 +59,7 @@ fn forget_in_list(
     webs: &mut Vec<Option<u32>>,
     first: usize,
     statements: &[Statement],
-) -> Result<usize, NotRenamed>
+) -> Result<usize, NotChanged>
     ensures { IfOk result (λ n.
         ListForgets (starts_in plan.now) statements.now first n webs.old.items webs.new.items) }
 {
@@ -76,7 +76,7 @@ fn forget_in_statement(
     webs: &mut Vec<Option<u32>>,
     number: usize,
     statement: &Statement,
-) -> Result<usize, NotRenamed>
+) -> Result<usize, NotChanged>
     ensures { IfOk result (λ n.
         StatementForgets (starts_in plan.now) statement.now number n webs.old.items
         webs.new.items) }
@@ -102,7 +102,7 @@ pub fn forget_in_both(
     number: usize,
     first: &[Statement],
     second: &[Statement],
-) -> Result<(), NotRenamed>
+) -> Result<(), NotChanged>
     ensures { OnOk result (webs.new.items
         ≡ without_both (starts_in plan.now) number (form_of first.now) (form_of second.now)
         webs.old.items) }

@@ -3,33 +3,8 @@
 ghost use Rattle.std.specs.Prelude.{◌≡◌, true, Some, IfOk, OnOk, slice_set};
 ghost use Rattle.dae_webs.specs.Current.{has_web, web_of, written_as};
 ghost use Rattle.dae_webs.specs.Planned.{owns_in};
-ghost use Rattle.dae_webs.specs.declared.plan.NotRenamed.TheVariants as errors;
 
-use std::alloc::{AllocError, AllocFailed};
-
-/// Why a function isn't renamed: memory is wanting, or it is kept as it is, since no variable has a second web, or one is read
-/// where no web of it is known.
-#[derive(Clone, Copy, PartialEq, Eq, Debug)]
-pub enum NotRenamed {
-    Memory,
-    Kept,
-}
-
-impl From<AllocError> for NotRenamed {
-    ghost from_gives = { λ _ e. e ≡ errors.Memory };
-
-    fn from(_e: AllocError) -> NotRenamed {
-        NotRenamed::Memory
-    }
-}
-
-impl<T: Drop> From<AllocFailed<T>> for NotRenamed {
-    ghost from_gives = { λ _ e. e ≡ errors.Memory };
-
-    fn from(_e: AllocFailed<T>) -> NotRenamed {
-        NotRenamed::Memory
-    }
-}
+use dae_ir::NotChanged;
 
 /// By the number of a definition, the variable for the web that starts there, if one does. The function has so many variables,
 /// and each further one has an owner: the variable of whose webs it is.
@@ -58,13 +33,13 @@ pub fn web_of(webs: &[Option<u32>], number: usize) -> Option<u32>
 }
 
 /// The current web of a variable.
-pub fn written_as(webs: &[Option<u32>], variable: u32) -> Result<u32, NotRenamed>
+pub fn written_as(webs: &[Option<u32>], variable: u32) -> Result<u32, NotChanged>
     ensures written { IfOk result (λ u. u ≡ written_as webs.now variable) }
     ensures there { IfOk result (λ _. has_web webs.now variable ≡ true) }
 {
     match web_of(webs, variable as usize) {
         Some(web) => Ok(web),
-        None => Err(NotRenamed::Kept),
+        None => Err(NotChanged::Kept),
     }
 }
 
@@ -86,12 +61,12 @@ pub fn start_web(
     webs: &mut Vec<Option<u32>>,
     variable: u32,
     web: u32,
-) -> Result<(), NotRenamed>
+) -> Result<(), NotChanged>
     ensures webs { OnOk result (webs.new.items ≡ slice_set webs.old.items variable (Some web)) }
     ensures owns { OnOk result (owns_in plan.now web variable ≡ true) }
 {
     if variable as usize >= webs.len() || !owns(plan, web, variable) {
-        return Err(NotRenamed::Kept);
+        return Err(NotChanged::Kept);
     }
     webs[variable as usize] = Some(web);
     Ok(())

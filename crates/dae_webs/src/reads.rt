@@ -6,13 +6,13 @@ ghost use Rattle.dae_ir.specs.SetFirst.{AllRead};
 ghost use Rattle.dae_webs.specs.Current.{has_web};
 ghost use Rattle.dae_webs.specs.Renamed.{renamed_check, renamed_operand, renamed_operands, renamed_test, renamed_value};
 
-use crate::plan::{NotRenamed, written_as};
+use crate::plan::written_as;
 use dae_base::Items;
-use dae_ir::{Check, Operand, Test, Value};
+use dae_ir::{Check, NotChanged, Operand, Test, Value};
 use std::alloc::Global;
 
 /// An operand by the current webs.
-pub fn rename_operand(webs: &[Option<u32>], x: Operand) -> Result<Operand, NotRenamed>
+pub fn rename_operand(webs: &[Option<u32>], x: Operand) -> Result<Operand, NotChanged>
     ensures renamed { IfOk result (λ y. y ≡ renamed_operand webs.now x) }
     ensures known { IfOk result (λ _. has (has_web webs.now) x ≡ true) }
 {
@@ -26,7 +26,7 @@ pub fn rename_operand(webs: &[Option<u32>], x: Operand) -> Result<Operand, NotRe
 }
 
 /// A condition by the current webs.
-pub fn rename_test(webs: &[Option<u32>], test: Test) -> Result<Test, NotRenamed>
+pub fn rename_test(webs: &[Option<u32>], test: Test) -> Result<Test, NotChanged>
     ensures renamed { IfOk result (λ t. t ≡ renamed_test webs.now test) }
     ensures known { IfOk result (λ _. has_test (has_web webs.now) test ≡ true) }
 {
@@ -40,7 +40,7 @@ pub fn rename_test(webs: &[Option<u32>], test: Test) -> Result<Test, NotRenamed>
 }
 
 /// What is assigned, by the current webs.
-pub fn rename_value(webs: &[Option<u32>], value: Value) -> Result<Value, NotRenamed>
+pub fn rename_value(webs: &[Option<u32>], value: Value) -> Result<Value, NotChanged>
     ensures renamed { IfOk result (λ y. y ≡ renamed_value webs.now value) }
     ensures known { IfOk result (λ _. has_value (has_web webs.now) value ≡ true) }
 {
@@ -67,7 +67,7 @@ pub fn rename_value(webs: &[Option<u32>], value: Value) -> Result<Value, NotRena
 }
 
 /// A check by the current webs.
-pub fn rename_check(webs: &[Option<u32>], check: Check) -> Result<Check, NotRenamed>
+pub fn rename_check(webs: &[Option<u32>], check: Check) -> Result<Check, NotChanged>
     ensures renamed { IfOk result (λ y. y ≡ renamed_check webs.now check) }
     ensures known { IfOk result (λ _. has_check (has_web webs.now) check ≡ true) }
 {
@@ -95,7 +95,7 @@ pub fn rename_operands(
     alloc: Global,
     webs: &[Option<u32>],
     xs: &[Operand],
-) -> Result<Items<Operand>, NotRenamed>
+) -> Result<Items<Operand>, NotChanged>
     ensures renamed { IfOk result (λ ys. ys ≡ renamed_operands webs.now xs.now) }
     ensures known { IfOk result (λ _. AllRead (has_web webs.now) xs.now) }
 {

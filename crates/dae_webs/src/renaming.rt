@@ -8,13 +8,13 @@ ghost use Rattle.dae_webs.specs.Planned.{ListRenamed, StatementRenamed, current_
 ghost use Rattle.dae_webs.specs.Renamed.{number_after, renamed_item, variable_set, web_set, webs_after, with_web};
 
 use crate::forgetting::forget_in_both;
-use crate::plan::{NotRenamed, Renaming, WebPlan, start_web, web_of, written_as};
+use crate::plan::{Renaming, WebPlan, start_web, web_of, written_as};
 use crate::reads::{rename_check, rename_operand, rename_operands, rename_test, rename_value};
-use dae_ir::{Item, Statement};
+use dae_ir::{Item, NotChanged, Statement};
 use std::alloc::Global;
 
 // A definition of the variable: the web that it sets.
-fn define_web(plan: &WebPlan, renaming: &mut Renaming, variable: u32) -> Result<u32, NotRenamed>
+fn define_web(plan: &WebPlan, renaming: &mut Renaming, variable: u32) -> Result<u32, NotChanged>
     ensures web { IfOk result (λ u. u
         ≡ web_set (starts_in plan.now renaming.old.definitions) (current_in renaming.old)
         variable) }
@@ -31,7 +31,7 @@ fn define_web(plan: &WebPlan, renaming: &mut Renaming, variable: u32) -> Result<
     renaming.definitions = renaming
         .definitions
         .checked_add(1)
-        .ok_or(NotRenamed::Memory)?;
+        .ok_or(NotChanged::Memory)?;
     match started {
         None => written_as(&renaming.webs, variable),
         Some(web) => {
@@ -47,7 +47,7 @@ fn rename_item(
     plan: &WebPlan,
     renaming: &mut Renaming,
     item: &Item,
-) -> Result<Item, NotRenamed>
+) -> Result<Item, NotChanged>
     ensures item { IfOk result (λ new. new
         ≡ renamed_item (starts_in plan.now renaming.old.definitions) (current_in renaming.old)
         item.now) }
@@ -100,7 +100,7 @@ pub fn rename_list(
     plan: &WebPlan,
     renaming: &mut Renaming,
     statements: &[Statement],
-) -> Result<Vec<Statement>, NotRenamed>
+) -> Result<Vec<Statement>, NotChanged>
     ensures { IfOk result (λ new.
         ListRenamed plan.now statements.now renaming.old renaming.new new.items) }
 {
@@ -118,7 +118,7 @@ fn rename_statement(
     plan: &WebPlan,
     renaming: &mut Renaming,
     statement: &Statement,
-) -> Result<Statement, NotRenamed>
+) -> Result<Statement, NotChanged>
     ensures { IfOk result (λ new.
         StatementRenamed plan.now statement.now renaming.old renaming.new new) }
 {

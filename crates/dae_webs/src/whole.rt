@@ -5,10 +5,10 @@ ghost use Rattle.dae_webs.specs.Current.{own_webs};
 ghost use Rattle.dae_webs.specs.Forms.{AreRenamedFunctions, IsRenamedFunction, IsRenamedOrSame, IsRenamingOf, with_body};
 
 use crate::finding::find_webs;
-use crate::plan::{NotRenamed, Renaming, WebPlan};
+use crate::plan::{Renaming, WebPlan};
 use crate::renaming::rename_list;
 use dae_base::Items;
-use dae_ir::{Function, Ir, Statement};
+use dae_ir::{Function, Ir, NotChanged, Statement};
 use std::alloc::{AllocError, Global};
 
 /// The number of variables of a function, and its body.
@@ -19,16 +19,16 @@ struct RenamedBody {
 }
 
 // How many variables a plan makes: at most half as many further ones as there are beyond 9.
-fn variables_with(plan: &WebPlan) -> Result<u32, NotRenamed>
+fn variables_with(plan: &WebPlan) -> Result<u32, NotChanged>
     ensures count { IfOk result (λ n. n ≡ plan.now.variables + length plan.now.owners.items) }
     ensures few { IfOk result (λ n.
         2 * n ≤ 2 * plan.now.variables + (plan.now.variables - 9)) }
 {
-    let more = u32::try_from(plan.owners.len()).map_err(|_| NotRenamed::Kept)?;
+    let more = u32::try_from(plan.owners.len()).map_err(|_| NotChanged::Kept)?;
     if more > plan.variables.saturating_sub(9) / 2 {
-        return Err(NotRenamed::Kept);
+        return Err(NotChanged::Kept);
     }
-    plan.variables.checked_add(more).ok_or(NotRenamed::Kept)
+    plan.variables.checked_add(more).ok_or(NotChanged::Kept)
 }
 
 // Each of so many variables is its own web.
@@ -42,13 +42,13 @@ fn own_webs(alloc: Global, variables: u32) -> Result<Vec<Option<u32>>, AllocErro
     Ok(webs)
 }
 
-fn rename_body(alloc: Global, function: &Function) -> Result<RenamedBody, NotRenamed>
+fn rename_body(alloc: Global, function: &Function) -> Result<RenamedBody, NotChanged>
     ensures { IfOk result (λ r. IsRenamedFunction function.now
         (with_body function.now r.variables r.statements.items)) }
 {
     let plan = find_webs(alloc, function)?;
     if plan.owners.is_empty() {
-        return Err(NotRenamed::Kept);
+        return Err(NotChanged::Kept);
     }
     let variables = variables_with(&plan)?;
     let mut renaming = Renaming {
@@ -73,8 +73,8 @@ fn rename_function(alloc: Global, function: Function) -> Result<Function, AllocE
             frame: function.frame,
             body: Items::from_vec(renamed.statements),
         }),
-        Err(NotRenamed::Memory) => Err(AllocError),
-        Err(NotRenamed::Kept) => Ok(function),
+        Err(NotChanged::Memory) => Err(AllocError),
+        Err(NotChanged::Kept) => Ok(function),
     }
 }
 
