@@ -36,6 +36,7 @@ ValueIn n (Binary operator x y) = IsIn n x × IsIn n y
 ValueIn n (Holds t) = TestIn n t
 ValueIn n (FrameAddress offset) = offset < 2 ^ 32
 
+-- the byte that is checked is as far behind an address as an immediate of an instruction says: less than 2048
 abbrev pub CheckIn : ℕ → ℕ → Check → Type 0
 CheckIn functions n (Place width x) = IsIn n x
 CheckIn functions n (InBounds x offset) = IsIn n x × (offset < 2048)
