@@ -66,7 +66,7 @@ pub fn read_block(
         return Ok(Some(Doing::GaveStatement(whole, StatementKind::Block)));
     }
     machine.push_statement(StatementFrame::InStatements(inside, list))?;
-    Ok(Some(Doing::Stating))
+    Ok(Some(Doing::AtStatement))
 }
 
 /// Before a statement (C90 6.6).
@@ -117,7 +117,7 @@ fn read_statement_word(
         Keyword::Do => {
             machine.rest.skip();
             machine.push_statement(StatementFrame::DoBody(place))?;
-            Ok(Some(Doing::Stating))
+            Ok(Some(Doing::AtStatement))
         }
         Keyword::Case => {
             machine.rest.skip();
@@ -213,7 +213,7 @@ pub fn read_loop_step(
 {
     if machine.rest.take_sign(Sign::RightParen).is_some() {
         machine.push_statement(StatementFrame::ForBody(parts, None))?;
-        return Ok(Some(Doing::Stating));
+        return Ok(Some(Doing::AtStatement));
     }
     machine.push_expression(ExpressionFrame::InStep(parts))?;
     Ok(Some(Doing::Seek(COMMA)))
@@ -229,7 +229,7 @@ pub fn read_default(machine: &mut Machine<'_>, place: Place) -> Result<Option<Do
         return Ok(None);
     }
     machine.push_statement(StatementFrame::DefaultBody(place))?;
-    Ok(Some(Doing::Stating))
+    Ok(Some(Doing::AtStatement))
 }
 
 /// Behind the parenthesis of a `for`.

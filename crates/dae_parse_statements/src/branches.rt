@@ -34,7 +34,7 @@ pub fn then_branch(
 {
     if machine.rest.take_word(Keyword::Else).is_some() {
         machine.push_statement(StatementFrame::ElseBranch(place, paren, test, found))?;
-        return Ok(Some(Doing::Stating));
+        return Ok(Some(Doing::AtStatement));
     }
     let whole = if_statement(machine.alloc, place, paren, test, found)?;
     Ok(Some(Doing::GaveStatement(whole, StatementKind::Other)))

@@ -65,7 +65,7 @@ pub fn in_test(
             })));
         }
     }
-    Ok(Some(Doing::Stating))
+    Ok(Some(Doing::AtStatement))
 }
 
 /// Behind the first expression of a `for` (C90 6.6.5.3).
@@ -131,7 +131,7 @@ pub fn in_step(
         return Ok(None);
     }
     machine.push_statement(StatementFrame::ForBody(parts, Some(step)))?;
-    Ok(Some(Doing::Stating))
+    Ok(Some(Doing::AtStatement))
 }
 
 /// Behind the value of a `return` (C90 6.6.6.4).
@@ -167,5 +167,5 @@ pub fn in_case(
         return Ok(None);
     }
     machine.push_statement(StatementFrame::CaseBody(place, value))?;
-    Ok(Some(Doing::Stating))
+    Ok(Some(Doing::AtStatement))
 }
