@@ -78,10 +78,13 @@ pub fn step(
         Doing::Opening(head) => read_test(machine, head),
         Doing::Finishing(parts) => read_do_end(machine, parts),
         Doing::Looping(word) => read_for(machine, word),
-        Doing::Starting(word, paren) => read_loop_start(machine, word, paren),
-        Doing::Testing(word, paren, start, first) => read_loop_test(
-            machine, word, paren, start, first,
-        ),
+        Doing::Starting { word, paren } => read_loop_start(machine, word, paren),
+        Doing::Testing {
+            word,
+            paren,
+            start,
+            first,
+        } => read_loop_test(machine, word, paren, start, first),
         Doing::Stepping(parts) => read_loop_step(machine, parts),
         Doing::Returning(place) => read_return(machine, place),
         Doing::Breaking(place) => read_break(machine, place),

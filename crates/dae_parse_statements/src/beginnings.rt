@@ -168,7 +168,7 @@ pub fn read_for(machine: &mut Machine<'_>, word: Place) -> Result<Option<Doing>,
     ensures { Steps machine.old result machine.new (step_at (plain.looping word)) }
 {
     match machine.rest.take_sign(Sign::LeftParen) {
-        Some(paren) => Ok(Some(Doing::Starting(word, paren))),
+        Some(paren) => Ok(Some(Doing::Starting { word, paren })),
         None => Ok(None),
     }
 }
@@ -197,7 +197,12 @@ pub fn read_loop_test(
         };
         return Ok(Some(Doing::Stepping(Box::new(machine.alloc, parts)?)));
     }
-    machine.push_expression(ExpressionFrame::InLoopTest(word, paren, start, first))?;
+    machine.push_expression(ExpressionFrame::InLoopTest {
+        word,
+        paren,
+        start,
+        first,
+    })?;
     Ok(Some(Doing::Seek(COMMA)))
 }
 
@@ -243,9 +248,14 @@ pub fn read_loop_start(
     ensures { Steps machine.old result machine.new (started word paren) }
 {
     if let Some(first) = machine.rest.take_sign(Sign::Semicolon) {
-        return Ok(Some(Doing::Testing(word, paren, None, first)));
+        return Ok(Some(Doing::Testing {
+            word,
+            paren,
+            start: None,
+            first,
+        }));
     }
-    machine.push_expression(ExpressionFrame::InStart(word, paren))?;
+    machine.push_expression(ExpressionFrame::InStart { word, paren })?;
     Ok(Some(Doing::Seek(COMMA)))
 }
 
