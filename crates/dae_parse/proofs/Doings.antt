@@ -19,10 +19,10 @@ pub does_gave_declarator : (d : _) (P : plain.Doing → Type 0) (does : plain.Do
 does_gave_declarator d P (plain.gave_declarator e) shows next = next e shows
 does_gave_declarator d P _ shows next = absurd shows
 
-pub does_itemed : (s : _) (is : _) (P : plain.Doing → Type 0) (does : plain.Doing) → ShowsDoing (doing.Itemed s is) does
+pub does_after_item : (s : _) (is : _) (P : plain.Doing → Type 0) (does : plain.Doing) → ShowsDoing (doing.AfterItem s is) does
     → ((ws : _) (i : _) (before : _) → ShowsSpecified s ws → ShowsItems is (i ∷ before) → P (plain.itemed ws i before)) → P does
-does_itemed s is P (plain.itemed ws i before) shows next = next ws i before shows.0 shows.1
-does_itemed s is P _ shows next = absurd shows
+does_after_item s is P (plain.itemed ws i before) shows next = next ws i before shows.0 shows.1
+does_after_item s is P _ shows next = absurd shows
 
 pub does_finishing : (d : DoParts) (P : plain.Doing → Type 0) (does : plain.Doing) → ShowsDoing (doing.Finishing d) does
     → ((c : _) (e : _) → ShowsStatement d.body c → ShowsOperand d.test e → P (plain.finishing d.place c d.word d.paren e)) → P does
@@ -54,10 +54,10 @@ pub does_sizing : (m : _) (d : _) (p : _) (P : plain.Doing → Type 0) (does : p
 does_sizing m d p P (plain.sizing n e q) shows next = rw (← shows.0, ← shows.2) (next e shows.1)
 does_sizing m d p P _ shows next = absurd shows
 
-pub does_parametering : (m : _) (d : _) (p : _) (P : plain.Doing → Type 0) (does : plain.Doing) → ShowsDoing (doing.Parametering m d p) does
+pub does_in_parameters : (m : _) (d : _) (p : _) (P : plain.Doing → Type 0) (does : plain.Doing) → ShowsDoing (doing.InParameters m d p) does
     → ((e : _) → ShowsDeclared d e → P (plain.parametering (manner_of m) e p)) → P does
-does_parametering m d p P (plain.parametering n e q) shows next = rw (← shows.0, ← shows.2) (next e shows.1)
-does_parametering m d p P _ shows next = absurd shows
+does_in_parameters m d p P (plain.parametering n e q) shows next = rw (← shows.0, ← shows.2) (next e shows.1)
+does_in_parameters m d p P _ shows next = absurd shows
 
 pub does_testing : (p : _) (r : _) (a : _) (v : _) (P : plain.Doing → Type 0) (does : plain.Doing) → ShowsDoing (doing.Testing p r a v) does
     → ((e : _) → ShowsOptional a e → P (plain.testing p r e v)) → P does

@@ -74,10 +74,13 @@ pub fn give_expression(machine: &mut Machine<'_>, a: Operand) -> Result<Option<D
         ExpressionFrame::InValue => in_value(machine, a),
         ExpressionFrame::InEvaluation => in_evaluation(machine, a),
         ExpressionFrame::InTest(head, paren) => in_test(machine, a, head, paren),
-        ExpressionFrame::InStart(word, paren) => in_start(machine, a, word, paren),
-        ExpressionFrame::InLoopTest(word, paren, start, first) => {
-            in_loop_test(machine, a, word, paren, start, first)
-        }
+        ExpressionFrame::InStart { word, paren } => in_start(machine, a, word, paren),
+        ExpressionFrame::InLoopTest {
+            word,
+            paren,
+            start,
+            first,
+        } => in_loop_test(machine, a, word, paren, start, first),
         ExpressionFrame::InStep(parts) => in_step(machine, a, parts),
         ExpressionFrame::InReturn(place) => in_return(machine, a, place),
         ExpressionFrame::InCase(place) => in_case(machine, a, place),
@@ -97,9 +100,11 @@ pub fn give_specifiers(
     };
     match frame {
         SpecifiersFrame::ForCast(place, level) => for_cast(machine, specified, place, level),
-        SpecifiersFrame::ForSizeof(place, paren, level) => {
-            for_sizeof(machine, specified, place, paren, level)
-        }
+        SpecifiersFrame::ForSizeof {
+            place,
+            paren,
+            level,
+        } => for_sizeof(machine, specified, place, paren, level),
         SpecifiersFrame::ForParameter(open, list) => for_parameter(machine, specified, open, list),
         SpecifiersFrame::ForMember(body, members) => for_member(machine, specified, body, members),
         SpecifiersFrame::ForDeclaration(function_body) => {
@@ -130,9 +135,12 @@ pub fn give_declarator(
         DeclaratorFrame::OfCast(place, specified, level) => of_cast(
             machine, declared, place, specified, level,
         ),
-        DeclaratorFrame::OfSizeof(place, paren, specified, level) => {
-            of_sizeof(machine, declared, place, paren, specified, level)
-        }
+        DeclaratorFrame::OfSizeof {
+            place,
+            paren,
+            specified,
+            level,
+        } => of_sizeof(machine, declared, place, paren, specified, level),
         DeclaratorFrame::OfParameter(open, list, specified) => {
             of_parameter(machine, declared, open, list, specified)
         }
@@ -208,16 +216,19 @@ pub fn give_statement(
         return Ok(None);
     };
     match frame {
-        StatementFrame::ThenBranch(place, paren, test) => then_branch(
+        StatementFrame::ThenBranch { place, paren, test } => then_branch(
             machine, found, place, paren, test,
         ),
-        StatementFrame::ElseBranch(place, paren, test, then) => {
-            else_branch(machine, found, place, paren, test, then)
-        }
-        StatementFrame::WhileBody(place, paren, test) => while_body(
+        StatementFrame::ElseBranch {
+            place,
+            paren,
+            test,
+            branch,
+        } => else_branch(machine, found, place, paren, test, branch),
+        StatementFrame::WhileBody { place, paren, test } => while_body(
             machine, found, place, paren, test,
         ),
-        StatementFrame::SwitchBody(place, paren, test) => switch_body(
+        StatementFrame::SwitchBody { place, paren, test } => switch_body(
             machine, found, place, paren, test,
         ),
         StatementFrame::DoBody(place) => do_body(machine, found, place),

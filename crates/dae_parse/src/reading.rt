@@ -13,7 +13,7 @@ use crate::run::{Outcome, run};
 use dae_base::{Items, Place};
 use dae_parse_parts::tree_or_depth;
 use dae_parse_states::Before;
-use dae_tree::{File, Header, Includes, Tokens};
+use dae_tree::{File, Tokens};
 use std::alloc::{AllocError, Global};
 
 /// The file of these tokens. A tree of the grammar within the limits is found, unless memory runs out.
@@ -72,11 +72,12 @@ fn whole(alloc: Global, tokens: &Tokens<'_>, before: Before) -> Result<File, Par
     }
     let names = copied(alloc, tokens.names())?;
     let literals = copied(alloc, tokens.literals())?;
-    let includes = Includes {
-        stdio: tokens.includes(Header::Stdio),
-        stdlib: tokens.includes(Header::Stdlib),
-    };
-    Ok(File::new(Items::from_vec(externals), names, literals, includes))
+    Ok(File::new(
+        Items::from_vec(externals),
+        names,
+        literals,
+        tokens.headers(),
+    ))
 }
 
 /// A copy of lists of bytes.

@@ -52,7 +52,7 @@ pub fn step(
         Doing::Tagged(kind, place, name, seen, before) => {
             read_body(machine, kind, place, name, seen, before)
         }
-        Doing::Membering(body, members) => read_member(machine, body, members),
+        Doing::InMembers(body, members) => read_member(machine, body, members),
         Doing::Enumerating(body, list) => read_enumerator(machine, body, list),
         Doing::Enumerated(body, list, name) => read_enumerator_value(machine, body, list, name),
         Doing::Entered(body, list) => read_behind_enumerator(machine, body, list),
@@ -62,26 +62,29 @@ pub fn step(
         Doing::Qualifying(manner, place, list) => read_qualifier(machine, manner, place, list),
         Doing::Suffixing(manner, declared) => read_suffix(machine, manner, declared),
         Doing::Sizing(manner, declared, place) => read_size(machine, manner, declared, place),
-        Doing::Parametering(manner, declared, place) => {
+        Doing::InParameters(manner, declared, place) => {
             read_parameters(machine, manner, declared, place)
         }
         Doing::GaveDeclarator(declared) => give_declarator(machine, declared),
         Doing::Initialising => read_initialiser(machine),
         Doing::Listing(place, list) => read_list(machine, place, list),
         Doing::GaveInitialiser(initialiser) => give_initialiser(machine, initialiser),
-        Doing::Itemed(specified, items) => read_behind_item(machine, specified, items),
+        Doing::AfterItem(specified, items) => read_behind_item(machine, specified, items),
         Doing::GaveDeclaration(found) => give_declaration(machine, found, total),
         Doing::Externals(before) => read_external(machine, before),
         Doing::Declarations(inside) => read_declaration(machine, inside),
         Doing::Statements(inside, list) => read_block(machine, inside, list),
-        Doing::Stating => read_statement(machine),
+        Doing::AtStatement => read_statement(machine),
         Doing::Opening(head) => read_test(machine, head),
         Doing::Finishing(parts) => read_do_end(machine, parts),
         Doing::Looping(word) => read_for(machine, word),
-        Doing::Starting(word, paren) => read_loop_start(machine, word, paren),
-        Doing::Testing(word, paren, start, first) => read_loop_test(
-            machine, word, paren, start, first,
-        ),
+        Doing::Starting { word, paren } => read_loop_start(machine, word, paren),
+        Doing::Testing {
+            word,
+            paren,
+            start,
+            first,
+        } => read_loop_test(machine, word, paren, start, first),
         Doing::Stepping(parts) => read_loop_step(machine, parts),
         Doing::Returning(place) => read_return(machine, place),
         Doing::Breaking(place) => read_break(machine, place),

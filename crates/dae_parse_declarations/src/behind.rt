@@ -168,5 +168,5 @@ pub fn of_member(
         return Ok(None);
     };
     let members = with_member(members, specified, list, end)?;
-    Ok(Some(Doing::Membering(body, members)))
+    Ok(Some(Doing::InMembers(body, members)))
 }

@@ -61,7 +61,7 @@ fn open_body(machine: &Machine<'_>, kind: TagKind, body: Box<Body>) -> Doing
         (body_opened (is_structure_kind kind) b s machine.now.scope.names machine.now.rest) }
 {
     match kind {
-        TagKind::Structure => Doing::Membering(body, no_members(machine.alloc)),
+        TagKind::Structure => Doing::InMembers(body, no_members(machine.alloc)),
         TagKind::Enumeration => Doing::Enumerating(body, no_enumerators(machine.alloc)),
     }
 }

@@ -104,7 +104,7 @@ fn read_behind_inner(
         → Steps machine.old result machine.new (item_given false d ws is) }
 {
     let items = with_plain_item(items, declared)?;
-    Ok(Some(Doing::Itemed(specified, items)))
+    Ok(Some(Doing::AfterItem(specified, items)))
 }
 
 /// Behind a declarator that is not the first, where no value is given.
@@ -120,7 +120,7 @@ fn read_behind_later(
         → Steps machine.old result machine.new (item_given outer d ws is) }
 {
     let items = with_plain_item(items, declared)?;
-    Ok(Some(Doing::Itemed(specified, items)))
+    Ok(Some(Doing::AfterItem(specified, items)))
 }
 
 /// Behind the first declarator at file scope, where no value is given.
@@ -140,7 +140,7 @@ fn read_behind_first(
         return begin_definition(machine, declared, specified, brace);
     }
     let items = with_plain_item(items, declared)?;
-    Ok(Some(Doing::Itemed(specified, items)))
+    Ok(Some(Doing::AfterItem(specified, items)))
 }
 
 /// Behind the brace of a function's body: its parameters are names there, in a scope round that of the body (C90 6.7.1 and 6.1.2.1).
@@ -186,7 +186,7 @@ pub fn of_value(
         machine.old.scope.names machine.old.rest)) }
 {
     let items = with_valued_item(items, declared, place, initialiser)?;
-    Ok(Some(Doing::Itemed(specified, items)))
+    Ok(Some(Doing::AfterItem(specified, items)))
 }
 
 /// Behind an item of a declaration.

@@ -189,7 +189,7 @@ pub fn read_suffix(
         return Ok(Some(Doing::Sizing(manner, declared, place)));
     }
     if let Some(place) = machine.rest.take_sign(Sign::LeftParen) {
-        return Ok(Some(Doing::Parametering(manner, declared, place)));
+        return Ok(Some(Doing::InParameters(manner, declared, place)));
     }
     Ok(Some(Doing::GaveDeclarator(declared)))
 }

@@ -144,7 +144,12 @@ pub fn for_sizeof(
         → Steps machine.old result machine.new
         (specifiers_given ws (plain.for_sizeof place paren level)) }
 {
-    machine.push_declarator(DeclaratorFrame::OfSizeof(place, paren, specified, level))?;
+    machine.push_declarator(DeclaratorFrame::OfSizeof {
+        place,
+        paren,
+        specified,
+        level,
+    })?;
     Ok(Some(Doing::Declaring(Manner::WithoutName, Presence::Optional)))
 }
 

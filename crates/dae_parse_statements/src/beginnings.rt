@@ -66,7 +66,7 @@ pub fn read_block(
         return Ok(Some(Doing::GaveStatement(whole, StatementKind::Block)));
     }
     machine.push_statement(StatementFrame::InStatements(inside, list))?;
-    Ok(Some(Doing::Stating))
+    Ok(Some(Doing::AtStatement))
 }
 
 /// Before a statement (C90 6.6).
@@ -117,7 +117,7 @@ fn read_statement_word(
         Keyword::Do => {
             machine.rest.skip();
             machine.push_statement(StatementFrame::DoBody(place))?;
-            Ok(Some(Doing::Stating))
+            Ok(Some(Doing::AtStatement))
         }
         Keyword::Case => {
             machine.rest.skip();
@@ -168,7 +168,7 @@ pub fn read_for(machine: &mut Machine<'_>, word: Place) -> Result<Option<Doing>,
     ensures { Steps machine.old result machine.new (step_at (plain.looping word)) }
 {
     match machine.rest.take_sign(Sign::LeftParen) {
-        Some(paren) => Ok(Some(Doing::Starting(word, paren))),
+        Some(paren) => Ok(Some(Doing::Starting { word, paren })),
         None => Ok(None),
     }
 }
@@ -197,7 +197,12 @@ pub fn read_loop_test(
         };
         return Ok(Some(Doing::Stepping(Box::new(machine.alloc, parts)?)));
     }
-    machine.push_expression(ExpressionFrame::InLoopTest(word, paren, start, first))?;
+    machine.push_expression(ExpressionFrame::InLoopTest {
+        word,
+        paren,
+        start,
+        first,
+    })?;
     Ok(Some(Doing::Seek(COMMA)))
 }
 
@@ -213,7 +218,7 @@ pub fn read_loop_step(
 {
     if machine.rest.take_sign(Sign::RightParen).is_some() {
         machine.push_statement(StatementFrame::ForBody(parts, None))?;
-        return Ok(Some(Doing::Stating));
+        return Ok(Some(Doing::AtStatement));
     }
     machine.push_expression(ExpressionFrame::InStep(parts))?;
     Ok(Some(Doing::Seek(COMMA)))
@@ -229,7 +234,7 @@ pub fn read_default(machine: &mut Machine<'_>, place: Place) -> Result<Option<Do
         return Ok(None);
     }
     machine.push_statement(StatementFrame::DefaultBody(place))?;
-    Ok(Some(Doing::Stating))
+    Ok(Some(Doing::AtStatement))
 }
 
 /// Behind the parenthesis of a `for`.
@@ -243,9 +248,14 @@ pub fn read_loop_start(
     ensures { Steps machine.old result machine.new (started word paren) }
 {
     if let Some(first) = machine.rest.take_sign(Sign::Semicolon) {
-        return Ok(Some(Doing::Testing(word, paren, None, first)));
+        return Ok(Some(Doing::Testing {
+            word,
+            paren,
+            start: None,
+            first,
+        }));
     }
-    machine.push_expression(ExpressionFrame::InStart(word, paren))?;
+    machine.push_expression(ExpressionFrame::InStart { word, paren })?;
     Ok(Some(Doing::Seek(COMMA)))
 }
 

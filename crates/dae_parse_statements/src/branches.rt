@@ -33,8 +33,13 @@ pub fn then_branch(
         Steps machine.old result machine.new (statement_given b (plain.then_branch place paren e)) }
 {
     if machine.rest.take_word(Keyword::Else).is_some() {
-        machine.push_statement(StatementFrame::ElseBranch(place, paren, test, found))?;
-        return Ok(Some(Doing::Stating));
+        machine.push_statement(StatementFrame::ElseBranch {
+            place,
+            paren,
+            test,
+            branch: found,
+        })?;
+        return Ok(Some(Doing::AtStatement));
     }
     let whole = if_statement(machine.alloc, place, paren, test, found)?;
     Ok(Some(Doing::GaveStatement(whole, StatementKind::Other)))
@@ -104,7 +109,11 @@ pub fn do_body(
     let Some(word) = machine.rest.take_word(Keyword::While) else {
         return Ok(None);
     };
-    Ok(Some(Doing::Opening(Head::Do(place, found, word))))
+    Ok(Some(Doing::Opening(Head::Do {
+        place,
+        body: found,
+        word,
+    })))
 }
 
 /// Behind the body of a `for` (C90 6.6.5.3).

@@ -48,14 +48,22 @@ pub fn in_test(
         return Ok(None);
     }
     match head {
-        Head::If(place) => machine.push_statement(StatementFrame::ThenBranch(place, paren, test))?,
-        Head::While(place) => machine.push_statement(StatementFrame::WhileBody(
-            place, paren, test,
-        ))?,
-        Head::Switch(place) => machine.push_statement(StatementFrame::SwitchBody(
-            place, paren, test,
-        ))?,
-        Head::Do(place, body, word) => {
+        Head::If(place) => machine.push_statement(StatementFrame::ThenBranch {
+            place,
+            paren,
+            test,
+        })?,
+        Head::While(place) => machine.push_statement(StatementFrame::WhileBody {
+            place,
+            paren,
+            test,
+        })?,
+        Head::Switch(place) => machine.push_statement(StatementFrame::SwitchBody {
+            place,
+            paren,
+            test,
+        })?,
+        Head::Do { place, body, word } => {
             return Ok(Some(Doing::Finishing(DoParts {
                 place,
                 body,
@@ -65,7 +73,7 @@ pub fn in_test(
             })));
         }
     }
-    Ok(Some(Doing::Stating))
+    Ok(Some(Doing::AtStatement))
 }
 
 /// Behind the first expression of a `for` (C90 6.6.5.3).
@@ -83,7 +91,12 @@ pub fn in_start(
     let Some(first) = machine.rest.take_sign(Sign::Semicolon) else {
         return Ok(None);
     };
-    Ok(Some(Doing::Testing(word, paren, Some(start), first)))
+    Ok(Some(Doing::Testing {
+        word,
+        paren,
+        start: Some(start),
+        first,
+    }))
 }
 
 /// Behind the second expression of a `for` (C90 6.6.5.3).
@@ -131,7 +144,7 @@ pub fn in_step(
         return Ok(None);
     }
     machine.push_statement(StatementFrame::ForBody(parts, Some(step)))?;
-    Ok(Some(Doing::Stating))
+    Ok(Some(Doing::AtStatement))
 }
 
 /// Behind the value of a `return` (C90 6.6.6.4).
@@ -167,5 +180,5 @@ pub fn in_case(
         return Ok(None);
     }
     machine.push_statement(StatementFrame::CaseBody(place, value))?;
-    Ok(Some(Doing::Stating))
+    Ok(Some(Doing::AtStatement))
 }

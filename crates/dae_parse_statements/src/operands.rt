@@ -110,7 +110,11 @@ pub fn read_sizeof(
     let inner = machine.rest.behind();
     if begins_specifiers(&machine.scope, &inner) {
         if let Some(paren) = machine.rest.take_sign(Sign::LeftParen) {
-            machine.push_specifiers(SpecifiersFrame::ForSizeof(place, paren, level))?;
+            machine.push_specifiers(SpecifiersFrame::ForSizeof {
+                place,
+                paren,
+                level,
+            })?;
             let before = no_specifiers(machine.alloc);
             return Ok(Some(Doing::Specifying(Seen::nothing(), before)));
         }

@@ -58,7 +58,12 @@ pub enum Head {
     If(Place),
     While(Place),
     Switch(Place),
-    Do(Place, Read<Box<Statement>>, Place),
+    /// `word` is the place of `while`.
+    Do {
+        place: Place,
+        body: Read<Box<Statement>>,
+        word: Place,
+    },
 }
 
 /// A block: its brace and its declarations.
@@ -95,8 +100,17 @@ pub enum ExpressionFrame {
     InValue,
     InEvaluation,
     InTest(Head, Place),
-    InStart(Place, Place),
-    InLoopTest(Place, Place, Option<Operand>, Place),
+    InStart {
+        word: Place,
+        paren: Place,
+    },
+    /// `first` is the place of the semicolon before the test.
+    InLoopTest {
+        word: Place,
+        paren: Place,
+        start: Option<Operand>,
+        first: Place,
+    },
     InStep(Box<Loop>),
     InReturn(Place),
     InCase(Place),
@@ -106,7 +120,11 @@ pub enum ExpressionFrame {
 #[derive(Drop)]
 pub enum SpecifiersFrame {
     ForCast(Place, u8),
-    ForSizeof(Place, Place, u8),
+    ForSizeof {
+        place: Place,
+        paren: Place,
+        level: u8,
+    },
     ForParameter(Open, ParameterList),
     ForMember(Box<Body>, Read<Vec<Member>>),
     ForDeclaration(FunctionBody),
@@ -118,7 +136,12 @@ pub enum DeclaratorFrame {
     BehindStar(Place, Vec<Place>),
     InGroup(Place, Manner),
     OfCast(Place, Specified, u8),
-    OfSizeof(Place, Place, Specified, u8),
+    OfSizeof {
+        place: Place,
+        paren: Place,
+        specified: Specified,
+        level: u8,
+    },
     OfParameter(Open, ParameterList, Specified),
     OfMember(Box<Body>, Read<Vec<Member>>, Specified, Read<Vec<Declarator>>),
     OfItem(FunctionBody, Specified, Read<Vec<Item>>),
@@ -141,10 +164,27 @@ pub enum DeclarationFrame {
 /// What awaits a statement.
 #[derive(Drop)]
 pub enum StatementFrame {
-    ThenBranch(Place, Place, Operand),
-    ElseBranch(Place, Place, Operand, Read<Box<Statement>>),
-    WhileBody(Place, Place, Operand),
-    SwitchBody(Place, Place, Operand),
+    ThenBranch {
+        place: Place,
+        paren: Place,
+        test: Operand,
+    },
+    ElseBranch {
+        place: Place,
+        paren: Place,
+        test: Operand,
+        branch: Read<Box<Statement>>,
+    },
+    WhileBody {
+        place: Place,
+        paren: Place,
+        test: Operand,
+    },
+    SwitchBody {
+        place: Place,
+        paren: Place,
+        test: Operand,
+    },
     DoBody(Place),
     ForBody(Box<Loop>, Option<Operand>),
     CaseBody(Place, Operand),
@@ -175,7 +215,7 @@ pub enum Doing {
     Specifying(Seen, Specified),
     Tagging(TagKind, Place, Seen, Specified),
     Tagged(TagKind, Place, Name, Seen, Specified),
-    Membering(Box<Body>, Read<Vec<Member>>),
+    InMembers(Box<Body>, Read<Vec<Member>>),
     Enumerating(Box<Body>, Read<Vec<Enumerator>>),
     Enumerated(Box<Body>, Read<Vec<Enumerator>>, Name),
     Entered(Box<Body>, Read<Vec<Enumerator>>),
@@ -185,22 +225,31 @@ pub enum Doing {
     Qualifying(Manner, Place, Vec<Place>),
     Suffixing(Manner, Declared),
     Sizing(Manner, Declared, Place),
-    Parametering(Manner, Declared, Place),
+    InParameters(Manner, Declared, Place),
     GaveDeclarator(Declared),
     Initialising,
     Listing(Place, Read<Vec<Initialiser>>),
     GaveInitialiser(Read<Initialiser>),
-    Itemed(Specified, Read<Vec<Item>>),
+    AfterItem(Specified, Read<Vec<Item>>),
     GaveDeclaration(Read<Declaration>),
     Externals(Before),
     Declarations(Inside),
     Statements(Inside, Read<Vec<Statement>>),
-    Stating,
+    AtStatement,
     Opening(Head),
     Finishing(DoParts),
     Looping(Place),
-    Starting(Place, Place),
-    Testing(Place, Place, Option<Operand>, Place),
+    Starting {
+        word: Place,
+        paren: Place,
+    },
+    /// `first` is the place of the semicolon before the test.
+    Testing {
+        word: Place,
+        paren: Place,
+        start: Option<Operand>,
+        first: Place,
+    },
     Stepping(Box<Loop>),
     Returning(Place),
     Breaking(Place),

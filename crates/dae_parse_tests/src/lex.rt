@@ -3,7 +3,7 @@
 use dae_base::{Items, Place};
 use dae_lex::tokens;
 use dae_rows::{bytes_of, source_of};
-use dae_tree::{Constant, Header, Keyword, Kind, LexError, Room, Sign, Token, Tokens};
+use dae_tree::{Constant, Keyword, Kind, LexError, Room, Sign, Token, Tokens};
 use std::alloc::{AllocError, Global};
 use std::process::Abort;
 
@@ -182,7 +182,7 @@ fn check_reading(rt: &impl Abort, read: &Tokens) {
     assert!(rt; is_spelled(read, b"\"a\" s \"\\n\""));
     assert!(rt; has_literal(read.literals(), b"ab\n"));
     assert_eq!(rt; read.names().len(), 0);
-    assert!(rt; read.includes(Header::Stdio) && !read.includes(Header::Stdlib));
+    assert!(rt; read.headers().stdio && !read.headers().stdlib);
 }
 
 #[test]

@@ -3,8 +3,6 @@ use Rattle.std.specs.Prelude.{◌≡◌, ℕ, ◌<◌, ◌≤◌, Bool, List, []
 use Rattle.std.specs.List.{IsDistinct, range_with_len}
 use Rattle.std.specs.Str.{bytes_eq}
 use Rattle.dae_base.specs.declared.Place.{Place}
-use Rattle.dae_tree.specs.declared.headers.Header.{Header}
-use Rattle.dae_tree.specs.declared.headers.Header.TheVariants.{Stdio, Stdlib}
 use Rattle.dae_tree.specs.declared.tokens.Kind.{Kind}
 use Rattle.dae_tree.specs.declared.tokens.Kind.TheVariants as kinds
 use Rattle.dae_tree.specs.declared.tokens.Token.{Token}
@@ -18,10 +16,6 @@ pub record Reading : Type 0 where
   pub stdio : Bool
   pub stdlib : Bool
   pub end : Place
-
-abbrev pub is_included : Header → Reading → Bool
-is_included Stdio r = r.stdio
-is_included Stdlib r = r.stdlib
 
 -- a token has at least one byte of the text
 abbrev pub IsSpan : List ℕ → Token → Type 0

@@ -15,8 +15,7 @@ pub struct File {
     externals: Items<External>,
     names: Items<Items<u8>>,
     literals: Items<Items<u8>>,
-    stdio: bool,
-    stdlib: bool,
+    includes: Includes,
 }
 
 impl Model for File {
@@ -32,16 +31,16 @@ impl Model for File {
       externals = f.externals;
       names = f.names;
       literals = f.literals;
-      stdio = f.stdio;
-      stdlib = f.stdlib;
+      stdio = f.includes.stdio;
+      stdlib = f.includes.stdlib;
     } };
 
     ghost invariant = { λ f. IsFile (record {
       externals = f.externals;
       names = f.names;
       literals = f.literals;
-      stdio = f.stdio;
-      stdlib = f.stdlib;
+      stdio = f.includes.stdio;
+      stdlib = f.includes.stdlib;
     }) };
 }
 
@@ -74,8 +73,7 @@ impl File {
             externals,
             names,
             literals,
-            stdio: includes.stdio,
-            stdlib: includes.stdlib,
+            includes,
         }
     }
 
@@ -106,8 +104,8 @@ impl File {
         ensures { result ≡ contents_include header self.now }
     {
         match header {
-            Header::Stdio => self.stdio,
-            Header::Stdlib => self.stdlib,
+            Header::Stdio => self.includes.stdio,
+            Header::Stdlib => self.includes.stdlib,
         }
     }
 }

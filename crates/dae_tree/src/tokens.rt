@@ -3,7 +3,6 @@
 ghost use Rattle.std.specs.Prelude.{◌≡◌, ◌<◌, length, IfSome, slice_get, slice_range};
 
 use crate::constants::Constant;
-use crate::headers::Header;
 use crate::signs::Sign;
 use crate::words::Keyword;
 use dae_base::{Items, Place};
@@ -47,8 +46,7 @@ pub struct Tokens<'t> {
     tokens: Items<Token>,
     names: Items<Items<u8>>,
     literals: Items<Items<u8>>,
-    stdio: bool,
-    stdlib: bool,
+    includes: Includes,
     end: Place,
 }
 
@@ -62,8 +60,8 @@ impl<'t> Model for Tokens<'t> {
       tokens = t.tokens;
       names = t.names;
       literals = t.literals;
-      stdio = t.stdio;
-      stdlib = t.stdlib;
+      stdio = t.includes.stdio;
+      stdlib = t.includes.stdlib;
       end = t.end;
     } };
 
@@ -72,14 +70,14 @@ impl<'t> Model for Tokens<'t> {
       tokens = t.tokens;
       names = t.names;
       literals = t.literals;
-      stdio = t.stdio;
-      stdlib = t.stdlib;
+      stdio = t.includes.stdio;
+      stdlib = t.includes.stdlib;
       end = t.end;
     }) };
 }
 
 impl<'t> Tokens<'t> {
-    ghost use Rattle.dae_tree.specs.Reading.{Reading, IsReading, is_included};
+    ghost use Rattle.dae_tree.specs.Reading.{Reading, IsReading};
 
     /// The tokens of a text, from their parts.
     pub fn new(
@@ -116,8 +114,7 @@ impl<'t> Tokens<'t> {
             tokens,
             names,
             literals,
-            stdio: includes.stdio,
-            stdlib: includes.stdlib,
+            includes,
             end,
         }
     }
@@ -151,14 +148,12 @@ impl<'t> Tokens<'t> {
         self.literals.as_slice()
     }
 
-    /// Whether the text includes a header.
-    pub fn includes(&self, header: Header) -> bool
-        ensures { result ≡ is_included header self.now }
+    /// The headers that the text includes.
+    pub fn headers(&self) -> Includes
+        ensures stdio { result.stdio ≡ self.now.stdio }
+        ensures stdlib { result.stdlib ≡ self.now.stdlib }
     {
-        match header {
-            Header::Stdio => self.stdio,
-            Header::Stdlib => self.stdlib,
-        }
+        self.includes
     }
 
     /// The place where the text ends.

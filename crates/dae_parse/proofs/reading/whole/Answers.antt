@@ -37,13 +37,13 @@ returns-in-Some c =
 pub new-requires : goal.new-requires
 new-requires c =
     let t = c.requires.tree in
-    let w = file_of c.args.tokens.now (record { externals = c.from_vec.result; names = c.in_ok-names.names; literals = c.in_ok-literals.literals; stdio = c.includes.result; stdlib = c.includes-2.result }) c.args.before t.0 t.1 t.2 c.in-Ok.externals c.in-Ok.ensures.tree c.from_vec.ensures c.in-Ok.ensures.shallow (none_of _ c.in_default.not-Some)
-    (c.in_ok-names.ensures ∙ c.names.ensures) (c.in_ok-literals.ensures ∙ c.literals.ensures) c.includes.ensures c.includes-2.ensures in
+    let w = file_of c.args.tokens.now (record { externals = c.from_vec.result; names = c.in_ok-names.names; literals = c.in_ok-literals.literals; stdio = c.headers.result.stdio; stdlib = c.headers.result.stdlib }) c.args.before t.0 t.1 t.2 c.in-Ok.externals c.in-Ok.ensures.tree c.from_vec.ensures c.in-Ok.ensures.shallow (none_of _ c.in_default.not-Some)
+    (c.in_ok-names.ensures ∙ c.names.ensures) (c.in_ok-literals.ensures ∙ c.literals.ensures) c.headers.ensures.stdio c.headers.ensures.stdlib in
     is_file c.args.tokens.now _ c.requires.reading w.tree w.names w.literals
 
 pub returns : goal.returns
 returns c =
     let t = c.requires.tree in
-    let w = file_of c.args.tokens.now (record { externals = c.from_vec.result; names = c.in_ok-names.names; literals = c.in_ok-literals.literals; stdio = c.includes.result; stdlib = c.includes-2.result }) c.args.before t.0 t.1 t.2 c.in-Ok.externals c.in-Ok.ensures.tree c.from_vec.ensures c.in-Ok.ensures.shallow (none_of _ c.in_default.not-Some)
-    (c.in_ok-names.ensures ∙ c.names.ensures) (c.in_ok-literals.ensures ∙ c.literals.ensures) c.includes.ensures c.includes-2.ensures in
+    let w = file_of c.args.tokens.now (record { externals = c.from_vec.result; names = c.in_ok-names.names; literals = c.in_ok-literals.literals; stdio = c.headers.result.stdio; stdlib = c.headers.result.stdlib }) c.args.before t.0 t.1 t.2 c.in-Ok.externals c.in-Ok.ensures.tree c.from_vec.ensures c.in-Ok.ensures.shallow (none_of _ c.in_default.not-Some)
+    (c.in_ok-names.ensures ∙ c.names.ensures) (c.in_ok-literals.ensures ∙ c.literals.ensures) c.headers.ensures.stdio c.headers.ensures.stdlib in
     subst (IsFileOf c.args.tokens.now) (sym c.new.ensures) w

@@ -5,7 +5,7 @@ use Rattle.dae_parse_grammar.specs.Frames as plain
 use Rattle.dae_parse_nodes.specs.Parts.{ShowsOperand, ShowsOptional, ShowsSpecified, ShowsEnumerators, ShowsDeclared, ShowsItems, ShowsStatement, ShowsLoop}
 use Rattle.dae_parse_states.specs.declared.frames.Doing.{Doing}
 use Rattle.dae_parse_states.specs.Frames.{ShowsBefore, ShowsBody, ShowsDoing, is_structure_kind, manner_of}
-use Rattle.dae_parse.proofs.Doings.{does_operated, does_calling, does_tagged, does_enumerated, does_suffixing, does_sizing, does_parametering, does_gave_declarator, does_itemed, does_finishing, does_testing, does_stepping}
+use Rattle.dae_parse.proofs.Doings.{does_operated, does_calling, does_tagged, does_enumerated, does_suffixing, does_sizing, does_in_parameters, does_gave_declarator, does_after_item, does_finishing, does_testing, does_stepping}
 use Rattle.dae_parse.proofs.step.step.Goals as goal
 
 pub returns-in-Enumerated : goal.returns-in-Enumerated
@@ -18,9 +18,9 @@ returns-in-GaveDeclarator c = λ d s shows.
     let i = does_gave_declarator c.in-GaveDeclarator.declared (λ (u : plain.Doing). (e : Declarator) × (u ≡ plain.gave_declarator e) × ShowsDeclared c.in-GaveDeclarator.declared e) d (subst (λ (g : Doing). ShowsDoing g d) c.in-GaveDeclarator.is shows) (λ e x0. (e, refl, x0)) in
     rw i.1 (λ stands holds bottom count. c.give_declarator.ensures i.0 s i.2 stands holds)
 
-pub returns-in-Itemed : goal.returns-in-Itemed
-returns-in-Itemed c = λ d s shows.
-    let i = does_itemed c.in-Itemed.specified c.in-Itemed.items (λ (u : plain.Doing). (ws : Specifiers) × (a : Item) × (is : List Item) × (u ≡ plain.itemed ws a is) × ShowsSpecified c.in-Itemed.specified ws × ShowsItems c.in-Itemed.items (a ∷ is)) d (subst (λ (g : Doing). ShowsDoing g d) c.in-Itemed.is shows) (λ ws a is x0 x1. (ws, a, is, refl, x0, x1)) in
+pub returns-in-AfterItem : goal.returns-in-AfterItem
+returns-in-AfterItem c = λ d s shows.
+    let i = does_after_item c.in-AfterItem.specified c.in-AfterItem.items (λ (u : plain.Doing). (ws : Specifiers) × (a : Item) × (is : List Item) × (u ≡ plain.itemed ws a is) × ShowsSpecified c.in-AfterItem.specified ws × ShowsItems c.in-AfterItem.items (a ∷ is)) d (subst (λ (g : Doing). ShowsDoing g d) c.in-AfterItem.is shows) (λ ws a is x0 x1. (ws, a, is, refl, x0, x1)) in
     rw i.3 (λ stands holds bottom count. c.read_behind_item.ensures i.0 i.1 i.2 i.4 i.5 s stands)
 
 pub returns-in-Finishing : goal.returns-in-Finishing
@@ -54,9 +54,9 @@ returns-in-Sizing c = λ d s shows.
     let i = does_sizing c.in-Sizing.manner c.in-Sizing.declared c.in-Sizing.place (λ (u : plain.Doing). (e : Declarator) × (u ≡ plain.sizing (manner_of c.in-Sizing.manner) e c.in-Sizing.place) × ShowsDeclared c.in-Sizing.declared e) d (subst (λ (g : Doing). ShowsDoing g d) c.in-Sizing.is shows) (λ e x0. (e, refl, x0)) in
     rw i.1 (λ stands holds bottom count. c.read_size.ensures i.0 i.2 s stands)
 
-pub returns-in-Parametering : goal.returns-in-Parametering
-returns-in-Parametering c = λ d s shows.
-    let i = does_parametering c.in-Parametering.manner c.in-Parametering.declared c.in-Parametering.place (λ (u : plain.Doing). (e : Declarator) × (u ≡ plain.parametering (manner_of c.in-Parametering.manner) e c.in-Parametering.place) × ShowsDeclared c.in-Parametering.declared e) d (subst (λ (g : Doing). ShowsDoing g d) c.in-Parametering.is shows) (λ e x0. (e, refl, x0)) in
+pub returns-in-InParameters : goal.returns-in-InParameters
+returns-in-InParameters c = λ d s shows.
+    let i = does_in_parameters c.in-InParameters.manner c.in-InParameters.declared c.in-InParameters.place (λ (u : plain.Doing). (e : Declarator) × (u ≡ plain.parametering (manner_of c.in-InParameters.manner) e c.in-InParameters.place) × ShowsDeclared c.in-InParameters.declared e) d (subst (λ (g : Doing). ShowsDoing g d) c.in-InParameters.is shows) (λ e x0. (e, refl, x0)) in
     rw i.1 (λ stands holds bottom count. c.read_parameters.ensures i.0 i.2 s stands)
 
 pub returns-in-Testing : goal.returns-in-Testing
