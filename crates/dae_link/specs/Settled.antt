@@ -47,11 +47,11 @@ own_homes f homes = if is_leaf (actions_of f.body) then map mirrored_home homes 
 
 -- the homes are right, a variable that is live anywhere in the function has one of them, and each has a register where around no place
 -- more than 18 are live
-pub record AreHomesOf (f : StreamFunction) (homes : List Home) : Type 0 where
-  pub homes : (variables : ℕ) → AreHomes variables (function_lives f.parameters (actions_of f.body)) (home_in homes)
-  pub inside : AllByRecursion (AreBelow (length homes)) (function_lives f.parameters (actions_of f.body))
-  pub least : (n : ℕ) → AllByRecursion (AreBelow n) (function_lives f.parameters (actions_of f.body)) → length homes ≤ n
-  pub registers : AreFew 18 (function_lives f.parameters (actions_of f.body)) → (v : ℕ) → IsRegister (home_in homes v)
+pub record AreHomesOf (f : StreamFunction) (all : List Home) : Type 0 where
+  pub homes : (variables : ℕ) → AreHomes variables (function_lives f.parameters (actions_of f.body)) (home_in all)
+  pub inside : AllByRecursion (AreBelow (length all)) (function_lives f.parameters (actions_of f.body))
+  pub least : (n : ℕ) → AllByRecursion (AreBelow n) (function_lives f.parameters (actions_of f.body)) → length all ≤ n
+  pub registers : AreFew 18 (function_lives f.parameters (actions_of f.body)) → (v : ℕ) → IsRegister (home_in all v)
 
 -- ---- layouts
 

@@ -1,5 +1,6 @@
-use Rattle.std.proofs.Common.{length, refl, ap, arith}
+use Rattle.std.proofs.Common.{length, refl, ap, sym, ◌∙◌, arith}
 use Rattle.std.proofs.lemmas.Option.{slice_get_read}
+use Rattle.dae_ir.specs.declared.stream.StreamFunction.{StreamFunction}
 use Rattle.dae_link.proofs.Codes.{none_kept, one_kept, one_longer}
 use Rattle.dae_link.proofs.leaf_codes.leaf_codes_of.Goals as goal
 
@@ -16,7 +17,7 @@ loop-index-preserved c =
     record {
       codes = one_longer before new kept l.index l.invariant.codes c.in_ok-push.ensures.items;
       kept = one_kept c.args.layouts.now fs before new l.index kept f c.as_slice-body.result.now l.invariant.codes
-          (slice_get_read fs (length fs) l.index f refl c.loop-index-test.true c.index-functions-index.is) c.as_slice-body.ensures c.in_ok-kept.ensures c.in_ok-push.ensures.items l.invariant.kept;
+          (slice_get_read fs (length fs) l.index f refl c.loop-index-test.true c.index-functions-index.is) (c.as_slice-body.ensures ∙ ap (λ (g : StreamFunction). g.body) (sym c.index-functions-index.is)) c.in_ok-kept.ensures c.in_ok-push.ensures.items l.invariant.kept;
     }
 
 pub returns-clause-codes : goal.returns-clause-codes

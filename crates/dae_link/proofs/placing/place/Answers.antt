@@ -1,5 +1,6 @@
-use Rattle.std.proofs.Common.{◌<◌, length, refl, arith}
+use Rattle.std.proofs.Common.{◌<◌, length, refl, ap, sym, ◌∙◌, arith}
 use Rattle.std.proofs.lemmas.Option.{slice_get_read}
+use Rattle.dae_ir.specs.declared.stream.StreamFunction.{StreamFunction}
 use Rattle.dae_link.proofs.Codes.{kept_there}
 use Rattle.dae_link.proofs.placing.place.Goals as goal
 
@@ -10,4 +11,4 @@ code_of_function-requires-clause-kept c =
     let count = c.requires.codes in let before = c.loop-index-test.true in
     let inside : i < length codes = omega (arith, before, count) in
     kept_there c.args.layouts.now fs codes i f kept c.as_slice-body.result.now c.requires.kept
-    (slice_get_read fs (length fs) i f refl c.loop-index-test.true c.index-functions-index.is) (slice_get_read codes (length codes) i kept refl inside c.index-leaf_codes-index.is) c.as_slice-body.ensures
+    (slice_get_read fs (length fs) i f refl c.loop-index-test.true c.index-functions-index.is) (slice_get_read codes (length codes) i kept refl inside c.index-leaf_codes-index.is) (c.as_slice-body.ensures ∙ ap (λ (g : StreamFunction). g.body) (sym c.index-functions-index.is))
