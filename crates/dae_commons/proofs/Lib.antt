@@ -1,4 +1,5 @@
 pub mod Values
+mod Words
 pub mod Lists
 pub mod Sparing
 pub mod Truth

@@ -68,6 +68,22 @@ propagated_check c q Abort = Abort
 
 -- ---- what is computed
 
+-- the number of a variable, or the number that stands there
+abbrev pub operand_word : Operand → ℕ
+operand_word (Variable v) = v
+operand_word (Number k) = k
+
+-- the word that stands last in a value
+abbrev pub last_word : Value → ℕ
+last_word (Same x) = operand_word x
+last_word (Extended kind x) = operand_word x
+last_word (Binary operator x y) = operand_word y
+last_word (Holds t) = operand_word t.right
+last_word (FrameAddress offset) = offset
+
+abbrev pub are_same : Value → Value → Bool
+are_same x y = of_values.eq x y
+
 -- another variable than v holds the value, which v is to get
 abbrev pub holds_already : Classes → ℕ → Value → Equation → Bool
 holds_already c v x e =

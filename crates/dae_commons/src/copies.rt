@@ -1,6 +1,6 @@
 // What is read and what is computed, by the equations that are known.
 
-ghost use Rattle.std.specs.Prelude.{◌≡◌, IfOk};
+ghost use Rattle.std.specs.Prelude.{◌≡◌, nat_eq, IfOk};
 ghost use Rattle.dae_ir.specs.Classes.{classes_in};
 ghost use Rattle.dae_commons.specs.Copies as spec;
 
@@ -109,10 +109,50 @@ pub fn propagate_operands(
     Ok(Items::from_vec(ys))
 }
 
+fn operand_word(x: Operand) -> u32
+    ensures { result ≡ spec.operand_word x }
+{
+    match x {
+        Operand::Variable(variable) => variable,
+        Operand::Number(number) => number,
+    }
+}
+
+/// The word that stands last in a value.
+fn last_word(value: Value) -> u32
+    ensures { result ≡ spec.last_word value }
+{
+    match value {
+        Value::Same(x) => operand_word(x),
+        Value::Extended(_, x) => operand_word(x),
+        Value::Binary(_, _, x) => operand_word(x),
+        Value::Holds(test) => operand_word(test.right),
+        Value::FrameAddress(offset) => offset,
+    }
+}
+
+/// Whether two values may be the same, by the words that stand last in them.
+fn may_be_same(one: Value, other: Value) -> bool
+    ensures { result ≡ nat_eq (spec.last_word one) (spec.last_word other) }
+{
+    last_word(one) == last_word(other)
+}
+
+/// Whether two values are the same. Most that aren't have other words last, so that one look tells them apart.
+fn are_same(one: Value, other: Value) -> bool
+    ensures { result ≡ spec.are_same one other }
+{
+    if may_be_same(one, other) {
+        one == other
+    } else {
+        false
+    }
+}
+
 fn holds_already(row: &[Class], variable: u32, value: Value, equation: Equation) -> bool
     ensures { result ≡ spec.holds_already (classes_in row.now) variable value equation }
 {
-    equation.value == value
+    are_same(equation.value, value)
         && equation.variable != variable
         && are_alike(row, equation.variable, variable)
 }

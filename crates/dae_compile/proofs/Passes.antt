@@ -1,5 +1,5 @@
 -- What passes from form to form keep, one behind another. Each pass has its link here, by its law, from a form to one behind it.
-use Rattle.std.proofs.Common.{◌≡◌, ℕ, zero, suc, ◌^◌, ◌≤◌, List, [], ◌∷◌, length, Some, None, refl, ap, sym, ◌∙◌, subst, arith}
+use Rattle.std.proofs.Common.{◌≡◌, ℕ, zero, suc, ◌^◌, ◌≤◌, List, [], ◌∷◌, length, Some, None, inl, inr, refl, ap, sym, ◌∙◌, subst, arith}
 use Rattle.std.specs.Prelude.{slice_get}
 use Rattle.std.specs.List.{AllByRecursion}
 use Rattle.dae_meaning.specs.Alike.{Alike, Same, BothAt, BothOver}
@@ -27,7 +27,7 @@ use Rattle.dae_threads.specs.Forms.{AreThreadedFunctions, IsThreadingOf, HasNoMo
 use Rattle.dae_threads.proofs.Items.{no_more, items_then}
 use Rattle.dae_webs.specs.Forms.{AreRenamedFunctions, FormsAreRenamed, IsRenamingOf, HaveSameResult}
 use Rattle.dae_compile_promise.specs.Promises.{KeepsLowered, IsLaterForm}
-use Rattle.dae_compile.specs.Passes.{HasSumsAtAccesses, IsWithoutCommons}
+use Rattle.dae_compile.specs.Passes.{HasSumsAtAccesses, IsCommonedAgain, IsWithoutCommons}
 
 -- ---- ends
 
@@ -255,8 +255,8 @@ summed_access tables ir new least keeps of closed =
           ));
     }
 
-pub summed_behind : FormsAreCommoned → (ir new : Ir) → IsScoped ir → HasSumsAtAccesses ir new → IsBehind ir new
-summed_behind law ir new scoped is =
+commoned_again : FormsAreCommoned → (ir new : Ir) → IsScoped ir → IsCommonedAgain ir new → IsBehind ir new
+commoned_again law ir new scoped is =
     let made = is.commoning in
     let keeps = law is.tables ir new made in
     record {
@@ -269,6 +269,30 @@ summed_behind law ir new scoped is =
       first = keeps.first;
       access = summed_access is.tables ir new is.least keeps;
     }
+
+behind_itself : (ir : Ir) → IsScoped ir → IsBehind ir ir
+behind_itself ir scoped =
+    record {
+      memory = refl;
+      frames = refl;
+      calls = refl;
+      there = λ k f at. (f, at);
+      meaning = λ n words size. ends_itself (outcome ir n words);
+      scoped = scoped;
+      first = λ h. h;
+      access = λ of closed. record {
+        sets = of;
+        closed = closed;
+        most = λ k f g at at'. (let same : f ≡ g = cc in (
+          at_most _ _ (ap (λ (x : Function). own_loads (of k) (form_of x.body)) (sym same)),
+          at_most _ _ (ap (λ (x : Function). conditions_a (of k) (form_of x.body)) (sym same)),
+        ));
+      };
+    }
+
+pub summed_behind : FormsAreCommoned → (ir new : Ir) → IsScoped ir → HasSumsAtAccesses ir new → IsBehind ir new
+summed_behind law ir new scoped (inl again) = commoned_again law ir new scoped again
+summed_behind law ir new scoped (inr same) = subst (λ (z : Ir). IsBehind ir z) (sym same) (behind_itself ir scoped)
 
 -- ---- with conditions threaded
 

@@ -280,6 +280,12 @@ threaded_prepared sizes (f ∷ fs) (g ∷ gs) (h ∷ hs) made is =
     let one = is.0 in
     (prepared_by f g h made.0 (threaded_weighs sizes g h one) one.variables, threaded_prepared sizes fs gs hs made.1 is.1)
 
+-- ---- with sums computed where accesses add them up
+
+summed_prepared : CommoningKeepsCounts → (fs : List Function) (bare near : Ir) → ArePrepared fs bare.functions → HasSumsAtAccesses bare near → ArePrepared fs near.functions
+summed_prepared commons fs bare near made (inl again) = commoned_prepared commons again.tables fs bare.functions near.functions made again.commoning.functions
+summed_prepared commons fs bare near made (inr same) = subst (λ (z : Ir). ArePrepared fs z.functions) (sym same) made
+
 -- ---- all passes before loads are reused
 
 pub passes_prepared : (lowered named common bare near threaded : Ir) → RenamingKeepsSizes → HoistingKeepsSizes → CommoningKeepsCounts → ElisionKeepsSizes → ThreadingAddsNothing
@@ -288,12 +294,11 @@ passes_prepared lowered named common bare near threaded webs hoists commons chec
     let mid = without.hoisted in
     let hoist = without.hoist in
     let made = without.commoning in
-    let last = summed.commoning in
     let one = renamed_prepared webs lowered.functions named.functions renamed.functions in
     let two = hoisted_prepared hoists without.tables without.rows lowered.functions named.functions mid.functions one hoist.functions in
     let three = commoned_prepared commons without.rows lowered.functions mid.functions common.functions two made.functions in
     let four = elided_prepared checks common.memory lowered.functions common.functions bare.functions three elided.functions in
-    let five = commoned_prepared commons summed.tables lowered.functions bare.functions near.functions four last.functions in
+    let five = summed_prepared commons lowered.functions bare near four summed in
     threaded_prepared threads lowered.functions near.functions threaded.functions five is.functions
 
 -- ---- loads reused

@@ -1,5 +1,5 @@
 -- Forms that passes make by the least classes of the form before.
-use Rattle.std.specs.Prelude.{List}
+use Rattle.std.specs.Prelude.{◌≡◌, ◌⊎◌, List}
 use Rattle.dae_ir.specs.Programs.{AreClassesOf}
 use Rattle.dae_ir.specs.declared.form.Ir.{Ir}
 use Rattle.dae_ir.specs.declared.stream.Class.{Class}
@@ -15,8 +15,12 @@ pub record IsWithoutCommons (ir new : Ir) : Type 0 where
   pub hoist : IsHoistOf tables rows ir hoisted
   pub commoning : IsCommoningOf rows hoisted new
 
--- New is the form with sums computed where accesses add them up, and without the common subexpressions that this makes.
-pub record HasSumsAtAccesses (ir new : Ir) : Type 0 where
+-- New is the form without its common subexpressions once more.
+pub record IsCommonedAgain (ir new : Ir) : Type 0 where
   pub tables : List (List Class)
   pub least : AreClassesOf ir tables
   pub commoning : IsCommoningOf tables ir new
+
+-- New is the form with sums computed where accesses add them up, and without the common subexpressions that this makes; or it is the form.
+abbrev pub HasSumsAtAccesses : (ir new : Ir) → Type 0
+HasSumsAtAccesses ir new = IsCommonedAgain ir new ⊎ (new ≡ ir)

@@ -12,5 +12,6 @@ pub use programs::compile_program;
 
 mod compiling;
 mod generating;
+mod occasions;
 mod passing;
 mod programs;

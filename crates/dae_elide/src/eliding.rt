@@ -164,7 +164,7 @@ pub fn elide_list(
     ensures { IfOk result (λ new. form_of new.items
         ≡ elided memory (chosen_by classes.now) (facts_by known) (form_of statements.now)) }
 {
-    let mut new = Vec::new(alloc);
+    let mut new = Vec::with_capacity(alloc, statements.len())?;
     let mut known = known;
     for index in 0..statements.len() {
         let statement = &statements[index];

@@ -71,7 +71,7 @@ pub fn steps_like(alloc: Global, statements: &[Statement]) -> Result<Vec<Step>, 
     ensures { IfOk result (λ steps.
         actions_of steps.items ≡ as_actions (form_of statements.now)) }
 {
-    let mut steps = Vec::new(alloc);
+    let mut steps = Vec::with_capacity(alloc, statements.len())?;
     for statement in statements {
         let step = step_like(alloc, statement)?;
         steps.push(step)?;

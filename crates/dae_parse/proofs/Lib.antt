@@ -5,3 +5,4 @@ mod Popped
 mod Doings
 mod Files
 mod Stuck
+mod Seldom

@@ -1,5 +1,5 @@
-// One step of the machine, by what it does. What is done seldom stays in functions of its own (`inline(never)`), so that a step sets up
-// no more than what is done often needs.
+// One step of the machine, by what it does. What is done seldom stays in functions of its own (`inline(never)`), and so does the choice
+// among it, so that a step sets up no more than what is done often needs.
 
 ghost use Rattle.std.specs.Prelude.{◌≡◌, List, length, IfOk};
 ghost use Rattle.dae_parse_grammar.specs.Frames as plain;
@@ -10,6 +10,7 @@ ghost use Rattle.dae_parse_grammar.specs.Taken.{tokens_of};
 ghost use Rattle.dae_parse_states.specs.Bottom.{IsBottom};
 ghost use Rattle.dae_parse_states.specs.Frames.{ShowsDoing};
 ghost use Rattle.dae_parse_states.specs.States.{Stands, Follows, outside_stack, outside_doing};
+ghost use Rattle.dae_parse.specs.Seldom.{IsSeldom};
 
 use crate::given::{
     give_declaration, give_declarator, give_expression, give_initialiser, give_specifiers,
@@ -28,7 +29,53 @@ use dae_parse_statements::{
 use dae_parse_states::{Doing, Machine};
 use std::alloc::AllocError;
 
+/// One step of the machine, where it does what is done seldom.
+#[inline(never)]
+#[tactic(auto, using(crate::proofs::Seldom::none_left))]
+fn step_seldom(machine: &mut Machine<'_>, doing: Doing) -> Result<Option<Doing>, AllocError>
+    requires { IsSeldom doing }
+    ensures { (d : plain.Doing) (s : List PlainFrame) → ShowsDoing doing d
+        → Stands machine.old s (outside_doing d (outside_stack s))
+        → IfOk result (λ r. Follows r machine.new
+        (step_at d s machine.old.scope.names machine.old.rest)) }
+{
+    match doing {
+        Doing::Measuring(place, level) => read_sizeof(machine, place, level),
+        Doing::Tagging(kind, place, seen, before) => read_tag(machine, kind, place, seen, before),
+        Doing::Tagged(kind, place, name, seen, before) => {
+            read_body(machine, kind, place, name, seen, before)
+        }
+        Doing::InMembers(body, members) => read_member(machine, body, members),
+        Doing::Enumerating(body, list) => read_enumerator(machine, body, list),
+        Doing::Enumerated(body, list, name) => read_enumerator_value(machine, body, list, name),
+        Doing::Entered(body, list) => read_behind_enumerator(machine, body, list),
+        Doing::Entering(body, list) => read_behind_comma(machine, body, list),
+        Doing::Qualifying(manner, place, list) => read_qualifier(machine, manner, place, list),
+        Doing::Sizing(manner, declared, place) => read_size(machine, manner, declared, place),
+        Doing::InParameters(manner, declared, place) => {
+            read_parameters(machine, manner, declared, place)
+        }
+        Doing::Opening(head) => read_test(machine, head),
+        Doing::Finishing(parts) => read_do_end(machine, parts),
+        Doing::Looping(word) => read_for(machine, word),
+        Doing::Starting { word, paren } => read_loop_start(machine, word, paren),
+        Doing::Testing {
+            word,
+            paren,
+            start,
+            first,
+        } => read_loop_test(machine, word, paren, start, first),
+        Doing::Stepping(parts) => read_loop_step(machine, parts),
+        Doing::Returning(place) => read_return(machine, place),
+        Doing::Breaking(place) => read_break(machine, place),
+        Doing::Continuing(place) => read_continue(machine, place),
+        Doing::Defaulting(place) => read_default(machine, place),
+        _ => unreachable!(),
+    }
+}
+
 /// One step of the machine, in a file of so many tokens: what it does next, or none where the tokens go no further.
+#[tactic(auto, using(crate::proofs::Seldom::seldom_left))]
 pub fn step(
     machine: &mut Machine<'_>,
     doing: Doing,
@@ -46,25 +93,10 @@ pub fn step(
         Doing::Operated(operand, level) => read_operator(machine, operand, level),
         Doing::Gave(operand) => give_expression(machine, operand),
         Doing::Calling(callee, place, level) => read_call(machine, callee, place, level),
-        Doing::Measuring(place, level) => read_sizeof(machine, place, level),
         Doing::Specifying(seen, before) => read_specifier(machine, seen, before),
-        Doing::Tagging(kind, place, seen, before) => read_tag(machine, kind, place, seen, before),
-        Doing::Tagged(kind, place, name, seen, before) => {
-            read_body(machine, kind, place, name, seen, before)
-        }
-        Doing::InMembers(body, members) => read_member(machine, body, members),
-        Doing::Enumerating(body, list) => read_enumerator(machine, body, list),
-        Doing::Enumerated(body, list, name) => read_enumerator_value(machine, body, list, name),
-        Doing::Entered(body, list) => read_behind_enumerator(machine, body, list),
-        Doing::Entering(body, list) => read_behind_comma(machine, body, list),
         Doing::GaveSpecifiers(specified) => give_specifiers(machine, specified),
         Doing::Declaring(manner, presence) => read_declarator(machine, manner, presence),
-        Doing::Qualifying(manner, place, list) => read_qualifier(machine, manner, place, list),
         Doing::Suffixing(manner, declared) => read_suffix(machine, manner, declared),
-        Doing::Sizing(manner, declared, place) => read_size(machine, manner, declared, place),
-        Doing::InParameters(manner, declared, place) => {
-            read_parameters(machine, manner, declared, place)
-        }
         Doing::GaveDeclarator(declared) => give_declarator(machine, declared),
         Doing::Initialising => read_initialiser(machine),
         Doing::Listing(place, list) => read_list(machine, place, list),
@@ -75,21 +107,7 @@ pub fn step(
         Doing::Declarations(inside) => read_declaration(machine, inside),
         Doing::Statements(inside, list) => read_block(machine, inside, list),
         Doing::AtStatement => read_statement(machine),
-        Doing::Opening(head) => read_test(machine, head),
-        Doing::Finishing(parts) => read_do_end(machine, parts),
-        Doing::Looping(word) => read_for(machine, word),
-        Doing::Starting { word, paren } => read_loop_start(machine, word, paren),
-        Doing::Testing {
-            word,
-            paren,
-            start,
-            first,
-        } => read_loop_test(machine, word, paren, start, first),
-        Doing::Stepping(parts) => read_loop_step(machine, parts),
-        Doing::Returning(place) => read_return(machine, place),
-        Doing::Breaking(place) => read_break(machine, place),
-        Doing::Continuing(place) => read_continue(machine, place),
-        Doing::Defaulting(place) => read_default(machine, place),
         Doing::GaveStatement(found, kind) => give_statement(machine, found, kind, total),
+        other => step_seldom(machine, other),
     }
 }

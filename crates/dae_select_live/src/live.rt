@@ -41,8 +41,8 @@ fn live_after_action(
         ≡ after action.now (member next) (ways n (member leaves.now) (member skips.now))) }
 {
     match action {
-        Action::Break => leaves.copy(alloc),
-        Action::Continue => skips.copy(alloc),
+        Action::Break => next.refill(leaves),
+        Action::Continue => next.refill(skips),
         Action::Stop(_) | Action::Return(_) => Ok(LiveSet::new(alloc)),
         _ => Ok(next),
     }

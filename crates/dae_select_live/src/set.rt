@@ -44,6 +44,17 @@ impl LiveSet {
         Ok(LiveSet { variables })
     }
 
+    /// A set with the same variables as another one, in the memory of this one.
+    pub fn refill(self, other: &LiveSet) -> Result<LiveSet, AllocError>
+        ensures { IfOk result (λ set. set ≡ other.now) }
+    {
+        let LiveSet { variables } = self;
+        let mut variables = variables;
+        variables.clear();
+        variables.extend_from_slice(other.variables.as_slice())?;
+        Ok(LiveSet { variables })
+    }
+
     /// The variables in rising order.
     pub fn variables(&self) -> &[u32]
         ensures { result.now ≡ self.now }

@@ -114,7 +114,7 @@ pub fn flatten_list(alloc: Global, statements: &[Statement]) -> Result<Vec<State
     ensures { IfOk result (λ new.
         IsThreaded (form_of statements.now) (form_of new.items)) }
 {
-    let mut out = Vec::new(alloc);
+    let mut out = Vec::with_capacity(alloc, statements.len())?;
     for statement in statements {
         flatten_statement(alloc, statement, &mut out)?;
     }

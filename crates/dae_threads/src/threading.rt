@@ -97,7 +97,7 @@ pub fn thread_list(alloc: Global, statements: &[Statement]) -> Result<Vec<Statem
     ensures { IfOk result (λ new.
         IsThreaded (form_of statements.now) (form_of new.items)) }
 {
-    let mut out = Vec::new(alloc);
+    let mut out = Vec::with_capacity(alloc, statements.len())?;
     for statement in statements {
         let next = thread_statement(alloc, statement)?;
         push_next(alloc, &mut out, next)?;

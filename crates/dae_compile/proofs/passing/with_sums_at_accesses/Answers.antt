@@ -1,11 +1,9 @@
-use Rattle.std.proofs.Common.{List, subst}
-use Rattle.dae_ir.specs.declared.stream.Class.{Class}
-use Rattle.dae_commons.specs.Forms.{IsCommoningOf}
+use Rattle.std.proofs.Common.{inl, inr, refl}
+use Rattle.std.proofs.lemmas.Result.{IfOk-weaker}
 use Rattle.dae_compile.proofs.passing.with_sums_at_accesses.Goals as goal
 
-pub returns : goal.returns
-returns c = record {
-  tables = c.in_ok-tables.tables;
-  least = c.in_ok-tables.ensures.least;
-  commoning = subst (λ (t : List (List Class)). IsCommoningOf t c.args.ir c.in_ok-new.new) c.as_slice.ensures c.in_ok-new.ensures;
-}
+pub returns-then-form_gives : goal.returns-then-form_gives
+returns-then-form_gives c = IfOk-weaker c.common_again.result _ _ (λ new again. inl again) c.common_again.ensures
+
+pub returns-else-form_gives : goal.returns-else-form_gives
+returns-else-form_gives c = inr refl

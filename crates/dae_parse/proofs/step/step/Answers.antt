@@ -1,17 +1,11 @@
-use Rattle.std.proofs.Common.{◌≡◌, List, ◌∷◌, Option, refl, subst}
-use Rattle.dae_tree.specs.Trees.{Expression, Specifier, Specifiers, Declarator, Item, Statement}
-use Rattle.dae_tree.specs.Lists as lists
+use Rattle.std.proofs.Common.{◌≡◌, List, ◌∷◌, refl, subst}
+use Rattle.dae_tree.specs.Trees.{Expression, Specifiers, Declarator, Item}
 use Rattle.dae_parse_grammar.specs.Frames as plain
-use Rattle.dae_parse_nodes.specs.Parts.{ShowsOperand, ShowsOptional, ShowsSpecified, ShowsEnumerators, ShowsDeclared, ShowsItems, ShowsStatement, ShowsLoop}
+use Rattle.dae_parse_nodes.specs.Parts.{ShowsOperand, ShowsSpecified, ShowsDeclared, ShowsItems}
 use Rattle.dae_parse_states.specs.declared.frames.Doing.{Doing}
-use Rattle.dae_parse_states.specs.Frames.{ShowsBefore, ShowsBody, ShowsDoing, is_structure_kind, manner_of}
-use Rattle.dae_parse.proofs.Doings.{does_operated, does_calling, does_tagged, does_enumerated, does_suffixing, does_sizing, does_in_parameters, does_gave_declarator, does_after_item, does_finishing, does_testing, does_stepping}
+use Rattle.dae_parse_states.specs.Frames.{ShowsDoing, manner_of}
+use Rattle.dae_parse.proofs.Doings.{does_operated, does_calling, does_suffixing, does_gave_declarator, does_after_item}
 use Rattle.dae_parse.proofs.step.step.Goals as goal
-
-pub returns-in-Enumerated : goal.returns-in-Enumerated
-returns-in-Enumerated c = λ d s shows.
-    let i = does_enumerated c.in-Enumerated.body c.in-Enumerated.list c.in-Enumerated.name (λ (u : plain.Doing). (a : plain.Body) × (es : List lists.Entry) × (u ≡ plain.enumerated a es c.in-Enumerated.name) × ShowsBody c.in-Enumerated.body a × ShowsEnumerators c.in-Enumerated.list es) d (subst (λ (g : Doing). ShowsDoing g d) c.in-Enumerated.is shows) (λ a es x0 x1. (a, es, refl, x0, x1)) in
-    rw i.2 (λ stands holds bottom count. c.read_enumerator_value.ensures i.0 i.1 i.3 i.4 s stands)
 
 pub returns-in-GaveDeclarator : goal.returns-in-GaveDeclarator
 returns-in-GaveDeclarator c = λ d s shows.
@@ -23,12 +17,6 @@ returns-in-AfterItem c = λ d s shows.
     let i = does_after_item c.in-AfterItem.specified c.in-AfterItem.items (λ (u : plain.Doing). (ws : Specifiers) × (a : Item) × (is : List Item) × (u ≡ plain.itemed ws a is) × ShowsSpecified c.in-AfterItem.specified ws × ShowsItems c.in-AfterItem.items (a ∷ is)) d (subst (λ (g : Doing). ShowsDoing g d) c.in-AfterItem.is shows) (λ ws a is x0 x1. (ws, a, is, refl, x0, x1)) in
     rw i.3 (λ stands holds bottom count. c.read_behind_item.ensures i.0 i.1 i.2 i.4 i.5 s stands)
 
-pub returns-in-Finishing : goal.returns-in-Finishing
-returns-in-Finishing c = λ d s shows.
-    let parts = c.in-Finishing.parts in
-    let i = does_finishing parts (λ (u : plain.Doing). (b : Statement) × (e : Expression) × (u ≡ plain.finishing parts.place b parts.word parts.paren e) × ShowsStatement parts.body b × ShowsOperand parts.test e) d (subst (λ (g : Doing). ShowsDoing g d) c.in-Finishing.is shows) (λ b e x0 x1. (b, e, refl, x0, x1)) in
-    rw i.2 (λ stands holds bottom count. c.read_do_end.ensures i.0 i.1 i.3 i.4 s stands)
-
 pub returns-in-Operated : goal.returns-in-Operated
 returns-in-Operated c = λ d s shows.
     let i = does_operated c.in-Operated.operand c.in-Operated.level (λ (u : plain.Doing). (e : Expression) × (u ≡ plain.operated e c.in-Operated.level) × ShowsOperand c.in-Operated.operand e) d (subst (λ (g : Doing). ShowsDoing g d) c.in-Operated.is shows) (λ e x0. (e, refl, x0)) in
@@ -39,32 +27,7 @@ returns-in-Calling c = λ d s shows.
     let i = does_calling c.in-Calling.callee c.in-Calling.place c.in-Calling.level (λ (u : plain.Doing). (e : Expression) × (u ≡ plain.calling e c.in-Calling.place c.in-Calling.level) × ShowsOperand c.in-Calling.callee e) d (subst (λ (g : Doing). ShowsDoing g d) c.in-Calling.is shows) (λ e x0. (e, refl, x0)) in
     rw i.1 (λ stands holds bottom count. c.read_call.ensures i.0 i.2 s stands)
 
-pub returns-in-Tagged : goal.returns-in-Tagged
-returns-in-Tagged c = λ d s shows.
-    let i = does_tagged c.in-Tagged.kind c.in-Tagged.place c.in-Tagged.name c.in-Tagged.seen c.in-Tagged.before (λ (u : plain.Doing). (ws : List Specifier) × (u ≡ plain.tagged (is_structure_kind c.in-Tagged.kind) c.in-Tagged.place c.in-Tagged.name c.in-Tagged.seen ws) × ShowsBefore c.in-Tagged.before ws) d (subst (λ (g : Doing). ShowsDoing g d) c.in-Tagged.is shows) (λ ws x0. (ws, refl, x0)) in
-    rw i.1 (λ stands holds bottom count. c.read_body.ensures i.0 i.2 s stands)
-
 pub returns-in-Suffixing : goal.returns-in-Suffixing
 returns-in-Suffixing c = λ d s shows.
     let i = does_suffixing c.in-Suffixing.manner c.in-Suffixing.declared (λ (u : plain.Doing). (e : Declarator) × (u ≡ plain.suffixing (manner_of c.in-Suffixing.manner) e) × ShowsDeclared c.in-Suffixing.declared e) d (subst (λ (g : Doing). ShowsDoing g d) c.in-Suffixing.is shows) (λ e x0. (e, refl, x0)) in
     rw i.1 (λ stands holds bottom count. c.read_suffix.ensures i.0 i.2 s stands)
-
-pub returns-in-Sizing : goal.returns-in-Sizing
-returns-in-Sizing c = λ d s shows.
-    let i = does_sizing c.in-Sizing.manner c.in-Sizing.declared c.in-Sizing.place (λ (u : plain.Doing). (e : Declarator) × (u ≡ plain.sizing (manner_of c.in-Sizing.manner) e c.in-Sizing.place) × ShowsDeclared c.in-Sizing.declared e) d (subst (λ (g : Doing). ShowsDoing g d) c.in-Sizing.is shows) (λ e x0. (e, refl, x0)) in
-    rw i.1 (λ stands holds bottom count. c.read_size.ensures i.0 i.2 s stands)
-
-pub returns-in-InParameters : goal.returns-in-InParameters
-returns-in-InParameters c = λ d s shows.
-    let i = does_in_parameters c.in-InParameters.manner c.in-InParameters.declared c.in-InParameters.place (λ (u : plain.Doing). (e : Declarator) × (u ≡ plain.parametering (manner_of c.in-InParameters.manner) e c.in-InParameters.place) × ShowsDeclared c.in-InParameters.declared e) d (subst (λ (g : Doing). ShowsDoing g d) c.in-InParameters.is shows) (λ e x0. (e, refl, x0)) in
-    rw i.1 (λ stands holds bottom count. c.read_parameters.ensures i.0 i.2 s stands)
-
-pub returns-in-Testing : goal.returns-in-Testing
-returns-in-Testing c = λ d s shows.
-    let i = does_testing c.in-Testing.word c.in-Testing.paren c.in-Testing.start c.in-Testing.first (λ (u : plain.Doing). (a : Option Expression) × (u ≡ plain.testing c.in-Testing.word c.in-Testing.paren a c.in-Testing.first) × ShowsOptional c.in-Testing.start a) d (subst (λ (g : Doing). ShowsDoing g d) c.in-Testing.is shows) (λ a x0. (a, refl, x0)) in
-    rw i.1 (λ stands holds bottom count. c.read_loop_test.ensures i.0 i.2 s stands)
-
-pub returns-in-Stepping : goal.returns-in-Stepping
-returns-in-Stepping c = λ d s shows.
-    let i = does_stepping c.in-Stepping.parts (λ (u : plain.Doing). (a : plain.Loop) × (u ≡ plain.stepping a) × ShowsLoop c.in-Stepping.parts.value a) d (subst (λ (g : Doing). ShowsDoing g d) c.in-Stepping.is shows) (λ a x0. (a, refl, x0)) in
-    rw i.1 (λ stands holds bottom count. c.read_loop_step.ensures i.0 i.2 s stands)

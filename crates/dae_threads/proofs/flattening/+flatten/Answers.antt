@@ -9,7 +9,7 @@ use Rattle.dae_threads.proofs.Walked.{simple_threaded, if_threaded, loop_threade
 use Rattle.dae_threads.proofs.flattening.+flatten.Goals as goal
 
 pub flatten_list-loop-statement-init : goal.flatten_list-loop-statement-init
-flatten_list-loop-statement-init t c = threaded_none c.args.statements.now c.new-out.result.items c.new-out.ensures.items
+flatten_list-loop-statement-init t c = threaded_none c.args.statements.now c.in_ok-out.out.items c.in_ok-out.ensures.items
 
 pub flatten_list-loop-statement-preserved : goal.flatten_list-loop-statement-preserved
 flatten_list-loop-statement-preserved t c =

@@ -8,7 +8,7 @@ use Rattle.dae_threads.proofs.Walked.{simple_threaded, if_threaded, loop_threade
 use Rattle.dae_threads.proofs.threading.+thread.Goals as goal
 
 pub thread_list-loop-statement-init : goal.thread_list-loop-statement-init
-thread_list-loop-statement-init t c = threaded_none c.args.statements.now c.new-out.result.items c.new-out.ensures.items
+thread_list-loop-statement-init t c = threaded_none c.args.statements.now c.in_ok-out.out.items c.in_ok-out.ensures.items
 
 pub thread_list-loop-statement-preserved : goal.thread_list-loop-statement-preserved
 thread_list-loop-statement-preserved t c =
