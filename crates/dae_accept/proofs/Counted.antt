@@ -3,7 +3,7 @@ use Rattle.std.proofs.Common.{◌≡◌, ℕ, suc, ◌+◌, ◌≤◌, ◌<◌, 
 use Rattle.std.proofs.lemmas.List.{length-map}
 use Rattle.std.specs.Prelude.{Vec}
 use Rattle.std.specs.declared.alloc.Global.{Global}
-use Rattle.dae_tree.specs.Files.{Contents}
+use Rattle.dae_tree.specs.Files.{FileContents}
 use Rattle.dae_tree.specs.Reading.{Reading}
 use Rattle.dae_tree.specs.Tokens as tree
 use Rattle.dae_tree.specs.declared.faults.LexError.{LexError}
@@ -38,19 +38,19 @@ one_for_each file room (text ∷ texts) = by (λ left. one_for_each (file + 1) l
     by later (Ok x) = first_counts (length texts) x.0 (readings_from (file + 1) x.1 texts) (later x.1)
     by later (Err e) = tt
 
-many_files : (rs : List Reading) (cs : List Contents) → AreFilesOf rs cs → length cs ≡ length rs
+many_files : (rs : List Reading) (cs : List FileContents) → AreFilesOf rs cs → length cs ≡ length rs
 many_files [] [] h = refl
 many_files [] (c ∷ cs) h = absurd h
 many_files (r ∷ rs) [] h = absurd h
 many_files (r ∷ rs) (c ∷ cs) h = ap suc (many_files rs cs h.1)
 
-many_typed : (cs : List Contents) (ts : List FileParts) → AreTyped cs ts → length ts ≡ length cs
+many_typed : (cs : List FileContents) (ts : List FileParts) → AreTyped cs ts → length ts ≡ length cs
 many_typed [] [] h = refl
 many_typed [] (t ∷ ts) h = absurd h
 many_typed (c ∷ cs) [] h = absurd h
 many_typed (c ∷ cs) (t ∷ ts) h = ap suc (many_typed cs ts h.1)
 
-pub few_files : (texts : List (List ℕ)) (cs : List Contents) (ts : List FileParts) → length texts ≤ 1024 → AreRead texts cs → AreTyped cs ts → length ts < 2 ^ 32
+pub few_files : (texts : List (List ℕ)) (cs : List FileContents) (ts : List FileParts) → length texts ≤ 1024 → AreRead texts cs → AreTyped cs ts → length ts < 2 ^ 32
 few_files texts cs ts few read typed =
     let count = subst (λ y. AreSoMany (length texts) y) read.tokens (one_for_each 0 whole_room texts) in
     let all = many_files read.readings cs read.trees in
@@ -70,14 +70,14 @@ bodies_long : (done : List FileRow) (k : ℕ) (ts : List FileParts) → length (
 bodies_long done k [] = omega arith
 bodies_long done k (t ∷ ts) = let h = bodies_long (body_rows done k t.functions) (suc k) ts in let r = rows_long done k t.functions in omega (arith, h, r)
 
-planned : (cs : List Contents) (ts : List FileParts) → AreTyped cs ts → ArePlanned cs ts
+planned : (cs : List FileContents) (ts : List FileParts) → AreTyped cs ts → ArePlanned cs ts
 planned [] [] h = tt
 planned [] (t ∷ ts) h = absurd h
 planned (c ∷ cs) [] h = absurd h
 planned (c ∷ cs) (t ∷ ts) h =
     let one = h.0 in ((start_in c, record { tables = one.tables; products = one.products; spellings = c.names; checked = one.checked; reads = one.reads }), planned cs ts h.1)
 
-pub few_functions : FunctionsAreCounted → ReadAreWithin → (texts : List (List ℕ)) (cs : List Contents) (ts : List FileParts) → AreRead texts cs → AreTyped cs ts → length (bodies_of ts) < 2 ^ 32
+pub few_functions : FunctionsAreCounted → ReadAreWithin → (texts : List (List ℕ)) (cs : List FileContents) (ts : List FileParts) → AreRead texts cs → AreTyped cs ts → length (bodies_of ts) < 2 ^ 32
 few_functions counted within texts cs ts read typed =
     let long = bodies_long [] 0 ts in
     let half = counted cs ts (planned cs ts typed) in

@@ -1,7 +1,7 @@
 -- Files that are alike come to typed files of one outline, and so have one first cause not to join.
 use Rattle.std.proofs.Common.{◌≡◌, ℕ, List, [], ◌∷◌, map, Some, None, ap, sym, subst, refl, ◌∙◌}
 use Rattle.std.proofs.lemmas.Option.{same_Some}
-use Rattle.dae_tree.specs.Files.{Contents}
+use Rattle.dae_tree.specs.Files.{FileContents}
 use Rattle.dae_tree.specs.Trees.{External}
 use Rattle.dae_types_kinds.specs.Tables.{Tables}
 use Rattle.dae_types_rules.specs.Plan.{IsTyped}
@@ -18,12 +18,12 @@ use Rattle.dae_unit.specs.Outlines.{outline, OutlinesTellCauses}
 use Rattle.dae_accept.specs.Accepted.{AreTyped, IsAccepted, IsJoinRefusal}
 use Rattle.dae_accept.proofs.Faults.{one_start}
 
-typed_alike : (f g : Contents) (s : Tables) (products : List Product) → IsLike f g → IsTyped (plan_in g) (start_in g) (s, products) → IsTyped (plan_in f) (start_in f) (s, products)
+typed_alike : (f g : FileContents) (s : Tables) (products : List Product) → IsLike f g → IsTyped (plan_in g) (start_in g) (s, products) → IsTyped (plan_in f) (start_in f) (s, products)
 typed_alike f g s products l h =
     subst (λ (start : Tables). IsTyped (plan_in f) start (s, products)) (one_start f g l)
     (subst (λ (xs : List External). IsTyped (plan_file xs) (start_in g) (s, products)) (sym l.tree) h)
 
-one_outline : (f g : Contents) (t u : FileParts) → IsLike f g → IsTypedFile f t → IsTypedFile g u → outline t ≡ outline u
+one_outline : (f g : FileContents) (t u : FileParts) → IsLike f g → IsTypedFile f t → IsTypedFile g u → outline t ≡ outline u
 one_outline f g t u l h k =
     let other = typed_alike f g k.tables k.products l k.checked.0 in
     let tables : h.tables ≡ k.tables = sym h.checked.0.0 ∙ other.0 in
@@ -44,7 +44,7 @@ one_outline f g t u l h k =
       literals = (a.literals ∙ ap (λ (s : Tables). s.literals) tables ∙ sym b.literals) i;
     }
 
-one_outlines : (fs gs : List Contents) (ts us : List FileParts) → AreLike fs gs → AreTyped fs ts → AreTyped gs us → map outline ts ≡ map outline us
+one_outlines : (fs gs : List FileContents) (ts us : List FileParts) → AreLike fs gs → AreTyped fs ts → AreTyped gs us → map outline ts ≡ map outline us
 one_outlines [] [] [] [] l h k = refl
 one_outlines [] [] [] (u ∷ us) l h k = absurd k
 one_outlines [] [] (t ∷ ts) us l h k = absurd h

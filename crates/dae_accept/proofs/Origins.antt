@@ -1,7 +1,7 @@
 -- The files of an accepted program are typed, with the parameters of their functions.
 use Rattle.std.proofs.Common.{ℕ, List, [], ◌∷◌}
 use Rattle.std.specs.List.{AllByRecursion}
-use Rattle.dae_tree.specs.Files.{Contents, IsFile}
+use Rattle.dae_tree.specs.Files.{FileContents, IsFile}
 use Rattle.dae_program.specs.declared.program.Program.{Program}
 use Rattle.dae_types_typed.specs.declared.files.FileParts.{FileParts}
 use Rattle.dae_types.specs.Answers.{IsTypedFile}
@@ -12,7 +12,7 @@ use Rattle.dae_accept.specs.Read.{AreRead}
 use Rattle.dae_accept.specs.Accepted.{AreTyped}
 use Rattle.dae_accept.specs.Origins.{IsOfFiles}
 
-one_typed : (c : Contents) (t : FileParts) → IsFile c → IsTypedFile c t → HaveParameters t → IsTypedAs c t
+one_typed : (c : FileContents) (t : FileParts) → IsFile c → IsTypedFile c t → HaveParameters t → IsTypedAs c t
 one_typed c t parsed h p = record {
   parsed = parsed;
   numbers = numbers_in c.names;
@@ -20,13 +20,13 @@ one_typed c t parsed h p = record {
   parameters = p;
 }
 
-typed_as : (cs : List Contents) (ts : List FileParts) → AllByRecursion IsFile cs → AreTyped cs ts → AllByRecursion HaveParameters ts → AreTypedAs cs ts
+typed_as : (cs : List FileContents) (ts : List FileParts) → AllByRecursion IsFile cs → AreTyped cs ts → AllByRecursion HaveParameters ts → AreTypedAs cs ts
 typed_as [] [] a h p = tt
 typed_as [] (t ∷ ts) a h p = absurd h
 typed_as (c ∷ cs) [] a h p = absurd h
 typed_as (c ∷ cs) (t ∷ ts) a h p = (one_typed c t a.0 h.0 p.0, typed_as cs ts a.1 h.1 p.1)
 
-pub of_files : (texts : List (List ℕ)) (memory : ℕ) (cs : List Contents) (ts : List FileParts) (p : Program)
+pub of_files : (texts : List (List ℕ)) (memory : ℕ) (cs : List FileContents) (ts : List FileParts) (p : Program)
     → AreRead texts cs → AllByRecursion IsFile cs → AreTyped cs ts → AllByRecursion HaveParameters ts → IsJoinedTo ts memory p → IsOfFiles texts p
 of_files texts memory cs ts p read parsed checked parameters joined =
     let parts = joined.parts in

@@ -10,14 +10,14 @@ use Rattle.dae_tree.specs.declared.faults.Construct.TheVariants.{LiteralsTooLong
 use Rattle.dae_tree.specs.declared.tokens.Room.{Room}
 use Rattle.dae_tree.specs.declared.tokens.Token.{Token}
 use Rattle.dae_tree.specs.FileViews.{view_externals}
-use Rattle.dae_tree.specs.Files.{Contents}
-use Rattle.dae_tree.specs.Marks.{Mark, marks}
+use Rattle.dae_tree.specs.Files.{FileContents}
+use Rattle.dae_tree.specs.Marks.{TokenMark, marks}
 use Rattle.dae_tree.specs.Pieces.{Cut}
 use Rattle.dae_tree.specs.Reading.{Reading}
-use Rattle.dae_tree.specs.Replacing.{Meaning, keyword, sign, name, constant, literal, Read, Item, taken, replaced, refused, Tested, token, failed, tested_one, literal_length, within_replacements, within_tokens, tested, within_literals, before_all, outcome}
+use Rattle.dae_tree.specs.Replacing.{Meaning, keyword, sign, name, constant, literal, TokenRead, TextItem, taken, replaced, refused, Tested, token, failed, tested_one, literal_length, within_replacements, within_tokens, tested, within_literals, before_all, outcome}
 use Rattle.dae_tree.specs.Directives.{replaced_lines}
 use Rattle.dae_tree.specs.Tokens as tree
-use Rattle.dae_tree.specs.Tokens.{literal_of, before, before_by, joined, names_with, literals_with, literals_after, numbered, room_after, reading_of, lines_in, tested_of, reads_of, with_room}
+use Rattle.dae_tree.specs.Tokens.{literal_of, before, before_by, joined_literals, names_with, literals_with, literals_after, numbered, room_after, reading_of, lines_in, tested_of, reads_of, with_room}
 use Rattle.dae_parse.specs.Parsed.{IsFileOf}
 use Rattle.dae_sizes.specs.Sources.{tokens_in, bytes_of, bytes_in}
 use Rattle.dae_accept.specs.Read.{AreFilesOf, AreRead, readings_from, whole_room, with_first}
@@ -25,7 +25,7 @@ use Rattle.dae_accept.specs.Origins.{ReadAreWithin}
 
 -- ---- what is read of one text is within its limits
 
-abbrev bytes_read : List Read → ℕ
+abbrev bytes_read : List TokenRead → ℕ
 bytes_read [] = 0
 bytes_read (t ∷ ts) = literal_length t.meaning + bytes_read ts
 
@@ -34,11 +34,11 @@ tokens_tested [] = 0
 tokens_tested (token t ∷ ts) = suc (tokens_tested ts)
 tokens_tested (failed e ∷ ts) = tokens_tested ts
 
-abbrev AreWithin : ℕ → ℕ → Result (List Read) LexError → Type 0
+abbrev AreWithin : ℕ → ℕ → Result (List TokenRead) LexError → Type 0
 AreWithin n l (Ok ts) = (length ts ≤ n) × (bytes_read ts ≤ l)
 AreWithin n l (Err e) = Unit {0}
 
-one_more : (t : Read) (n l : ℕ) → literal_length t.meaning ≤ l → (x : Result (List Read) LexError) → AreWithin n (l - literal_length t.meaning) x → AreWithin (suc n) l (before_all t x)
+one_more : (t : TokenRead) (n l : ℕ) → literal_length t.meaning ≤ l → (x : Result (List TokenRead) LexError) → AreWithin n (l - literal_length t.meaning) x → AreWithin (suc n) l (before_all t x)
 one_more t n l le (Ok ts) h = (let a = h.0 in omega (arith, a), let b = h.1 in omega (arith, b, le))
 one_more t n l le (Err e) h = tt
 
@@ -56,7 +56,7 @@ one_tested : (x : Tested) (xs : List Tested) (n : ℕ) → tokens_tested xs ≤ 
 one_tested (token t) xs n h = omega (arith, h)
 one_tested (failed e) xs n h = omega (arith, h)
 
-few_tested : (n : ℕ) (items : List Item) → tokens_tested (tested (within_tokens n items)) ≤ n
+few_tested : (n : ℕ) (items : List TextItem) → tokens_tested (tested (within_tokens n items)) ≤ n
 few_tested zero [] = omega arith
 few_tested (suc n) [] = omega arith
 few_tested zero (taken m o ∷ items) = few_tested zero items
@@ -66,11 +66,11 @@ few_tested (suc n) (replaced o ∷ items) = few_tested (suc n) items
 few_tested zero (refused e ∷ items) = few_tested zero items
 few_tested (suc n) (refused e ∷ items) = few_tested (suc n) items
 
-fewer : (m n l : ℕ) (x : Result (List Read) LexError) → m ≤ n → AreWithin m l x → AreWithin n l x
+fewer : (m n l : ℕ) (x : Result (List TokenRead) LexError) → m ≤ n → AreWithin m l x → AreWithin n l x
 fewer m n l (Ok ts) le h = (let a = h.0 in omega (arith, a, le), h.1)
 fewer m n l (Err e) le h = tt
 
-reads_within : (room : Room) (items : List Item) → AreWithin room.tokens room.literal_bytes (reads_of room items)
+reads_within : (room : Room) (items : List TextItem) → AreWithin room.tokens room.literal_bytes (reads_of room items)
 reads_within room items =
     let xs = tested (within_tokens room.tokens (within_replacements room.replacements items)) in
     fewer (tokens_tested xs) room.tokens room.literal_bytes (outcome (within_literals room.literal_bytes xs)) (few_tested room.tokens (within_replacements room.replacements items)) (are_within room.literal_bytes xs)
@@ -84,7 +84,7 @@ length_of (sign s) a e = absurd cc
 length_of (name n) a e = absurd cc
 length_of (constant c) a e = absurd cc
 
-before_small : (t : Read) (us : List Read) → (length (before t us) ≤ suc (length us)) × (bytes_read (before t us) ≤ literal_length t.meaning + bytes_read us)
+before_small : (t : TokenRead) (us : List TokenRead) → (length (before t us) ≤ suc (length us)) × (bytes_read (before t us) ≤ literal_length t.meaning + bytes_read us)
 before_small t [] = (omega arith, omega arith)
 before_small t (u ∷ us) = by (literal_of t.meaning) (literal_of u.meaning) refl refl
   where
@@ -97,16 +97,16 @@ before_small t (u ∷ us) = by (literal_of t.meaning) (literal_of u.meaning) ref
     by (Some a) None p q = (omega arith, omega arith)
     by None y p q = (omega arith, omega arith)
 
-joined_small : (ts : List Read) → (length (joined ts) ≤ length ts) × (bytes_read (joined ts) ≤ bytes_read ts)
+joined_small : (ts : List TokenRead) → (length (joined_literals ts) ≤ length ts) × (bytes_read (joined_literals ts) ≤ bytes_read ts)
 joined_small [] = (omega arith, omega arith)
 joined_small (t ∷ ts) =
     let h = joined_small ts in
-    let k = before_small t (joined ts) in
+    let k = before_small t (joined_literals ts) in
     let a = h.0 in let b = h.1 in let c = k.0 in let d = k.1 in (omega (arith, a, c), omega (arith, b, d))
 
 -- ---- tokens and literals have their numbers
 
-many_numbered : (names literals : List (List ℕ)) (ts : List Read) → length (numbered names literals ts) ≡ length ts
+many_numbered : (names literals : List (List ℕ)) (ts : List TokenRead) → length (numbered names literals ts) ≡ length ts
 many_numbered names literals [] = refl
 many_numbered names literals (t ∷ ts) = ap suc (many_numbered (names_with names t.meaning) (literals_with literals t.meaning) ts)
 
@@ -121,7 +121,7 @@ bytes_with literals (sign s) = omega arith
 bytes_with literals (name n) = omega arith
 bytes_with literals (constant c) = omega arith
 
-bytes_after : (literals : List (List ℕ)) (ts : List Read) → bytes_of (literals_after literals ts) ≡ bytes_of literals + bytes_read ts
+bytes_after : (literals : List (List ℕ)) (ts : List TokenRead) → bytes_of (literals_after literals ts) ≡ bytes_of literals + bytes_read ts
 bytes_after literals [] = omega arith
 bytes_after literals (t ∷ ts) =
     let h = bytes_with literals t.meaning in
@@ -129,7 +129,7 @@ bytes_after literals (t ∷ ts) =
 
 -- ---- the room that is left
 
-bytes_sum : (ts : List Read) → sum_by (λ t. literal_length t.meaning) ts ≡ bytes_read ts
+bytes_sum : (ts : List TokenRead) → sum_by (λ t. literal_length t.meaning) ts ≡ bytes_read ts
 bytes_sum [] = refl
 bytes_sum (t ∷ ts) =
     let h = bytes_sum ts in
@@ -140,15 +140,15 @@ LeavesRoom room (Ok x) =
     (let r = x.0 in let left = x.1 in (length r.tokens + left.tokens ≤ room.tokens) × (bytes_of r.literals + left.literal_bytes ≤ room.literal_bytes))
 LeavesRoom room (Err e) = Unit {0}
 
-leaves : (file : ℕ) (text : List ℕ) (room : Room) (lines : List (List Cut)) (items : List Item) (x : Result (List Read) LexError) → AreWithin room.tokens room.literal_bytes x → LeavesRoom room (with_room file text room lines items x)
+leaves : (file : ℕ) (text : List ℕ) (room : Room) (lines : List (List Cut)) (items : List TextItem) (x : Result (List TokenRead) LexError) → AreWithin room.tokens room.literal_bytes x → LeavesRoom room (with_room file text room lines items x)
 leaves file text room lines items (Ok reads) h =
     let a = h.0 in
     let b = h.1 in
     let small = joined_small reads in
     let c = small.0 in
     let d = small.1 in
-    let many = many_numbered [] [] (joined reads) in
-    let bytes = bytes_after [] (joined reads) in
+    let many = many_numbered [] [] (joined_literals reads) in
+    let bytes = bytes_after [] (joined_literals reads) in
     let sum = bytes_sum reads in (omega (arith, a, c, many), omega (arith, b, d, bytes, sum))
 leaves file text room lines items (Err e) h = tt
 
@@ -190,14 +190,14 @@ marks-length : (ts : List Token) → length (marks ts) ≡ length ts
 marks-length [] = refl
 marks-length (t ∷ ts) = ap suc (marks-length ts)
 
-files_as_read : (rs : List Reading) (cs : List Contents) → AreFilesOf rs cs → (tokens_in cs ≡ tokens_read rs) × (bytes_in cs ≡ literals_read rs)
+files_as_read : (rs : List Reading) (cs : List FileContents) → AreFilesOf rs cs → (tokens_in cs ≡ tokens_read rs) × (bytes_in cs ≡ literals_read rs)
 files_as_read [] [] h = (refl, refl)
 files_as_read [] (c ∷ cs) h = absurd h
 files_as_read (r ∷ rs) [] h = absurd h
 files_as_read (r ∷ rs) (c ∷ cs) h =
     let one : IsFileOf r c = h.0 in
     let within = one.tree in
-    let spelled = ap (λ (ms : List Mark). length ms) (within.tree.1) in
+    let spelled = ap (λ (ms : List TokenMark). length ms) (within.tree.1) in
     let many = marks-length r.tokens in
     let same = ap bytes_of one.literals in
     let rest = files_as_read rs cs h.1 in

@@ -1,6 +1,6 @@
 -- Which texts are accepted in a memory of so many bytes, and as which program; and for what other texts are refused.
 use Rattle.std.specs.Prelude.{◌≡◌, ◌≢◌, ◌⊎◌, ℕ, List, [], ◌∷◌, Some, Err}
-use Rattle.dae_tree.specs.Files.{Contents}
+use Rattle.dae_tree.specs.Files.{FileContents}
 use Rattle.dae_types_kinds.specs.declared.rules.Breach.{Breach}
 use Rattle.dae_types_rules.specs.Plan.{IsChecked}
 use Rattle.dae_types_typed.specs.declared.files.FileParts.{FileParts}
@@ -14,14 +14,14 @@ use Rattle.dae_accept.specs.declared.error.CompileError.{CompileError}
 use Rattle.dae_accept.specs.declared.error.CompileError.TheVariants as errors
 
 -- in none of these files is a rule of types broken, and that is what they come to, file by file
-abbrev pub AreTyped : List Contents → List FileParts → Type 0
+abbrev pub AreTyped : List FileContents → List FileParts → Type 0
 AreTyped [] [] = Unit {0}
 AreTyped [] (t ∷ ts) = ⊥
 AreTyped (f ∷ fs) [] = ⊥
 AreTyped (f ∷ fs) (t ∷ ts) = IsTypedFile f t × AreTyped fs ts
 
 -- in the first of these files that breaks a rule of types, that rule is broken at that place
-abbrev pub IsFirstBroken : List Contents → Breach → Type 0
+abbrev pub IsFirstBroken : List FileContents → Breach → Type 0
 IsFirstBroken [] b = ⊥
 IsFirstBroken (f ∷ fs) b =
     IsChecked (plan_in f) (start_in f) (Err b) ⊎ ((t : FileParts) × IsTypedFile f t × IsFirstBroken fs b)
@@ -29,7 +29,7 @@ IsFirstBroken (f ∷ fs) b =
 -- Each text has tokens within the room that those before it left, and they a tree within the limits; no rule of
 -- types is broken in any; and in the memory the files join to that program.
 pub record IsAccepted (texts : List (List ℕ)) (memory : ℕ) (p : Program) : Type 0 where
-  pub files : List Contents
+  pub files : List FileContents
   pub read : AreRead texts files
   pub typed : List FileParts
   pub checked : AreTyped files typed
@@ -38,13 +38,13 @@ pub record IsAccepted (texts : List (List ℕ)) (memory : ℕ) (p : Program) : T
 -- each text has tokens and a tree, and a rule of types is broken: where several are in the first such file, any of
 -- them
 pub record IsRuleRefusal (texts : List (List ℕ)) (b : Breach) : Type 0 where
-  pub files : List Contents
+  pub files : List FileContents
   pub read : AreRead texts files
   pub first : IsFirstBroken files b
 
 -- each text has tokens, a tree and types, and the files don't join: the first cause
 pub record IsJoinRefusal (texts : List (List ℕ)) (memory : ℕ) (e : JoinError) : Type 0 where
-  pub files : List Contents
+  pub files : List FileContents
   pub read : AreRead texts files
   pub typed : List FileParts
   pub checked : AreTyped files typed
@@ -66,7 +66,7 @@ IsNeverBeside e =
 
 -- each text has tokens within the room that those before it left, and they a tree within the limits
 abbrev pub HaveTrees : List (List ℕ) → Type 0
-HaveTrees texts = (files : List Contents) × AreRead texts files
+HaveTrees texts = (files : List FileContents) × AreRead texts files
 
 -- where both are told of the same texts they are the same, unless the texts have trees
 abbrev pub AreOneCause : CompileError → CompileError → Type 0

@@ -1,22 +1,22 @@
 -- Texts are read in one way alone.
 use Rattle.std.specs.Prelude.{◌≡◌, ℕ, List}
 use Rattle.dae_tree.specs.declared.faults.LexError.{LexError}
-use Rattle.dae_tree.specs.Files.{Contents}
+use Rattle.dae_tree.specs.Files.{FileContents}
 use Rattle.dae_parse.specs.declared.error.ParseError.{ParseError}
 use Rattle.dae_accept.specs.Alike.{AreLike}
 use Rattle.dae_accept.specs.Read.{AreRead, HasNoTokens, IsTreeRefusal}
 
 -- whatever files texts are read to, they are alike
 abbrev pub AreReadAlike : Type 0
-AreReadAlike = (texts : List (List ℕ)) (fs gs : List Contents) → AreRead texts fs → AreRead texts gs → AreLike fs gs
+AreReadAlike = (texts : List (List ℕ)) (fs gs : List FileContents) → AreRead texts fs → AreRead texts gs → AreLike fs gs
 
 -- texts that are read are not refused for their tokens
 abbrev pub IsNoLexErrorOfRead : LexError → Type 0
-IsNoLexErrorOfRead e = (texts : List (List ℕ)) (fs : List Contents) → AreRead texts fs → ¬ HasNoTokens texts e
+IsNoLexErrorOfRead e = (texts : List (List ℕ)) (fs : List FileContents) → AreRead texts fs → ¬ HasNoTokens texts e
 
 -- nor for a tree
 abbrev pub IsNoParseErrorOfRead : ParseError → Type 0
-IsNoParseErrorOfRead e = (texts : List (List ℕ)) (fs : List Contents) → AreRead texts fs → ¬ IsTreeRefusal texts e
+IsNoParseErrorOfRead e = (texts : List (List ℕ)) (fs : List FileContents) → AreRead texts fs → ¬ IsTreeRefusal texts e
 
 -- of texts without tokens one cause is told
 abbrev pub AreCutOnce : Type 0

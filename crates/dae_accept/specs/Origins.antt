@@ -1,6 +1,6 @@
 -- The files that a program comes from, and how large they are.
 use Rattle.std.specs.Prelude.{◌≡◌, ℕ, ◌≤◌, List, []}
-use Rattle.dae_tree.specs.Files.{Contents}
+use Rattle.dae_tree.specs.Files.{FileContents}
 use Rattle.dae_program.specs.declared.program.Program.{Program}
 use Rattle.dae_types_typed.specs.declared.files.FileParts.{FileParts}
 use Rattle.dae_unit.specs.Meanings.{functions_from}
@@ -9,7 +9,7 @@ use Rattle.dae_accept.specs.Read.{AreRead, whole_room}
 
 -- the texts are read as files, in which no rule is broken, and the program has the functions that they join to
 pub record IsOfFiles (texts : List (List ℕ)) (p : Program) : Type 0 where
-  pub files : List Contents
+  pub files : List FileContents
   pub read : AreRead texts files
   pub typed : List FileParts
   pub from : AreTypedAs files typed
@@ -18,5 +18,5 @@ pub record IsOfFiles (texts : List (List ℕ)) (p : Program) : Type 0 where
 -- files that are read have at most 65,536 tokens and 65,536 bytes of literals
 abbrev pub ReadAreWithin : Type 0
 ReadAreWithin =
-    (texts : List (List ℕ)) (files : List Contents) → AreRead texts files →
+    (texts : List (List ℕ)) (files : List FileContents) → AreRead texts files →
     (tokens_in files ≤ whole_room.tokens) × (bytes_in files ≤ whole_room.literal_bytes)

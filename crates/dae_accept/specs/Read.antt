@@ -6,7 +6,7 @@ use Rattle.dae_tree.specs.declared.faults.LexError.TheVariants as lex_errors
 use Rattle.dae_tree.specs.declared.tokens.Room.{Room}
 use Rattle.dae_tree.specs.Reading.{Reading}
 use Rattle.dae_tree.specs.Tokens.{tokens_of}
-use Rattle.dae_tree.specs.Files.{Contents}
+use Rattle.dae_tree.specs.Files.{FileContents}
 use Rattle.dae_tree.specs.Trees.{External}
 use Rattle.dae_parse.specs.declared.error.ParseError.{ParseError}
 use Rattle.dae_parse.specs.Parsed.{IsCause, IsFileOf, IsRefused, IsWithinLimits}
@@ -39,7 +39,7 @@ abbrev pub readings_of : List (List ℕ) → Result (List Reading) LexError
 readings_of texts = readings_from 0 whole_room texts
 
 -- each file is that of its reading
-abbrev pub AreFilesOf : List Reading → List Contents → Type 0
+abbrev pub AreFilesOf : List Reading → List FileContents → Type 0
 AreFilesOf [] [] = Unit {0}
 AreFilesOf [] (f ∷ fs) = ⊥
 AreFilesOf (r ∷ rs) [] = ⊥
@@ -66,14 +66,14 @@ Cuts (Err (Tree e)) answer = ⊥
 Cuts (Err Memory) answer = Unit {0}
 
 -- the files of these readings, or the first refusal
-abbrev pub Parses : Result (Vec Contents Global) FileError → List Reading → Type 0
+abbrev pub Parses : Result (Vec FileContents Global) FileError → List Reading → Type 0
 Parses (Ok files) readings = AreFilesOf readings files.items
 Parses (Err (Lex e)) readings = ⊥
 Parses (Err (Tree e)) readings = IsFirstRefused readings e
 Parses (Err Memory) readings = Unit {0}
 
 -- the files of these texts
-pub record AreRead (texts : List (List ℕ)) (files : List Contents) : Type 0 where
+pub record AreRead (texts : List (List ℕ)) (files : List FileContents) : Type 0 where
   pub readings : List Reading
   pub tokens : readings_of texts ≡ Ok readings
   pub trees : AreFilesOf readings files
@@ -88,7 +88,7 @@ pub record IsTreeRefusal (texts : List (List ℕ)) (e : ParseError) : Type 0 whe
   pub tokens : readings_of texts ≡ Ok readings
   pub first : IsFirstRefused readings e
 
-abbrev pub Reads : Result (Vec Contents Global) FileError → List (List ℕ) → Type 0
+abbrev pub Reads : Result (Vec FileContents Global) FileError → List (List ℕ) → Type 0
 Reads (Ok files) texts = AreRead texts files.items
 Reads (Err (Lex e)) texts = HasNoTokens texts e
 Reads (Err (Tree e)) texts = IsTreeRefusal texts e

@@ -3,7 +3,7 @@
 use dae_base::{Items, LoadKind, Place, Text};
 use dae_program::{Expression, Statement};
 use dae_types_file_plans::{FileDeclaration, Role};
-use dae_types_kinds::{Entity, Object, Routine, Shape, Use};
+use dae_types_kinds::{Entity, EntityUse, Routine, Shape, StaticObject};
 use dae_types_sound::is_sound;
 use dae_types_typed::{FileParts, TypedFunction};
 use std::alloc::{AllocError, Global};
@@ -94,7 +94,7 @@ fn declare(parts: &mut FileParts, entity: Entity, role: Role) -> Result<(), Allo
 
 /// Adds the object `n` and its declaration.
 fn add_object(parts: &mut FileParts) -> Result<(), AllocError> {
-    parts.objects.push(Object {
+    parts.objects.push(StaticObject {
         name: 0,
         type_id: 6,
         own: false,
@@ -115,7 +115,7 @@ fn add_main(alloc: Global, parts: &mut FileParts, offset: u32) -> Result<(), All
     })?;
     declare(parts, MAIN, Role::Definition)?;
     parts.functions.push(main_body(alloc, offset)?)?;
-    parts.uses.push(Use {
+    parts.uses.push(EntityUse {
         entity: N,
         place: HERE,
     })

@@ -18,7 +18,7 @@ use Rattle.dae_alias.specs.declared.addresses.Base.{Base}
 use Rattle.dae_alias.specs.declared.addresses.Base.TheVariants.{Number, Frame, Variable}
 use Rattle.dae_alias.specs.declared.addresses.SymAddr.{SymAddr}
 use Rattle.dae_alias.specs.Addresses.{same_base, same_place, same_width, same_kind, ranges_meet, are_apart}
-use Rattle.dae_alias.specs.Stretches.{Known, nothing, symbol, shifted, followed, renewed, given, set}
+use Rattle.dae_alias.specs.Stretches.{KnownInStretch, nothing, symbol, shifted, followed, renewed, given, set}
 use Rattle.dae_alias.specs.declared.held.Held.{Held}
 use Rattle.dae_alias.specs.Reuse.{Holders, held_in, still_held, number_of}
 use Rattle.dae_alias.proofs.Words.{Agree, agree_plus, agree_zero, loaded_beside, apart_accesses, same_word, size_some}
@@ -63,7 +63,7 @@ AllHeld h past frame times l f m [] = Unit {0}
 AllHeld h past frame times l f m (x ∷ xs) = IsHeld h past frame times l f m x × AllHeld h past frame times l f m xs
 
 -- of the variables below n
-pub record Facts (h : Holders) (n : ℕ) (s : Known) (held : List Held) (l : ℕ) (frame : ℕ) (f : Env) (m : List ℕ) : Type 0 where
+pub record Facts (h : Holders) (n : ℕ) (s : KnownInStretch) (held : List Held) (l : ℕ) (frame : ℕ) (f : Env) (m : List ℕ) : Type 0 where
   pub past : Past
   pub values : (v : ℕ) → v < n → Means past frame s.times (f v) (s.value v)
   pub kept : AllHeld h past frame s.times l f m held
@@ -129,7 +129,7 @@ abbrev pub IsGiven : Past → ℕ → (ℕ → ℕ) → ℕ → Option SymAddr �
 IsGiven past frame times y None = Unit {0}
 IsGiven past frame times y (Some x) = Means past frame times y x
 
-given_means : (past : Past) (frame : ℕ) (s : Known) (v y : ℕ) (x : Option SymAddr) → IsGiven past frame s.times y x
+given_means : (past : Past) (frame : ℕ) (s : KnownInStretch) (v y : ℕ) (x : Option SymAddr) → IsGiven past frame s.times y x
     → Means (renew past v (s.times v + 1) y) frame (timed s.times v) y (given s v x)
 given_means past frame s v y None g =
     record {
@@ -159,7 +159,7 @@ held_later h past frame times l f m (x ∷ xs) v y spared a = (
   held_later h past frame times l f m xs v y spared a.1,
 )
 
-pub sets : (h : Holders) (n : ℕ) (s : Known) (held : List Held) (l frame : ℕ) (f : Env) (m : List ℕ) (v y : ℕ) (x : Option SymAddr) → IsSpared h l v
+pub sets : (h : Holders) (n : ℕ) (s : KnownInStretch) (held : List Held) (l frame : ℕ) (f : Env) (m : List ℕ) (v y : ℕ) (x : Option SymAddr) → IsSpared h l v
     → (facts : Facts h n s held l frame f m) → IsGiven facts.past frame s.times y x → Facts h n (set s v x) held l frame (put true v y f) m
 sets h n s held l frame f m v y x spared facts g = record {
   past = renew facts.past v (s.times v + 1) y;
@@ -193,7 +193,7 @@ below_other w u n small large = by (nat_eq w u) refl where
   by true e = absurd (let k = eqb-true w u e in omega (arith, k, small, large))
   by false e = refl
 
-abbrev pub hides : (h : Holders) (n : ℕ) (s : Known) (held : List Held) (l frame : ℕ) (f : Env) (m : List ℕ) (u y : ℕ) → n ≤ u → IsSpared h l u
+abbrev pub hides : (h : Holders) (n : ℕ) (s : KnownInStretch) (held : List Held) (l frame : ℕ) (f : Env) (m : List ℕ) (u y : ℕ) → n ≤ u → IsSpared h l u
     → (facts : Facts h n s held l frame f m) → Facts h n s held l frame (put true u y f) m
 hides h n s held l frame f m u y far spared facts = record {
   past = facts.past;
@@ -203,7 +203,7 @@ hides h n s held l frame f m u y far spared facts = record {
 
 -- ---- operands and values
 
-pub operand_means : (n : ℕ) (past : Past) (frame : ℕ) (s : Known) (f : Env) → ((v : ℕ) → v < n → Means past frame s.times (f v) (s.value v)) → (x : Operand) → IsIn n x → Means past frame s.times (value x f) (symbol s x)
+pub operand_means : (n : ℕ) (past : Past) (frame : ℕ) (s : KnownInStretch) (f : Env) → ((v : ℕ) → v < n → Means past frame s.times (f v) (s.value v)) → (x : Operand) → IsIn n x → Means past frame s.times (value x f) (symbol s x)
 operand_means n past frame s f values (operand.Variable v) i = values v i
 operand_means n past frame s f values (operand.Number k) i = record { agree = ap (λ (a : ℕ). a % 2 ^ 32) (omega arith); old = record { base = tt; offset = i } }
 
@@ -215,7 +215,7 @@ shifted_means past frame times a k x m =
 plus_turned : (a k : ℕ) → plus a k ≡ plus k a
 plus_turned a k = omega arith
 
-pub follows : (n : ℕ) (past : Past) (frame : ℕ) (s : Known) (f : Env) → ((v : ℕ) → v < n → Means past frame s.times (f v) (s.value v)) → (x : Value) → ValueIn n x
+pub follows : (n : ℕ) (past : Past) (frame : ℕ) (s : KnownInStretch) (f : Env) → ((v : ℕ) → v < n → Means past frame s.times (f v) (s.value v)) → (x : Value) → ValueIn n x
     → IsGiven past frame s.times (computed x frame f) (followed s x)
 unfolding combined
 follows n past frame s f values (val.Same x) i = operand_means n past frame s f values x i
@@ -351,7 +351,7 @@ held_more h past frame times l f m [] a = tt
 held_more h past frame times l f m (x ∷ xs) a =
     (let i = a.0 in record { old = i.old; old_value = i.old_value; met = omega (arith, i.met); finds = i.finds; holds = i.holds }, held_more h past frame times l f m xs a.1)
 
-pub facts_more : (h : Holders) (n : ℕ) (s : Known) (held : List Held) (l frame : ℕ) (f : Env) (m : List ℕ) → Facts h n s held l frame f m → Facts h n s held (suc l) frame f m
+pub facts_more : (h : Holders) (n : ℕ) (s : KnownInStretch) (held : List Held) (l frame : ℕ) (f : Env) (m : List ℕ) → Facts h n s held l frame f m → Facts h n s held (suc l) frame f m
 facts_more h n s held l frame f m facts = record { past = facts.past; values = facts.values; kept = held_more h facts.past frame s.times l f m held facts.kept }
 
 -- ---- a load goes into a variable of its own, and from there to where it went
@@ -373,7 +373,7 @@ pub put_here : (v y : ℕ) (f : Env) → put true v y f v ≡ y
 put_here v y f = rw (eq_refl v) refl
 
 -- a load of number l is met, and goes into v
-pub load_met : (h : Holders) (n : ℕ) (s : Known) (held : List Held) (l frame : ℕ) (f : Env) (m : List ℕ) (v a : ℕ) (kind : LoadKind) (at : SymAddr) → length m ≤ 2 ^ 32 → IsSpared h l v
+pub load_met : (h : Holders) (n : ℕ) (s : KnownInStretch) (held : List Held) (l frame : ℕ) (f : Env) (m : List ℕ) (v a : ℕ) (kind : LoadKind) (at : SymAddr) → length m ≤ 2 ^ 32 → IsSpared h l v
     → ((u : ℕ) → h l ≡ Some u → (nat_eq u v ≡ false) × (f u ≡ loaded kind a m)) → a + size (width_of kind) ≤ length m
     → (facts : Facts h n s held l frame f m) → Means facts.past frame s.times a at
     → Facts h n (set s v None) (record { kind = kind; at = at; value = renewed s v; number = l } ∷ held) (suc l) frame (put true v (loaded kind a m) f) m

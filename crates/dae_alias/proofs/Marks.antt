@@ -25,7 +25,7 @@ use Rattle.dae_alias.specs.declared.held.Held.{Held}
 use Rattle.dae_alias.specs.declared.walking.Walk.{Walk}
 use Rattle.dae_alias.specs.Addresses.{same_kind, same_place, are_apart}
 use Rattle.dae_alias.specs.Meeting.{Meets, known_in, held_by}
-use Rattle.dae_alias.specs.Stretches.{Known, nothing, symbol, after}
+use Rattle.dae_alias.specs.Stretches.{KnownInStretch, nothing, symbol, after}
 use Rattle.dae_alias.specs.Reuse.{held_in, still_held, is_load, loads_in, known_behind, held_behind, repeats, is_repeated}
 use Rattle.dae_alias.specs.Turning.{held_after, Passes}
 use Rattle.dae_alias.specs.Marking.{marked, IsAt, repeated_from, Marks, MarksAll}
@@ -76,7 +76,7 @@ found_met l (x ∷ xs) kind at g all is = by (λ e. found_met l xs kind at g all
   by more (inl e) = subst (λ (z : Held). z.number < l) e.1 all.0
   by more (inr e) = more e.1
 
-met_after : (l : ℕ) (s : Known) (held : List Held) (item : Item) → AreMet l held → AreMet l (held_after s held item)
+met_after : (l : ℕ) (s : KnownInStretch) (held : List Held) (item : Item) → AreMet l held → AreMet l (held_after s held item)
 met_after l s held (Assign v x) all = all
 met_after l s held (Load v kind x) all = all
 met_after l s held (Store width x y) all = met_still l held (symbol s x) width all
@@ -90,10 +90,10 @@ met_after l s held (Halt x) all = tt
 
 -- ---- what code behind a walk repeats
 
-from_same : (i : ℕ) (w : Walk) (s : Known) (held : List Held) (l : ℕ) (k : Form) → known_in w ≡ s → held_by w ≡ held → w.loads ≡ l → repeated_from i w k ≡ is_repeated i s held l k
+from_same : (i : ℕ) (w : Walk) (s : KnownInStretch) (held : List Held) (l : ℕ) (k : Form) → known_in w ≡ s → held_by w ≡ held → w.loads ≡ l → repeated_from i w k ≡ is_repeated i s held l k
 from_same i w s held l k e d c = rw (e, d, c) refl
 
-pass_repeats : (i : ℕ) (s : Known) (held : List Held) (l : ℕ) (place : Place) (item : Item) (k : Form) → is_load item ≡ false
+pass_repeats : (i : ℕ) (s : KnownInStretch) (held : List Held) (l : ℕ) (place : Place) (item : Item) (k : Form) → is_load item ≡ false
     → is_repeated i s held l (Do place item k) ≡ is_repeated i (after s item) (held_after s held item) l k
 pass_repeats i s held l place (Assign v x) k no' = refl
 pass_repeats i s held l place (Load v kind x) k no' = cc

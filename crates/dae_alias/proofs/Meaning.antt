@@ -26,7 +26,7 @@ use Rattle.dae_ir.specs.declared.form.Check.{Check}
 use Rattle.dae_ir.specs.declared.form.Check.TheVariants.{Place as Good, InBounds, Zero, Room, Frame, Abort}
 use Rattle.dae_ir.specs.declared.form.Function.{Function}
 use Rattle.dae_ir.specs.declared.form.Item.TheVariants.{Assign, Load, Store, Print, Expect, Break, Continue, Call, Return, Halt}
-use Rattle.dae_alias.specs.Stretches.{Known, nothing, symbol, followed, renewed, after, set}
+use Rattle.dae_alias.specs.Stretches.{KnownInStretch, nothing, symbol, followed, renewed, after, set}
 use Rattle.dae_alias.specs.declared.held.Held.{Held}
 use Rattle.dae_alias.specs.Reuse.{Holders, held_in, still_held, copy, loads_in, reused, turned, number_of, known_behind, held_behind}
 use Rattle.dae_alias.specs.Laws.{counted, Cheaper, Costs, SameBelow, SameResult, IsReused, ReuseKeepsMeaning}
@@ -124,9 +124,9 @@ module _ (functions : List Function) (p q : Program) (frames : (g : ℕ) → q.f
   -- ---- a stretch
 
   -- it goes on alike, whatever is known and held, where that is true
-  abbrev Goes : Form → (ℕ → Known → List Held → Form) → Type 0
+  abbrev Goes : Form → (ℕ → KnownInStretch → List Held → Form) → Type 0
   Goes code code' =
-      (s : Known) (held : List Held) (l : ℕ) (e f : Env) (w : World) (i a j b : ℕ) → length w.memory ≤ 2 ^ 32 → b ≤ a → j ≤ i + a →
+      (s : KnownInStretch) (held : List Held) (l : ℕ) (e f : Env) (w : World) (i a j b : ℕ) → length w.memory ≤ 2 ^ 32 → b ≤ a → j ≤ i + a →
       SameBelow n e f → Facts h n s held l w.frame f w.memory → Ends (old code e (counted i a w)) (new (code' l s held) f (counted j b w))
 
   -- as at a stretch's start
@@ -138,7 +138,7 @@ module _ (functions : List Function) (p q : Program) (frames : (g : ℕ) → q.f
 
   -- ---- loads
 
-  module _ (place : Place) (v : ℕ) (kind : LoadKind) (x : Operand) (k : Form) (k' : ℕ → Known → List Held → Form) (rest : Goes k k') (small : v < n) (named : IsIn n x) where
+  module _ (place : Place) (v : ℕ) (kind : LoadKind) (x : Operand) (k : Form) (k' : ℕ → KnownInStretch → List Held → Form) (rest : Goes k k') (small : v < n) (named : IsIn n x) where
     abbrev width : Width
     width = width_of kind
 
@@ -146,7 +146,7 @@ module _ (functions : List Function) (p q : Program) (frames : (g : ℕ) → q.f
     abbrev loads_at : ℕ → Env → World → Result Env
     loads_at a e w = within (misplaced width a (length w.memory)) w (At Next (put true v (loaded kind a w.memory) e) (fetched true w)) ▷ old k
 
-    module _ (s : Known) (held : List Held) (l : ℕ) (e f : Env) (w : World) (i a j b : ℕ) (fits : length w.memory ≤ 2 ^ 32) (few : b ≤ a) (cheap : j ≤ i + a)
+    module _ (s : KnownInStretch) (held : List Held) (l : ℕ) (e f : Env) (w : World) (i a j b : ℕ) (fits : length w.memory ≤ 2 ^ 32) (few : b ≤ a) (cheap : j ≤ i + a)
         (same : SameBelow n e f) (facts : Facts h n s held l w.frame f w.memory) where
       abbrev y : ℕ
       y = loaded kind (value x f) w.memory
@@ -158,7 +158,7 @@ module _ (functions : List Function) (p q : Program) (frames : (g : ℕ) → q.f
       Loads code = Ends (loads_at (value x f) e (counted i a w)) (new code f (counted j b w))
 
       -- the load is executed, and then it goes on
-      plain : (s' : Known) (held' : List Held) → (misplaced width (value x f) (length w.memory) ≡ None → Facts h n s' held' (suc l) w.frame (put true v y f) w.memory) → Loads (Do place (Load v kind x) (k' (suc l) s' held'))
+      plain : (s' : KnownInStretch) (held' : List Held) → (misplaced width (value x f) (length w.memory) ≡ None → Facts h n s' held' (suc l) w.frame (put true v y f) w.memory) → Loads (Do place (Load v kind x) (k' (suc l) s' held'))
       plain s' held' then' = by (misplaced width (value x f) (length w.memory)) refl where
         by : (o : Option ℕ) → misplaced width (value x f) (length w.memory) ≡ o
             → Ends (within o (counted i a w) (At Next (put true v y e) (fetched true (counted i a w))) ▷ old k)
@@ -167,7 +167,7 @@ module _ (functions : List Function) (p q : Program) (frames : (g : ℕ) → q.f
         by None placed = rest s' held' (suc l) _ _ w (i + 1) (a + 1) (j + 1) (b + 1) fits (omega (arith, few)) (omega (arith, cheap)) (put_same n v y e f same) (then' placed)
 
       -- what it loads is in u, and is copied
-      copies : (u : ℕ) (s' : Known) (held' : List Held) → (misplaced width (value x f) (length w.memory) ≡ None → (f u ≡ y) × Facts h n s' held' (suc l) w.frame (put true v y f) w.memory)
+      copies : (u : ℕ) (s' : KnownInStretch) (held' : List Held) → (misplaced width (value x f) (length w.memory) ≡ None → (f u ≡ y) × Facts h n s' held' (suc l) w.frame (put true v y f) w.memory)
           → Loads (Do place (copy v u) (k' (suc l) s' held'))
       copies u s' held' then' = by (misplaced width (value x f) (length w.memory)) refl where
         by : (o : Option ℕ) → misplaced width (value x f) (length w.memory) ≡ o
@@ -179,7 +179,7 @@ module _ (functions : List Function) (p q : Program) (frames : (g : ℕ) → q.f
             (put_two n v y (f u) e f (sym t.0) same) (subst (λ (z : ℕ). Facts h n s' held' (suc l) w.frame (put true v z f) w.memory) (sym t.0) t.1)
 
       -- it goes into u, and is copied
-      splits : (u : ℕ) (s' : Known) (held' : List Held) → n ≤ u
+      splits : (u : ℕ) (s' : KnownInStretch) (held' : List Held) → n ≤ u
           → (misplaced width (value x f) (length w.memory) ≡ None → Facts h n s' held' (suc l) w.frame (put true v y (put true u y f)) w.memory) → Loads (Do place (Load u kind x) (Do place (copy v u) (k' (suc l) s' held')))
       splits u s' held' far then' = by (misplaced width (value x f) (length w.memory)) refl where
         by : (o : Option ℕ) → misplaced width (value x f) (length w.memory) ≡ o
@@ -221,7 +221,7 @@ module _ (functions : List Function) (p q : Program) (frames : (g : ℕ) → q.f
           copies u (set s v (Some g.value)) held
           (λ placed. (let z = found h facts.past w.frame s.times l f w.memory held kind (symbol s x) g is facts.kept in z.holds u mine (value x f) address.agree (room placed), again g is placed))
 
-    load_goes : (s : Known) (held : List Held) (l : ℕ) (e f : Env) (w : World) (i a j b : ℕ) → length w.memory ≤ 2 ^ 32 → b ≤ a → j ≤ i + a
+    load_goes : (s : KnownInStretch) (held : List Held) (l : ℕ) (e f : Env) (w : World) (i a j b : ℕ) → length w.memory ≤ 2 ^ 32 → b ≤ a → j ≤ i + a
         → SameBelow n e f → Facts h n s held l w.frame f w.memory
         → Ends (loads_at (value x e) e (counted i a w))
         (new (turned place v kind x (held_in held kind (symbol s x)) (h (number_of (held_in held kind (symbol s x)) l))
@@ -233,8 +233,8 @@ module _ (functions : List Function) (p q : Program) (frames : (g : ℕ) → q.f
 
   -- ---- stores
 
-  store_goes : (place : Place) (width : Width) (x y : Operand) (k : Form) (k' : ℕ → Known → List Held → Form) → Goes k k' → IsIn n x → IsIn n y
-      → (s : Known) (held : List Held) (l : ℕ) (e f : Env) (w : World) (i a j b : ℕ) → length w.memory ≤ 2 ^ 32 → b ≤ a → j ≤ i + a
+  store_goes : (place : Place) (width : Width) (x y : Operand) (k : Form) (k' : ℕ → KnownInStretch → List Held → Form) → Goes k k' → IsIn n x → IsIn n y
+      → (s : KnownInStretch) (held : List Held) (l : ℕ) (e f : Env) (w : World) (i a j b : ℕ) → length w.memory ≤ 2 ^ 32 → b ≤ a → j ≤ i + a
       → SameBelow n e f → Facts h n s held l w.frame f w.memory
       → Ends (old (Do place (Store width x y) k) e (counted i a w)) (new (Do place (Store width x y) (k' l s (still_held held (symbol s x) width))) f (counted j b w))
   store_goes place width x y k k' rest named named' s held l e f w i a j b fits few cheap same facts =
@@ -263,18 +263,18 @@ module _ (functions : List Function) (p q : Program) (frames : (g : ℕ) → q.f
     by true = then'
     by false = else'
 
-  check_goes : (o : Option ℕ) (k k' : Form) (w : World) (s : Known) (held : List Held) (l : ℕ) (e f : Env) (i a j b : ℕ)
+  check_goes : (o : Option ℕ) (k k' : Form) (w : World) (s : KnownInStretch) (held : List Held) (l : ℕ) (e f : Env) (i a j b : ℕ)
       → Ends (old k e (counted (i + 1) a w)) (new k' f (counted (j + 1) b w)) → length w.memory ≤ 2 ^ 32 → b ≤ a → j ≤ i + a
       → Ends (checked o e (ticked (counted i a w)) ▷ old k) (checked o f (ticked (counted j b w)) ▷ new k')
   check_goes None k k' w s held l e f i a j b rest fits few cheap = rest
   check_goes (Some code) k k' w s held l e f i a j b rest fits few cheap = BothOver (Trapped code) _ _ (Costs w (i + 1) a (j + 1) b fits few (omega (arith, cheap)))
 
   -- from a stretch's start
-  start : (k k' : Form) (code : ℕ → Known → List Held → Form) → Goes k code → (l : ℕ) → (e f : Env) (w : World) (i a j b : ℕ) → length w.memory ≤ 2 ^ 32 → b ≤ a → j ≤ i + a → SameBelow n e f
+  start : (k k' : Form) (code : ℕ → KnownInStretch → List Held → Form) → Goes k code → (l : ℕ) → (e f : Env) (w : World) (i a j b : ℕ) → length w.memory ≤ 2 ^ 32 → b ≤ a → j ≤ i + a → SameBelow n e f
       → Ends (old k e (counted i a w)) (new (code l nothing []) f (counted j b w))
   start k k' code goes l e f w i a j b fits few cheap same = goes nothing [] l e f w i a j b fits few cheap same (begins h n l w.frame f w.memory)
 
-  begin : (k : Form) (code : ℕ → Known → List Held → Form) → Goes k code → (l : ℕ) → Alikes (SameBelow n) Cheaper (old k) (new (code l nothing []))
+  begin : (k : Form) (code : ℕ → KnownInStretch → List Held → Form) → Goes k code → (l : ℕ) → Alikes (SameBelow n) Cheaper (old k) (new (code l nothing []))
   begin k code goes l = anew k (code l nothing []) (start k k code goes l)
 
   code_goes : (code : Form) → Each (ItemIn functions n) (TestIn n) code → Goes code (λ l s held. reused h s held l code)

@@ -14,7 +14,7 @@ use Rattle.dae_ir.specs.declared.form.Operand.{Operand}
 use Rattle.dae_ir.specs.declared.form.Item.TheVariants.{Assign, Load, Store, Print, Expect, Break, Continue, Call, Return, Halt}
 use Rattle.dae_alias.specs.declared.addresses.SymAddr.{SymAddr}
 use Rattle.dae_alias.specs.Addresses.{same_place, same_kind, are_apart}
-use Rattle.dae_alias.specs.Stretches.{Known, nothing, symbol, renewed, after, loads_again, has_second}
+use Rattle.dae_alias.specs.Stretches.{KnownInStretch, nothing, symbol, renewed, after, loads_again, has_second}
 use Rattle.dae_alias.specs.declared.held.Held.{Held}
 use Rattle.dae_alias.specs.Reuse.{Holders, held_in, still_held, loads_in, known_behind, held_behind, number_of, turned, reused, repeats, is_repeated}
 use Rattle.dae_alias.specs.Laws.{NoSecondIsLeft}
@@ -88,13 +88,13 @@ if_apart false c h = refl
 
 module _ (functions : List Function) (h : Holders) (n : ℕ) (own : (i u : ℕ) → h i ≡ Some u → n ≤ u) (apart : (i j u : ℕ) → h i ≡ Some u → h j ≡ Some u → i ≡ j) where
   -- the loads that are repeated have variables
-  abbrev Marked : Known → List Held → ℕ → Form → Type 0
+  abbrev Marked : KnownInStretch → List Held → ℕ → Form → Type 0
   Marked K held l code = (i : ℕ) → is_repeated i K held l code ≡ true → (u : ℕ) × (h i ≡ Some u)
 
   abbrev HasNames : Form → Type 0
   HasNames code = Each (ItemIn functions n) (TestIn n) code
 
-  given_marked : (K : Known) (held : List Held) (l : ℕ) (place : Place) (v : ℕ) (kind : LoadKind) (x : Operand) (k : Form) → Marked K held l (Do place (Load v kind x) k)
+  given_marked : (K : KnownInStretch) (held : List Held) (l : ℕ) (place : Place) (v : ℕ) (kind : LoadKind) (x : Operand) (k : Form) → Marked K held l (Do place (Load v kind x) k)
       → (g : Held) → held_in held kind (symbol K x) ≡ Some g → (u : ℕ) × (h g.number ≡ Some u)
   given_marked K held l place v kind x k marked g is =
       marked g.number (or_left (repeats g.number (held_in held kind (symbol K x))) _ (rw is (eq_refl g.number)))
@@ -102,10 +102,10 @@ module _ (functions : List Function) (h : Holders) (n : ℕ) (own : (i u : ℕ) 
   -- what is held isn't loaded again
   abbrev Quiet : Form → Type 0
   Quiet code =
-      (K C : Known) (r : Renaming) (held : List Held) (l : ℕ) → Tied h n K C r l l held → Marked K held l code → (kind : LoadKind) (at : SymAddr) → IsHeldFor held kind at → IsOldIn n K.times at.base
+      (K C : KnownInStretch) (r : Renaming) (held : List Held) (l : ℕ) → Tied h n K C r l l held → Marked K held l code → (kind : LoadKind) (at : SymAddr) → IsHeldFor held kind at → IsOldIn n K.times at.base
       → loads_again kind (renamed r at) C (reused h K held l code) ≡ false
 
-  load_quiet : (C : Known) (place : Place) (v : ℕ) (kind' : LoadKind) (x : Operand) (k : Form) (kind : LoadKind) (at : SymAddr) (o : Option Held) (holder : Option ℕ)
+  load_quiet : (C : KnownInStretch) (place : Place) (v : ℕ) (kind' : LoadKind) (x : Operand) (k : Form) (kind : LoadKind) (at : SymAddr) (o : Option Held) (holder : Option ℕ)
       → ((g : Held) → o ≡ Some g → (u : ℕ) × (holder ≡ Some u)) → (o ≡ None → (same_kind kind kind' && same_place at (symbol C x)) ≡ false)
       → loads_again kind at (walked C v o holder) k ≡ false → loads_again kind at C (turned place v kind' x o holder k) ≡ false
   load_quiet C place v kind' x k kind at None None marked other rest = or_from _ _ (other refl) rest
@@ -113,15 +113,15 @@ module _ (functions : List Function) (h : Holders) (n : ℕ) (own : (i u : ℕ) 
   load_quiet C place v kind' x k kind at (Some g) None marked other rest = absurd (let m = marked g refl in let c : None ≡ Some m.0 = m.1 in cc)
   load_quiet C place v kind' x k kind at (Some g) (Some u) marked other rest = rest
 
-  held_more : (K : Known) (held : List Held) (l v : ℕ) (kind' : LoadKind) (x : Operand) (o : Option Held) (kind : LoadKind) (at : SymAddr) → IsHeldFor held kind at → IsHeldFor (held_behind K held l v kind' x o) kind at
+  held_more : (K : KnownInStretch) (held : List Held) (l v : ℕ) (kind' : LoadKind) (x : Operand) (o : Option Held) (kind : LoadKind) (at : SymAddr) → IsHeldFor held kind at → IsHeldFor (held_behind K held l v kind' x o) kind at
   held_more K held l v kind' x None kind at f = more_found _ held kind at f
   held_more K held l v kind' x (Some g) kind at f = f
 
-  behind_old : (K : Known) (v : ℕ) (o : Option Held) (at : SymAddr) → IsOldIn n K.times at.base → IsOldIn n (let z = known_behind K v o in z.times) at.base
+  behind_old : (K : KnownInStretch) (v : ℕ) (o : Option Held) (at : SymAddr) → IsOldIn n K.times at.base → IsOldIn n (let z = known_behind K v o in z.times) at.base
   behind_old K v None at i = still_old n K.times v at.base i
   behind_old K v (Some g) at i = still_old n K.times v at.base i
 
-  agree_at : (K K' C' : Known) (r : Renaming) (l m : ℕ) (held : List Held) (z : Next h n K K' C' r l m held) (at : SymAddr) → IsOldIn n K.times at.base → renamed z.renaming at ≡ renamed r at
+  agree_at : (K K' C' : KnownInStretch) (r : Renaming) (l m : ℕ) (held : List Held) (z : Next h n K K' C' r l m held) (at : SymAddr) → IsOldIn n K.times at.base → renamed z.renaming at ≡ renamed r at
   agree_at K K' C' r l m held z at i = ap (λ (b : _). record { base = b; offset = at.offset }) (z.agrees at.base i)
 
   has_holder : (o : Option Held) (l : ℕ) → ((g : Held) → o ≡ Some g → (u : ℕ) × (h g.number ≡ Some u)) → (g : Held) → o ≡ Some g → (u : ℕ) × (h (number_of o l) ≡ Some u)
@@ -160,16 +160,16 @@ module _ (functions : List Function) (h : Holders) (n : ℕ) (own : (i u : ℕ) 
   quiet (Loop place p q k) names K C r held l tied marked kind at found old = refl
 
   abbrev Clean : Form → Type 0
-  Clean code = (K C : Known) (r : Renaming) (held : List Held) (l : ℕ) → Tied h n K C r l l held → Marked K held l code → has_second C (reused h K held l code) ≡ false
+  Clean code = (K C : KnownInStretch) (r : Renaming) (held : List Held) (l : ℕ) → Tied h n K C r l l held → Marked K held l code → has_second C (reused h K held l code) ≡ false
 
-  load_clean : (C : Known) (place : Place) (v : ℕ) (kind : LoadKind) (x : Operand) (k : Form) (o : Option Held) (holder : Option ℕ) → ((g : Held) → o ≡ Some g → (u : ℕ) × (holder ≡ Some u))
+  load_clean : (C : KnownInStretch) (place : Place) (v : ℕ) (kind : LoadKind) (x : Operand) (k : Form) (o : Option Held) (holder : Option ℕ) → ((g : Held) → o ≡ Some g → (u : ℕ) × (holder ≡ Some u))
       → (o ≡ None → loads_again kind (symbol C x) (walked C v o holder) k ≡ false) → has_second (walked C v o holder) k ≡ false → has_second C (turned place v kind x o holder k) ≡ false
   load_clean C place v kind x k None None marked first rest = or_from _ _ (first refl) rest
   load_clean C place v kind x k None (Some u) marked first rest = or_from _ _ (first refl) rest
   load_clean C place v kind x k (Some g) None marked first rest = absurd (let m = marked g refl in let c : None ≡ Some m.0 = m.1 in cc)
   load_clean C place v kind x k (Some g) (Some u) marked first rest = rest
 
-  none_held : (K : Known) (held : List Held) (l v : ℕ) (kind : LoadKind) (x : Operand) (o : Option Held) → o ≡ None → IsHeldFor (held_behind K held l v kind x o) kind (symbol K x)
+  none_held : (K : KnownInStretch) (held : List Held) (l v : ℕ) (kind : LoadKind) (x : Operand) (o : Option Held) → o ≡ None → IsHeldFor (held_behind K held l v kind x o) kind (symbol K x)
   none_held K held l v kind x None e = new_found held kind (symbol K x) (renewed K v) l
   none_held K held l v kind x (Some g) e = absurd (let c : Some g ≡ None = e in cc)
 

@@ -15,7 +15,7 @@ use Rattle.dae_alias.specs.declared.addresses.Base.{Base}
 use Rattle.dae_alias.specs.declared.addresses.Base.TheVariants.{Number, Frame, Variable}
 use Rattle.dae_alias.specs.declared.addresses.SymAddr.{SymAddr}
 use Rattle.dae_alias.specs.Addresses.{same_base, same_place, same_kind, are_apart}
-use Rattle.dae_alias.specs.Stretches.{Known, nothing, symbol, shifted, followed, renewed, given, set}
+use Rattle.dae_alias.specs.Stretches.{KnownInStretch, nothing, symbol, shifted, followed, renewed, given, set}
 use Rattle.dae_alias.specs.declared.held.Held.{Held}
 use Rattle.dae_alias.specs.Reuse.{Holders, held_in, still_held, known_behind, held_behind, number_of}
 use Rattle.dae_alias.proofs.Facts.{eq_refl, below_other, timed, timed_later, if_some, some_is}
@@ -37,7 +37,7 @@ nat_eq_turned : (a b : ℕ) → nat_eq a b ≡ nat_eq b a
 nat_eq_turned a b = grind arith
 
 -- the base that v gets next
-abbrev next_base : Known → ℕ → Base
+abbrev next_base : KnownInStretch → ℕ → Base
 next_base K v = Variable v (K.times v + 1)
 
 own_other : (v u n : ℕ) → v < n → n ≤ u → nat_eq u v ≡ false
@@ -99,18 +99,18 @@ new_or_old n times v (Variable w j) h = by (nat_eq w v) refl h.1 where
 
 -- ---- a form's known addresses, and those of the reused form
 
-pub record IsTied (h : Holders) (n : ℕ) (K C : Known) (r : Renaming) (l : ℕ) (x : Held) : Type 0 where
+pub record IsTied (h : Holders) (n : ℕ) (K C : KnownInStretch) (r : Renaming) (l : ℕ) (x : Held) : Type 0 where
   pub at : IsOldIn n K.times (let a = x.at in a.base)
   pub value : IsOldIn n K.times (let a = x.value in a.base)
   pub met : x.number < l
   pub same : (u : ℕ) → h x.number ≡ Some u → C.value u ≡ renamed r x.value
 
-abbrev pub AllTied : Holders → ℕ → Known → Known → Renaming → ℕ → List Held → Type 0
+abbrev pub AllTied : Holders → ℕ → KnownInStretch → KnownInStretch → Renaming → ℕ → List Held → Type 0
 AllTied h n K C r l [] = Unit {0}
 AllTied h n K C r l (x ∷ xs) = IsTied h n K C r l x × AllTied h n K C r l xs
 
 -- l loads were met, and the variables of the loads from m on aren't set yet
-pub record Tied (h : Holders) (n : ℕ) (K C : Known) (r : Renaming) (l m : ℕ) (held : List Held) : Type 0 where
+pub record Tied (h : Holders) (n : ℕ) (K C : KnownInStretch) (r : Renaming) (l m : ℕ) (held : List Held) : Type 0 where
   pub value : (v : ℕ) → v < n → C.value v ≡ renamed r (K.value v)
   pub times : (v : ℕ) → v < n → C.times v ≡ K.times v
   pub fresh : (i u : ℕ) → h i ≡ Some u → m ≤ i → C.times u ≡ 0
@@ -140,7 +140,7 @@ starts h n l = record {
 
 -- ---- a variable of the form is set
 
-module _ (h : Holders) (n : ℕ) (K C : Known) (r : Renaming) (l m : ℕ) (held : List Held) (tied : Tied h n K C r l m held) (own : (i u : ℕ) → h i ≡ Some u → n ≤ u) where
+module _ (h : Holders) (n : ℕ) (K C : KnownInStretch) (r : Renaming) (l m : ℕ) (held : List Held) (tied : Tied h n K C r l m held) (own : (i u : ℕ) → h i ≡ Some u → n ≤ u) where
   pub symbol_renamed : (x : Operand) → IsIn n x → symbol C x ≡ renamed r (symbol K x)
   symbol_renamed (operand.Variable v) i = tied.value v i
   symbol_renamed (operand.Number k) i = ap (λ (b : Base). record { base = b; offset = k }) (sym tied.number)
@@ -211,12 +211,12 @@ abbrev pub extended : Renaming → Base → Base → Renaming
 extended r b z c = if same_base c b then z else r c
 
 -- what is known from now on, renamed; the old bases are renamed as before
-pub record Next (h : Holders) (n : ℕ) (K K' C' : Known) (r : Renaming) (l m : ℕ) (held : List Held) : Type 0 where
+pub record Next (h : Holders) (n : ℕ) (K K' C' : KnownInStretch) (r : Renaming) (l m : ℕ) (held : List Held) : Type 0 where
   pub renaming : Renaming
   pub tied : Tied h n K' C' renaming l m held
   pub agrees : (b : Base) → IsOldIn n K.times b → renaming b ≡ r b
 
-module _ (h : Holders) (n : ℕ) (K C : Known) (r : Renaming) (l m : ℕ) (held : List Held) (tied : Tied h n K C r l m held) (own : (i u : ℕ) → h i ≡ Some u → n ≤ u)
+module _ (h : Holders) (n : ℕ) (K C : KnownInStretch) (r : Renaming) (l m : ℕ) (held : List Held) (tied : Tied h n K C r l m held) (own : (i u : ℕ) → h i ≡ Some u → n ≤ u)
     (v : ℕ) (small : v < n) (x x' : Option SymAddr) (z : Base) (l' : ℕ) (few : l ≤ l')
     (apart : (b : Base) → IsImage h n K.times l b → same_base z b ≡ false) (image : IsImage h n (timed K.times v) l' z)
     (is : given C v x' ≡ renamed (extended r (Variable v (K.times v + 1)) z) (given K v x)) (old : IsOldIn n (timed K.times v) (let a = given K v x in a.base)) where
@@ -293,7 +293,7 @@ module _ (h : Holders) (n : ℕ) (K C : Known) (r : Renaming) (l m : ℕ) (held 
 
 -- ---- items
 
-pub tied_later : (h : Holders) (n : ℕ) (K C : Known) (r : Renaming) (l m m' : ℕ) (held : List Held) → m ≤ m' → Tied h n K C r l m held → Tied h n K C r l m' held
+pub tied_later : (h : Holders) (n : ℕ) (K C : KnownInStretch) (r : Renaming) (l m m' : ℕ) (held : List Held) → m ≤ m' → Tied h n K C r l m held → Tied h n K C r l m' held
 tied_later h n K C r l m m' held few tied = record {
   value = tied.value;
   times = tied.times;
@@ -306,14 +306,14 @@ tied_later h n K C r l m m' held few tied = record {
   kept = tied.kept;
 }
 
-still_tied : (h : Holders) (n : ℕ) (K C : Known) (r : Renaming) (l : ℕ) (y : SymAddr) (width : Width) (held : List Held) → AllTied h n K C r l held → AllTied h n K C r l (still_held held y width)
+still_tied : (h : Holders) (n : ℕ) (K C : KnownInStretch) (r : Renaming) (l : ℕ) (y : SymAddr) (width : Width) (held : List Held) → AllTied h n K C r l held → AllTied h n K C r l (still_held held y width)
 still_tied h n K C r l y width [] a = tt
 still_tied h n K C r l y width (x ∷ xs) a = by (are_apart x.at (width_of x.kind) y width) (still_tied h n K C r l y width xs a.1) where
   by : (c : Bool) → AllTied h n K C r l (still_held xs y width) → AllTied h n K C r l (if c then x ∷ still_held xs y width else still_held xs y width)
   by true more = (a.0, more)
   by false more = more
 
-pub store_tied : (h : Holders) (n : ℕ) (K C : Known) (r : Renaming) (l m : ℕ) (held : List Held) (y : SymAddr) (width : Width) → Tied h n K C r l m held → Tied h n K C r l m (still_held held y width)
+pub store_tied : (h : Holders) (n : ℕ) (K C : KnownInStretch) (r : Renaming) (l m : ℕ) (held : List Held) (y : SymAddr) (width : Width) → Tied h n K C r l m held → Tied h n K C r l m (still_held held y width)
 store_tied h n K C r l m held y width tied = record {
   value = tied.value;
   times = tied.times;
@@ -326,7 +326,7 @@ store_tied h n K C r l m held y width tied = record {
   kept = still_tied h n K C r l y width held tied.kept;
 }
 
-found_tied : (h : Holders) (n : ℕ) (K C : Known) (r : Renaming) (l : ℕ) (held : List Held) (kind : LoadKind) (at : SymAddr) (g : Held) → held_in held kind at ≡ Some g → AllTied h n K C r l held → IsTied h n K C r l g
+found_tied : (h : Holders) (n : ℕ) (K C : KnownInStretch) (r : Renaming) (l : ℕ) (held : List Held) (kind : LoadKind) (at : SymAddr) (g : Held) → held_in held kind at ≡ Some g → AllTied h n K C r l held → IsTied h n K C r l g
 found_tied h n K C r l [] kind at g is a = cc
 found_tied h n K C r l (x ∷ xs) kind at g is a = by (λ is. found_tied h n K C r l xs kind at g is a.1) (if_some (same_kind x.kind kind && same_place x.at at) x (held_in xs kind at) g is) where
   by : (held_in xs kind at ≡ Some g → IsTied h n K C r l g)
@@ -335,7 +335,7 @@ found_tied h n K C r l (x ∷ xs) kind at g is a = by (λ is. found_tied h n K C
   by more (inr e) = more e.1
 
 -- what is known behind what a load is turned into
-abbrev pub walked : Known → ℕ → Option Held → Option ℕ → Known
+abbrev pub walked : KnownInStretch → ℕ → Option Held → Option ℕ → KnownInStretch
 walked C v None None = set C v None
 walked C v (Some g) None = set C v None
 walked C v None (Some u) = set (set C u None) v (Some ((set C u None).value u))
@@ -344,7 +344,7 @@ walked C v (Some g) (Some u) = set C v (Some (C.value u))
 timed_here : (times : ℕ → ℕ) (v : ℕ) → times v + 1 ≤ timed times v v
 timed_here times v = rw (eq_refl v) (omega arith)
 
-module _ (h : Holders) (n : ℕ) (K C : Known) (r : Renaming) (l : ℕ) (held : List Held) (tied : Tied h n K C r l l held) (own : (i u : ℕ) → h i ≡ Some u → n ≤ u)
+module _ (h : Holders) (n : ℕ) (K C : KnownInStretch) (r : Renaming) (l : ℕ) (held : List Held) (tied : Tied h n K C r l l held) (own : (i u : ℕ) → h i ≡ Some u → n ≤ u)
     (apart : (i j u : ℕ) → h i ≡ Some u → h j ≡ Some u → i ≡ j) (v : ℕ) (small : v < n) where
   next_apart : (b : Base) → IsImage h n K.times l b → same_base (next_base K v) b ≡ false
   next_apart Number i = refl
@@ -389,7 +389,7 @@ module _ (h : Holders) (n : ℕ) (K C : Known) (r : Renaming) (l : ℕ) (held : 
     entry = record { kind = kind; at = symbol K x; value = renewed K v; number = l }
 
     -- with what was loaded held
-    holds : (C' : Known) (m : ℕ) (z : Next h n K (set K v None) C' r (suc l) m held) → ((u : ℕ) → h l ≡ Some u → C'.value u ≡ renamed z.renaming (renewed K v))
+    holds : (C' : KnownInStretch) (m : ℕ) (z : Next h n K (set K v None) C' r (suc l) m held) → ((u : ℕ) → h l ≡ Some u → C'.value u ≡ renamed z.renaming (renewed K v))
         → m ≤ suc l → Next h n K (set K v None) C' r (suc l) (suc l) (entry ∷ held)
     holds C' m z same few =
         let t = tied_later h n (set K v None) C' z.renaming (suc l) m (suc l) held few z.tied in
@@ -417,13 +417,13 @@ module _ (h : Holders) (n : ℕ) (K C : Known) (r : Renaming) (l : ℕ) (held : 
           agrees = z.agrees;
         }
 
-    later : (K' C' : Known) (held' : List Held) → Next h n K K' C' r (suc l) l held' → Next h n K K' C' r (suc l) (suc l) held'
+    later : (K' C' : KnownInStretch) (held' : List Held) → Next h n K K' C' r (suc l) l held' → Next h n K K' C' r (suc l) (suc l) held'
     later K' C' held' z = record { renaming = z.renaming; tied = tied_later h n K' C' z.renaming (suc l) l (suc l) held' (omega arith) z.tied; agrees = z.agrees }
 
     -- ---- the load's own variable is set first
 
     module _ (u : ℕ) (mine : h l ≡ Some u) where
-      abbrev cleared : Known
+      abbrev cleared : KnownInStretch
       cleared = set C u None
 
       abbrev z : Base
@@ -486,10 +486,10 @@ module _ (h : Holders) (n : ℕ) (K C : Known) (r : Renaming) (l : ℕ) (held : 
       split : Next h n K (set K v None) (set cleared v (Some (cleared.value u))) r (suc l) (suc l) held
       split = set_tied h n K cleared r l (suc l) held tied_cleared own v small None (Some (cleared.value u)) z (suc l) (omega arith) z_apart z_image z_given next_old
 
-    set_here : (X : Known) (w : ℕ) (y : Option SymAddr) → (set X w y).value w ≡ given X w y
+    set_here : (X : KnownInStretch) (w : ℕ) (y : Option SymAddr) → (set X w y).value w ≡ given X w y
     set_here X w y = rw (eq_refl w) refl
 
-    set_there : (X : Known) (w u : ℕ) (y : Option SymAddr) → nat_eq u w ≡ false → (set X w y).value u ≡ X.value u
+    set_there : (X : KnownInStretch) (w u : ℕ) (y : Option SymAddr) → nat_eq u w ≡ false → (set X w y).value u ≡ X.value u
     set_there X w u y e = rw e refl
 
     value_split : (u : ℕ) (it : h l ≡ Some u) (u' : ℕ) → h l ≡ Some u' → (walked C v None (Some u)).value u' ≡ renamed (let s = split u it in s.renaming) (renewed K v)

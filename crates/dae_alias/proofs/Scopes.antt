@@ -26,7 +26,7 @@ use Rattle.dae_ir.specs.declared.form.Item.TheVariants.{Assign, Load, Store, Pri
 use Rattle.dae_ir.proofs.Laws.{and_more, set_more, has_more, test_more, value_more, check_more, operands_more}
 use Rattle.dae_alias.specs.declared.addresses.SymAddr.{SymAddr}
 use Rattle.dae_alias.specs.Addresses.{same_place, same_kind, are_apart}
-use Rattle.dae_alias.specs.Stretches.{Known, nothing, symbol, after}
+use Rattle.dae_alias.specs.Stretches.{KnownInStretch, nothing, symbol, after}
 use Rattle.dae_alias.specs.declared.held.Held.{Held}
 use Rattle.dae_alias.specs.Reuse.{Holders, held_in, still_held, copy, loads_in, held_behind, number_of, turned, reused}
 use Rattle.dae_alias.specs.Laws.{KeepsParameters, AreWithin, ReuseKeepsScope, ReuseKeepsOrder}
@@ -81,7 +81,7 @@ module _ (fs gs : List Function) (own n : ℕ) (same : KeepsParameters fs gs) (f
     load_in place v kind x k i None (Some u) it t a rest = let w = within' i u it in (((omega (arith, some, w.0), w.1), a), ((t, w.1), rest))
     load_in place v kind x k i (Some g) (Some u) it t a rest = let w = within' i u it in ((t, w.1), rest)
 
-    code_in : (code : Form) → Each (ItemIn fs own) (TestIn own) code → (s : Known) (held : List Held) (l : ℕ) → IsMade (reused h s held l code)
+    code_in : (code : Form) → Each (ItemIn fs own) (TestIn own) code → (s : KnownInStretch) (held : List Held) (l : ℕ) → IsMade (reused h s held l code)
     code_in Done i s held l = tt
     code_in (Do place (Assign v x) k) i s held l = (item_in (Assign v x) i.0, code_in k i.1 _ held l)
     code_in (Do place (Load v kind x) k) i s held l = let t = item_in (Load v kind x) i.0 in load_in place v kind x _ _ (held_in held kind (symbol s x)) _ refl t.0 t.1 (code_in k i.1 _ _ (suc l))
@@ -120,7 +120,7 @@ module _ (h : Holders) where
   stays_one true place v kind x k = refl
   stays_one false place v kind x k = refl
 
-  stays_same : (code : Form) (inside : Bool) (s : Known) (held : List Held) (l : ℕ) → stays inside (reused h s held l code) ≡ stays inside code
+  stays_same : (code : Form) (inside : Bool) (s : KnownInStretch) (held : List Held) (l : ℕ) → stays inside (reused h s held l code) ≡ stays inside code
   stays_same Done inside s held l = refl
   stays_same (Do place (Assign v x) k) inside s held l = rw (stays_same k inside (after s (Assign v x)) held l) refl
   stays_same (Do place (Load v kind x) k) inside s held l =
@@ -144,7 +144,7 @@ module _ (h : Holders) where
   closes_load place v kind x k None (Some u) = refl
   closes_load place v kind x k (Some e) (Some u) = refl
 
-  closes_same : (code : Form) (s : Known) (held : List Held) (l : ℕ) → closes (reused h s held l code) ≡ closes code
+  closes_same : (code : Form) (s : KnownInStretch) (held : List Held) (l : ℕ) → closes (reused h s held l code) ≡ closes code
   closes_same Done s held l = refl
   closes_same (Do place (Assign v x) k) s held l = closes_same k (after s (Assign v x)) held l
   closes_same (Do place (Load v kind x) k) s held l = closes_load place v kind x _ (held_in held kind (symbol s x)) _ ∙ closes_same k _ _ (suc l)
@@ -159,7 +159,7 @@ module _ (h : Holders) where
   closes_same (If place t p q k) s held l = closes_same k nothing [] (l + loads_in p + loads_in q)
   closes_same (Loop place p q k) s held l = closes_same k nothing [] (l + loads_in p + loads_in q)
 
-  never_same : (code : Form) (s : Known) (held : List Held) (l : ℕ) → never_returns (reused h s held l code) ≡ never_returns code
+  never_same : (code : Form) (s : KnownInStretch) (held : List Held) (l : ℕ) → never_returns (reused h s held l code) ≡ never_returns code
   never_same Done s held l = refl
   never_same (Do place (Assign v x) k) s held l = never_same k (after s (Assign v x)) held l
   never_same (Do place (Load v kind x) k) s held l =
@@ -217,7 +217,7 @@ module _ (h : Holders) where
   -- ---- what is set behind code
 
   abbrev Sets : Form → Type 0
-  Sets code = (s : Known) (held : List Held) (l : ℕ) (d e : VariableSet) → Sub d e → Sub (assured form_flow d code) (assured form_flow e (reused h s held l code))
+  Sets code = (s : KnownInStretch) (held : List Held) (l : ℕ) (d e : VariableSet) → Sub d e → Sub (assured form_flow d code) (assured form_flow e (reused h s held l code))
 
   load_sets : (place : Place) (v : ℕ) (kind : LoadKind) (x : Operand) (k k' : Form) (o : Option Held) (holder : Option ℕ) (d e : VariableSet) → Sub d e
       → ((f : VariableSet) → Sub (with_set v d) f → Sub (assured form_flow (with_set v d) k) (assured form_flow f k')) → Sub (assured form_flow (with_set v d) k) (assured form_flow e (turned place v kind x o holder k'))
@@ -245,9 +245,9 @@ module _ (h : Holders) where
   -- ---- and read
 
   abbrev Firsts : Form → Type 0
-  Firsts code = (s : Known) (held : List Held) (l : ℕ) (d e : VariableSet) → Sub d e → AllSet e held → IsSetFirst form_flow d code → IsSetFirst form_flow e (reused h s held l code)
+  Firsts code = (s : KnownInStretch) (held : List Held) (l : ℕ) (d e : VariableSet) → Sub d e → AllSet e held → IsSetFirst form_flow d code → IsSetFirst form_flow e (reused h s held l code)
 
-  load_first : (place : Place) (v : ℕ) (kind : LoadKind) (x : Operand) (k' : Form) (K : Known) (held : List Held) (l : ℕ) (o : Option Held) (holder : Option ℕ) (d e : VariableSet) → Sub d e → AllSet e held
+  load_first : (place : Place) (v : ℕ) (kind : LoadKind) (x : Operand) (k' : Form) (K : KnownInStretch) (held : List Held) (l : ℕ) (o : Option Held) (holder : Option ℕ) (d e : VariableSet) → Sub d e → AllSet e held
       → held_in held kind (symbol K x) ≡ o → h (number_of o l) ≡ holder → has e x ≡ true
       → ((f : VariableSet) → Sub (with_set v d) f → AllSet f (held_behind K held l v kind x o) → IsSetFirst form_flow f k') → IsSetFirst form_flow e (turned place v kind x o holder k')
   load_first place v kind x k' K held l None None d e sub a is it reads rest =

@@ -11,9 +11,9 @@ use Rattle.dae_alias.specs.declared.held.Held.{Held}
 use Rattle.dae_alias.specs.declared.stretch.Latest.{Latest}
 use Rattle.dae_alias.specs.Listed.{known_of}
 use Rattle.dae_alias.specs.Reuse.{known_behind}
-use Rattle.dae_alias.specs.Stretches.{Known, nothing, renewed, set, followed, after, IsSetOnceMore, IsSetSeldom}
+use Rattle.dae_alias.specs.Stretches.{KnownInStretch, nothing, renewed, set, followed, after, IsSetOnceMore, IsSetSeldom}
 
-abbrev known : (ℕ → SymAddr) → (ℕ → ℕ) → Known
+abbrev known : (ℕ → SymAddr) → (ℕ → ℕ) → KnownInStretch
 known values times = record { value = values; times = times }
 
 both_known : (f g : ℕ → SymAddr) (a b : ℕ → ℕ) → ((v : ℕ) → f v ≡ g v) → ((v : ℕ) → a v ≡ b v) → known f a ≡ known g b
@@ -42,50 +42,50 @@ known_insert {S} old new v x n one_more updates =
         by true p = rw (updates.0 u, p, turned u true p) (one_more ∙ ap (λ w. (known_of old).times w + 1) (eqb-true v u p))
         by false p = rw (updates.0 u, p, turned u false p) refl
 
-pub set_none : (K : Known) (v : ℕ) (y : SymAddr) → y ≡ renewed K v → set K v (Some y) ≡ set K v None
+pub set_none : (K : KnownInStretch) (v : ℕ) (y : SymAddr) → y ≡ renewed K v → set K v (Some y) ≡ set K v None
 set_none K v y e = ap (λ (z : SymAddr). set K v (Some z)) e
 
 -- ---- how often variables were set
 
-set_once : (s : Known) (v : ℕ) (x : Option SymAddr) → IsSetOnceMore s (set s v x)
+set_once : (s : KnownInStretch) (v : ℕ) (x : Option SymAddr) → IsSetOnceMore s (set s v x)
 set_once s v x u = by (nat_eq u v)
   where
     by : (b : Bool) → (if b then s.times u + 1 else s.times u) ≤ s.times u + 1
     by true = omega arith
     by false = omega arith
 
-behind_once : (s : Known) (v : ℕ) (given : Option Held) → IsSetOnceMore s (known_behind s v given)
+behind_once : (s : KnownInStretch) (v : ℕ) (given : Option Held) → IsSetOnceMore s (known_behind s v given)
 behind_once s v None = set_once s v None
 behind_once s v (Some e) = set_once s v (Some e.value)
 
-nothing_once : (s : Known) → IsSetOnceMore s nothing
+nothing_once : (s : KnownInStretch) → IsSetOnceMore s nothing
 nothing_once s v = omega arith
 
-as_it_was : (s : Known) → IsSetOnceMore s s
+as_it_was : (s : KnownInStretch) → IsSetOnceMore s s
 as_it_was s v = omega arith
 
-after_once : (s : Known) (item : Item) → IsSetOnceMore s (after s item)
+after_once : (s : KnownInStretch) (item : Item) → IsSetOnceMore s (after s item)
 after_once s (Assign v x) = set_once s v (followed s x)
 after_once s (Load v kind x) = set_once s v None
 after_once s (Store width x y) = as_it_was s
 after_once s (Expect check) = as_it_was s
 after_once s item = nothing_once s
 
-pub met_once : (s t : Known) (v : ℕ) (given : Option Held) → t ≡ known_behind s v given → IsSetOnceMore s t
-met_once s t v given is = subst (λ (k : Known). IsSetOnceMore s k) (sym is) (behind_once s v given)
+pub met_once : (s t : KnownInStretch) (v : ℕ) (given : Option Held) → t ≡ known_behind s v given → IsSetOnceMore s t
+met_once s t v given is = subst (λ (k : KnownInStretch). IsSetOnceMore s k) (sym is) (behind_once s v given)
 
-pub passed_once : (s t : Known) (item : Item) → t ≡ after s item → IsSetOnceMore s t
-passed_once s t item is = subst (λ (k : Known). IsSetOnceMore s k) (sym is) (after_once s item)
+pub passed_once : (s t : KnownInStretch) (item : Item) → t ≡ after s item → IsSetOnceMore s t
+passed_once s t item is = subst (λ (k : KnownInStretch). IsSetOnceMore s k) (sym is) (after_once s item)
 
-pub begun_once : (s t : Known) → t ≡ nothing → IsSetOnceMore s t
-begun_once s t is = subst (λ (k : Known). IsSetOnceMore s k) (sym is) (nothing_once s)
+pub begun_once : (s t : KnownInStretch) → t ≡ nothing → IsSetOnceMore s t
+begun_once s t is = subst (λ (k : KnownInStretch). IsSetOnceMore s k) (sym is) (nothing_once s)
 
 -- before statement i of a list each was set at most i times in its stretch
-pub further_seldom : (s t : Known) (i : ℕ) → ((v : ℕ) → s.times v ≤ i) → IsSetOnceMore s t → (v : ℕ) → t.times v ≤ i + 1
+pub further_seldom : (s t : KnownInStretch) (i : ℕ) → ((v : ℕ) → s.times v ≤ i) → IsSetOnceMore s t → (v : ℕ) → t.times v ≤ i + 1
 further_seldom s t i few once v = let a = few v in let b = once v in omega (arith, a, b)
 
-pub still_seldom : (s : Known) (i n : ℕ) → ((v : ℕ) → s.times v ≤ i) → i < n → n < 2 ^ 64 → IsSetSeldom s
+pub still_seldom : (s : KnownInStretch) (i n : ℕ) → ((v : ℕ) → s.times v ≤ i) → i < n → n < 2 ^ 64 → IsSetSeldom s
 still_seldom s i n few lt small v = let a = few v in omega (arith, a, lt, small)
 
-pub begun_seldom : (s : Known) (i : ℕ) → s ≡ nothing → (v : ℕ) → s.times v ≤ i
-begun_seldom s i is v = let none = ap (λ (k : Known). k.times v) is in omega (arith, none)
+pub begun_seldom : (s : KnownInStretch) (i : ℕ) → s ≡ nothing → (v : ℕ) → s.times v ≤ i
+begun_seldom s i is v = let none = ap (λ (k : KnownInStretch). k.times v) is in omega (arith, none)

@@ -20,7 +20,7 @@ use Rattle.dae_ir.specs.declared.form.Check.TheVariants.{Place as Good, InBounds
 use Rattle.dae_ir.specs.declared.form.Function.{Function}
 use Rattle.dae_ir.specs.declared.form.Item.{Item}
 use Rattle.dae_ir.specs.declared.form.Item.TheVariants.{Assign, Load, Store, Print, Expect, Break, Continue, Call, Return, Halt}
-use Rattle.dae_alias.specs.Stretches.{Known, nothing, symbol, after}
+use Rattle.dae_alias.specs.Stretches.{KnownInStretch, nothing, symbol, after}
 use Rattle.dae_alias.specs.declared.held.Held.{Held}
 use Rattle.dae_alias.specs.Reuse.{Holders, held_in, still_held, copy, loads_in, reused, turned, known_behind, held_behind}
 use Rattle.dae_alias.specs.Laws.{IsReused, TakesFewer, ReuseAddsNothing, sum_from}
@@ -192,7 +192,7 @@ module _ (functions : List Function) (old new : ℕ → VariableSet) (own : ℕ 
 
     -- it is so, whatever is known and held
     abbrev Keeps : Form → Type 0
-    Keeps code = (s : Known) (held : List Held) (l : ℕ) → Holds (reused h s held l code) → IsKept (reused h s held l code)
+    Keeps code = (s : KnownInStretch) (held : List Held) (l : ℕ) → Holds (reused h s held l code) → IsKept (reused h s held l code)
 
     load_kept : (place : Place) (v : ℕ) (kind : LoadKind) (x : Operand) (k : Form) → v < n → has (new f) x ≡ true → (i : ℕ) (given : Option Held) (holder : Option ℕ) → h i ≡ holder
         → (Holds k → IsKept k) → Holds (turned place v kind x given holder k) → IsKept (turned place v kind x given holder k)
@@ -255,7 +255,7 @@ module _ (functions : List Function) (old new : ℕ → VariableSet) (own : ℕ 
     own_counts i = counts (h i)
 
     abbrev Fewer : Form → Type 0
-    Fewer code = (s : Known) (held : List Held) (l : ℕ) → new_loads (reused h s held l code) + copies (reused h s held l code) ≤ old_loads code + sum_from own_counts l (loads_in code)
+    Fewer code = (s : KnownInStretch) (held : List Held) (l : ℕ) → new_loads (reused h s held l code) + copies (reused h s held l code) ≤ old_loads code + sum_from own_counts l (loads_in code)
 
     far_counts : (v u : ℕ) → n ≤ u → far_copy (copy v u) ≡ bit (old f v)
     far_counts v u far = rw (above_is u n far) refl
@@ -403,7 +403,7 @@ module _ (functions : List Function) (old new : ℕ → VariableSet) (own : ℕ 
     -- ---- conditions
 
     abbrev SameTests : Form → Type 0
-    SameTests code = (s : Known) (held : List Held) (l : ℕ) → tests (new f) (reused h s held l code) ≡ tests (old f) code
+    SameTests code = (s : KnownInStretch) (held : List Held) (l : ℕ) → tests (new f) (reused h s held l code) ≡ tests (old f) code
 
     load_tests : (place : Place) (v : ℕ) (kind : LoadKind) (x : Operand) (k : Form) (m : ℕ) (given : Option Held) (holder : Option ℕ) → tests (new f) k ≡ m → tests (new f) (turned place v kind x given holder k) ≡ 0 + m
     unfolding tests

@@ -14,7 +14,7 @@ use Rattle.dae_ir.specs.declared.form.Item.{Item}
 use Rattle.dae_ir.specs.declared.form.Item.TheVariants.{Assign, Load, Store, Print, Expect, Break, Continue, Call, Return, Halt}
 use Rattle.dae_alias.specs.declared.addresses.SymAddr.{SymAddr}
 use Rattle.dae_alias.specs.Addresses.{same_place, same_kind, are_apart}
-use Rattle.dae_alias.specs.Stretches.{Known, nothing, symbol, after}
+use Rattle.dae_alias.specs.Stretches.{KnownInStretch, nothing, symbol, after}
 use Rattle.dae_alias.specs.declared.held.Held.{Held}
 use Rattle.dae_alias.specs.Reuse.{Holders, bit, held_in, still_held, copy, loads_in, known_behind, held_behind, number_of, turned, reused, repeats, is_repeated}
 use Rattle.dae_alias.specs.Laws.{sum_from, one, own_variables, HasOnlyRepeated, ReuseStaysSmall}
@@ -41,7 +41,7 @@ module _ (h : Holders) where
       → 1 + (a + (a' + a'')) ≤ (1 + (n + (n' + n''))) + sum_from owned l (m + (m' + m''))
   joins_size a a' a'' n n' n'' l m m' m'' s s' s'' = rw (range_both owned l m (m' + m''), range_both owned (l + m) m' m'') (omega (arith, s, s', s''))
 
-  code_size : (code : Form) (s : Known) (held : List Held) (l : ℕ) → form_size (reused h s held l code) ≤ form_size code + sum_from owned l (loads_in code)
+  code_size : (code : Form) (s : KnownInStretch) (held : List Held) (l : ℕ) → form_size (reused h s held l code) ≤ form_size code + sum_from owned l (loads_in code)
   code_size Done s held l = omega arith
   code_size (Do place (Assign v x) k) s held l = keeps_size 1 _ _ l (loads_in k) (code_size k _ held l)
   code_size (Do place (Load v kind x) k) s held l =
@@ -70,7 +70,7 @@ module _ (h : Holders) where
     load_count place v kind x k None (Some u) = let e = no_load u kind x in let c = no_copy v u in omega (arith, e, c)
     load_count place v kind x k (Some e) (Some u) = let c = no_copy v u in omega (arith, c)
 
-    code_count : (code : Form) (s : Known) (held : List Held) (l : ℕ) → tally f g (reused h s held l code) ≡ tally f g code
+    code_count : (code : Form) (s : KnownInStretch) (held : List Held) (l : ℕ) → tally f g (reused h s held l code) ≡ tally f g code
     code_count Done s held l = refl
     code_count (Do place (Assign v x) k) s held l = ap (λ (a : ℕ). f (Assign v x) + a) (code_count k _ held l)
     code_count (Do place (Load v kind x) k) s held l =
@@ -98,7 +98,7 @@ abbrev flip : Bool → Bool
 flip true = false
 flip false = true
 
-abbrev repeating : Known → List Held → ℕ → Form → ℕ
+abbrev repeating : KnownInStretch → List Held → ℕ → Form → ℕ
 repeating s held l Done = 0
 repeating s held l (Do place (Load v kind x) k) =
     bit (is_given (held_in held kind (symbol s x))) + repeating (known_behind s v (held_in held kind (symbol s x))) (held_behind s held l v kind x (held_in held kind (symbol s x))) (suc l) k
@@ -115,7 +115,7 @@ repeating s held l (If place t p q k) = repeating nothing [] l p + (repeating no
 repeating s held l (Loop place p q k) = repeating nothing [] l p + (repeating nothing [] (l + loads_in p) q + repeating nothing [] (l + loads_in p + loads_in q) k)
 
 -- number i is that of a first load
-abbrev is_first_load : ℕ → Known → List Held → ℕ → Form → Bool
+abbrev is_first_load : ℕ → KnownInStretch → List Held → ℕ → Form → Bool
 is_first_load i s held l Done = false
 is_first_load i s held l (Do place (Load v kind x) k) =
     (flip (is_given (held_in held kind (symbol s x))) && nat_eq l i) || is_first_load i (known_behind s v (held_in held kind (symbol s x))) (held_behind s held l v kind x (held_in held kind (symbol s x))) (suc l) k
@@ -157,9 +157,9 @@ found_is_held i (x ∷ xs) kind at (Some g) is r = by (λ e. found_is_held i xs 
 
 -- what is repeated is held, or a first load
 abbrev IsKnown : Form → Type 0
-IsKnown code = (i : ℕ) (s : Known) (held : List Held) (l : ℕ) → is_repeated i s held l code ≡ true → (is_held i held || is_first_load i s held l code) ≡ true
+IsKnown code = (i : ℕ) (s : KnownInStretch) (held : List Held) (l : ℕ) → is_repeated i s held l code ≡ true → (is_held i held || is_first_load i s held l code) ≡ true
 
-load_known : (i l v : ℕ) (kind : LoadKind) (x : Operand) (s : Known) (held : List Held) (o : Option Held) (b : Bool) → held_in held kind (symbol s x) ≡ o → (repeats i o ≡ true) ⊎ ((is_held i (held_behind s held l v kind x o) || b) ≡ true)
+load_known : (i l v : ℕ) (kind : LoadKind) (x : Operand) (s : KnownInStretch) (held : List Held) (o : Option Held) (b : Bool) → held_in held kind (symbol s x) ≡ o → (repeats i o ≡ true) ⊎ ((is_held i (held_behind s held l v kind x o) || b) ≡ true)
     → (is_held i held || ((flip (is_given o) && nat_eq l i) || b)) ≡ true
 load_known i l v kind x s held o b is (inl r) = or_left _ _ (found_is_held i held kind (symbol s x) o is r)
 load_known i l v kind x s held None b is (inr r) =
@@ -227,7 +227,7 @@ module _ (c : ℕ) where
   sum_given None = range_zero c
   sum_given (Some g) = sum_same g.number c
 
-  repeats_few : (code : Form) (s : Known) (held : List Held) (l : ℕ) → sum_from (λ i. bit (is_repeated i s held l code)) 0 c ≤ repeating s held l code
+  repeats_few : (code : Form) (s : KnownInStretch) (held : List Held) (l : ℕ) → sum_from (λ i. bit (is_repeated i s held l code)) 0 c ≤ repeating s held l code
   repeats_few Done s held l = range_zero c
   repeats_few (Do place (Assign v x) k) s held l = repeats_few k _ held l
   repeats_few (Do place (Load v kind x) k) s held l =
@@ -253,7 +253,7 @@ module _ (c : ℕ) where
   sum_first l false = sum_same l c
 
   -- the first ones and those that repeat are all
-  abbrev firsts : Form → Known → List Held → ℕ → ℕ
+  abbrev firsts : Form → KnownInStretch → List Held → ℕ → ℕ
   firsts code s held l = sum_from (λ i. bit (is_first_load i s held l code)) 0 c
 
   load_few : (l : ℕ) (b : Bool) (f : ℕ → Bool) (r m : ℕ) → sum_from (λ i. bit (f i)) 0 c + r ≤ m → sum_from (λ i. bit ((flip b && nat_eq l i) || f i)) 0 c + (bit b + r) ≤ 1 + m
@@ -268,7 +268,7 @@ module _ (c : ℕ) where
       let s = sum_or f (λ i. g i || k i) c (sum_from (λ i. bit (f i)) 0 c) (sum_from (λ i. bit (g i)) 0 c + sum_from (λ i. bit (k i)) 0 c) (omega arith)
       (sum_or g k c (sum_from (λ i. bit (g i)) 0 c) (sum_from (λ i. bit (k i)) 0 c) (omega arith) (omega arith)) in omega (arith, s, a, b, d)
 
-  firsts_few : (code : Form) (s : Known) (held : List Held) (l : ℕ) → firsts code s held l + repeating s held l code ≤ loads_in code
+  firsts_few : (code : Form) (s : KnownInStretch) (held : List Held) (l : ℕ) → firsts code s held l + repeating s held l code ≤ loads_in code
   firsts_few Done s held l = let z = range_zero c in omega (arith, z)
   firsts_few (Do place (Assign v x) k) s held l = let r = firsts_few k (after s (Assign v x)) held l in omega (arith, r)
   firsts_few (Do place (Load v kind x) k) s held l =

@@ -11,18 +11,18 @@ use Rattle.dae_ir.specs.declared.form.Statement.TheVariants as statement
 use Rattle.dae_ir.proofs.Laws.{before_if, before_loop}
 use Rattle.dae_alias.specs.declared.held.Held.{Held}
 use Rattle.dae_alias.specs.declared.walking.Walk.{Walk}
-use Rattle.dae_alias.specs.declared.turning.Part.{Part}
+use Rattle.dae_alias.specs.declared.turning.ReusedList.{ReusedList}
 use Rattle.dae_alias.specs.Meeting.{known_in, held_by}
-use Rattle.dae_alias.specs.Stretches.{Known, nothing}
+use Rattle.dae_alias.specs.Stretches.{KnownInStretch, nothing}
 use Rattle.dae_alias.specs.Reuse.{Holders, loads_in, reused}
-use Rattle.dae_alias.specs.Turning.{onto, reused_from, Turns, IsTurned}
+use Rattle.dae_alias.specs.Turning.{onto, reused_from, TurnsInto, IsTurned}
 use Rattle.dae_alias.proofs.Onto.{onto_end, form_onto}
 
 -- what a walk with these contents goes on with
-from_same : (h : Holders) (w : Walk) (s : Known) (held : List Held) (l : ℕ) (k : Form) → known_in w ≡ s → held_by w ≡ held → w.loads ≡ l → reused_from h w k ≡ reused h s held l k
+from_same : (h : Holders) (w : Walk) (s : KnownInStretch) (held : List Held) (l : ℕ) (k : Form) → known_in w ≡ s → held_by w ≡ held → w.loads ≡ l → reused_from h w k ≡ reused h s held l k
 from_same h w s held l k e d c = rw (e, d, c) refl
 
-module _ (h : Holders) (old new : Walk) (out out' : List Statement) (p q : Part) (yes no' : Vec Statement Global) (first : IsTurned h yes.items old.loads p) (second : IsTurned h no'.items p.loads q)
+module _ (h : Holders) (old new : Walk) (out out' : List Statement) (p q : ReusedList) (yes no' : Vec Statement Global) (first : IsTurned h yes.items old.loads p) (second : IsTurned h no'.items p.loads q)
     (known : known_in new ≡ nothing) (held : held_by new ≡ []) (count : new.loads ≡ q.loads) where
   total : new.loads ≡ old.loads + loads_in (form_of yes.items) + loads_in (form_of no'.items)
   total = count ∙ second.loads ∙ ap (λ (l : ℕ). l + loads_in (form_of no'.items)) first.loads
@@ -30,7 +30,7 @@ module _ (h : Holders) (old new : Walk) (out out' : List Statement) (p q : Part)
   second_code : form_of (let xs = q.statements in xs.items) ≡ reused h nothing [] (old.loads + loads_in (form_of yes.items)) (form_of no'.items)
   second_code = second.code ∙ ap (λ (l : ℕ). reused h nothing [] l (form_of no'.items)) first.loads
 
-  pub if_turns : (place : Place) (test : Test) → out' ≡ out ++ statement.If place test p.statements q.statements ∷ [] → Turns h (statement.If place test yes no') old new out out'
+  pub if_turns : (place : Place) (test : Test) → out' ≡ out ++ statement.If place test p.statements q.statements ∷ [] → TurnsInto h (statement.If place test yes no') old new out out'
   if_turns place test e = record {
     written = λ k.
         ap (λ (xs : List Statement). onto xs (reused_from h new k)) e ∙ onto_end out (statement.If place test p.statements q.statements) (reused_from h new k)
@@ -41,7 +41,7 @@ module _ (h : Holders) (old new : Walk) (out out' : List Statement) (p q : Part)
     loads = total ∙ (let e : loads_in (before (statement.If place test yes no') Done) ≡ loads_in (If place test (form_of yes.items) (form_of no'.items) Done) = ap loads_in (before_if place test yes no' Done) in omega (arith, e));
   }
 
-  pub loop_turns : (place : Place) → out' ≡ out ++ statement.Loop place p.statements q.statements ∷ [] → Turns h (statement.Loop place yes no') old new out out'
+  pub loop_turns : (place : Place) → out' ≡ out ++ statement.Loop place p.statements q.statements ∷ [] → TurnsInto h (statement.Loop place yes no') old new out out'
   loop_turns place e = record {
     written = λ k.
         ap (λ (xs : List Statement). onto xs (reused_from h new k)) e ∙ onto_end out (statement.Loop place p.statements q.statements) (reused_from h new k)
@@ -82,7 +82,7 @@ turned_first h l ss w out known held count none = record {
   count = omega (arith, count);
 }
 
-pub turned_next : (h : Holders) (l : ℕ) (ss : List Statement) (i : ℕ) (s : Statement) (old new : Walk) (out out' : List Statement) → i < length ss → s ≡ get_or ss i s → Turned h l ss i old out → Turns h s old new out out' → Turned h l ss (i + 1) new out'
+pub turned_next : (h : Holders) (l : ℕ) (ss : List Statement) (i : ℕ) (s : Statement) (old new : Walk) (out out' : List Statement) → i < length ss → s ≡ get_or ss i s → Turned h l ss i old out → TurnsInto h s old new out out' → Turned h l ss (i + 1) new out'
 turned_next h l ss i s old new out out' lt is so_far t =
     let split : form_of (drop i ss) ≡ before s (form_of (drop (i + 1) ss)) = ap form_of (drop_one ss i s lt) ∙ ap (λ (z : Statement). before z (form_of (drop (i + 1) ss))) (sym is) in
     record {

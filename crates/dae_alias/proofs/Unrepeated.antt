@@ -9,7 +9,7 @@ use Rattle.dae_ir.specs.declared.form.Operand.{Operand}
 use Rattle.dae_ir.specs.declared.form.Function.{Function}
 use Rattle.dae_ir.specs.declared.form.Item.TheVariants.{Assign, Load, Store, Print, Expect, Break, Continue, Call, Return, Halt}
 use Rattle.dae_alias.specs.declared.held.Held.{Held}
-use Rattle.dae_alias.specs.Stretches.{Known, nothing, symbol, after}
+use Rattle.dae_alias.specs.Stretches.{KnownInStretch, nothing, symbol, after}
 use Rattle.dae_alias.specs.Reuse.{Holders, held_in, still_held, loads_in, known_behind, held_behind, turned, reused}
 use Rattle.dae_alias.specs.Laws.{sum_from, one, own_variables}
 use Rattle.dae_alias.specs.Marking.{marked, AreRepeated}
@@ -23,7 +23,7 @@ load_stays : (place : Place) (v : ℕ) (kind : LoadKind) (x : Operand) (o : Opti
 load_stays place v kind x None k = refl
 load_stays place v kind x (Some e) k = refl
 
-stays : (code : Form) (s : Known) (held : List Held) (l : ℕ) → reused nobody s held l code ≡ code
+stays : (code : Form) (s : KnownInStretch) (held : List Held) (l : ℕ) → reused nobody s held l code ≡ code
 stays Done s held l = refl
 stays (Do place (Assign v x) k) s held l = ap (λ (c : Form). Do place (Assign v x) c) (stays k (after s (Assign v x)) held l)
 stays (Do place (Load v kind x) k) s held l =

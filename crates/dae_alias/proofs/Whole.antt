@@ -9,7 +9,7 @@ use Rattle.dae_ir.specs.Form.{form_of}
 use Rattle.dae_ir.specs.declared.form.Statement.{Statement}
 use Rattle.dae_ir.specs.declared.form.Function.{Function}
 use Rattle.dae_alias.specs.declared.tables.Table.{Table}
-use Rattle.dae_alias.specs.declared.turning.Part.{Part}
+use Rattle.dae_alias.specs.declared.turning.ReusedList.{ReusedList}
 use Rattle.dae_alias.specs.Stretches.{nothing}
 use Rattle.dae_alias.specs.Reuse.{reused}
 use Rattle.dae_alias.specs.Laws.{sum_from, one}
@@ -20,7 +20,7 @@ use Rattle.dae_alias.specs.Tables.{numbered, IsTable}
 use Rattle.dae_alias.proofs.Numbered.{sum_numbered, entry_marked, marked_entry, entry_within, entry_apart}
 
 -- what is made of a function, by marks, a table and its turned statements
-pub reused_function : (f : Function) (marks : List Bool) (table : Table) (part : Part) (body : List Statement) → AreRepeated f.body marks → IsTable marks f.variables table
+pub reused_function : (f : Function) (marks : List Bool) (table : Table) (part : ReusedList) (body : List Statement) → AreRepeated f.body marks → IsTable marks f.variables table
     → IsTurned (holders_of (let xs = table.holders in xs.items)) f.body 0 part → body ≡ (let xs = part.statements in xs.items)
     → IsReusedFunction f (record { name = f.name; parameters = f.parameters; variables = table.variables; frame = f.frame; body = body })
 reused_function f marks table part body a t p e = record {

@@ -5,10 +5,10 @@ use Rattle.dae_ir.specs.declared.form.Operand.{Operand}
 use Rattle.dae_alias.specs.declared.held.Held.{Held}
 use Rattle.dae_alias.specs.declared.walking.Walk.{Walk}
 use Rattle.dae_alias.specs.Listed.{known_of}
-use Rattle.dae_alias.specs.Stretches.{Known, symbol}
+use Rattle.dae_alias.specs.Stretches.{KnownInStretch, symbol}
 use Rattle.dae_alias.specs.Reuse.{held_in, known_behind, held_behind}
 
-abbrev pub known_in : Walk → Known
+abbrev pub known_in : Walk → KnownInStretch
 known_in w = known_of w.sets
 
 abbrev pub held_by : Walk → List Held

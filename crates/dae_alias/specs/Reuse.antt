@@ -16,7 +16,7 @@ use Rattle.dae_ir.specs.declared.form.Item.TheVariants.{Assign, Load, Store, Pri
 use Rattle.dae_alias.specs.declared.addresses.SymAddr.{SymAddr}
 use Rattle.dae_alias.specs.declared.held.Held.{Held}
 use Rattle.dae_alias.specs.Addresses.{same_place, same_kind, are_apart}
-use Rattle.dae_alias.specs.Stretches.{Known, nothing, symbol, renewed, set, after}
+use Rattle.dae_alias.specs.Stretches.{KnownInStretch, nothing, symbol, renewed, set, after}
 
 -- what is held for a load of this kind from this address
 abbrev pub held_in : List Held → LoadKind → SymAddr → Option Held
@@ -50,11 +50,11 @@ copy v u = Assign v (val.Same (operand.Variable u))
 
 -- ---- a load into v, of number l, where such a load is held or not
 
-abbrev pub known_behind : Known → ℕ → Option Held → Known
+abbrev pub known_behind : KnownInStretch → ℕ → Option Held → KnownInStretch
 known_behind s v None = set s v None
 known_behind s v (Some e) = set s v (Some e.value)
 
-abbrev pub held_behind : Known → List Held → ℕ → ℕ → LoadKind → Operand → Option Held → List Held
+abbrev pub held_behind : KnownInStretch → List Held → ℕ → ℕ → LoadKind → Operand → Option Held → List Held
 held_behind s held l v kind x None =
     record { kind = kind; at = symbol s x; value = renewed s v; number = l } ∷ held
 held_behind s held l v kind x (Some e) = held
@@ -73,7 +73,7 @@ turned place v kind x (Some e) (Some u) k = Do place (copy v u) k
 
 -- ---- code, where l loads were met before it
 
-abbrev pub reused : Holders → Known → List Held → ℕ → Form → Form
+abbrev pub reused : Holders → KnownInStretch → List Held → ℕ → Form → Form
 reused h s held l Done = Done
 reused h s held l (Do place (Assign v x) k) =
     Do place (Assign v x) (reused h (after s (Assign v x)) held l k)
@@ -106,7 +106,7 @@ repeats i None = false
 repeats i (Some e) = nat_eq e.number i
 
 -- load number i is repeated in the code
-abbrev pub is_repeated : ℕ → Known → List Held → ℕ → Form → Bool
+abbrev pub is_repeated : ℕ → KnownInStretch → List Held → ℕ → Form → Bool
 is_repeated i s held l Done = false
 is_repeated i s held l (Do place (Assign v x) k) = is_repeated i (after s (Assign v x)) held l k
 is_repeated i s held l (Do place (Load v kind x) k) =

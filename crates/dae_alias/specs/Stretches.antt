@@ -19,15 +19,15 @@ use Rattle.dae_alias.specs.declared.addresses.SymAddr.{SymAddr}
 use Rattle.dae_alias.specs.Addresses.{same_place, same_kind, are_apart}
 
 -- what is known in a stretch: what each variable holds, and how often it was set
-pub record Known : Type 0 where
+pub record KnownInStretch : Type 0 where
   pub value : ℕ → SymAddr
   pub times : ℕ → ℕ
 
 -- at a stretch's start
-abbrev pub nothing : Known
+abbrev pub nothing : KnownInStretch
 nothing = record { value = λ v. record { base = Variable v 0; offset = 0 }; times = λ v. 0 }
 
-abbrev pub symbol : Known → Operand → SymAddr
+abbrev pub symbol : KnownInStretch → Operand → SymAddr
 symbol s (operand.Variable v) = s.value v
 symbol s (operand.Number k) = record { base = Number; offset = k }
 
@@ -35,7 +35,7 @@ abbrev pub shifted : SymAddr → ℕ → SymAddr
 shifted x k = record { base = x.base; offset = plus x.offset k }
 
 -- of an assignment that can be followed
-abbrev pub followed : Known → Value → Option SymAddr
+abbrev pub followed : KnownInStretch → Value → Option SymAddr
 followed s (val.Same x) = Some (symbol s x)
 followed s (val.Binary Add x (operand.Number k)) = Some (shifted (symbol s x) k)
 followed s (val.Binary Add (operand.Number k) (operand.Variable v)) = Some (shifted (s.value v) k)
@@ -44,29 +44,29 @@ followed s (val.FrameAddress offset) = Some (record { base = Frame; offset = off
 followed s x = None
 
 -- what v holds from now on, where it isn't followed
-abbrev pub renewed : Known → ℕ → SymAddr
+abbrev pub renewed : KnownInStretch → ℕ → SymAddr
 renewed s v = record { base = Variable v (s.times v + 1); offset = 0 }
 
-abbrev pub given : Known → ℕ → Option SymAddr → SymAddr
+abbrev pub given : KnownInStretch → ℕ → Option SymAddr → SymAddr
 given s v None = renewed s v
 given s v (Some x) = x
 
-abbrev pub set : Known → ℕ → Option SymAddr → Known
+abbrev pub set : KnownInStretch → ℕ → Option SymAddr → KnownInStretch
 set s v x = record {
   value = λ u. if nat_eq u v then given s v x else s.value u;
   times = λ u. if nat_eq u v then s.times u + 1 else s.times u;
 }
 
 -- a count of 64 bits has room for one more set of each variable
-abbrev pub IsSetSeldom : Known → Type 0
+abbrev pub IsSetSeldom : KnownInStretch → Type 0
 IsSetSeldom s = (v : ℕ) → s.times v + 1 < 2 ^ 64
 
 -- each variable was set at most once more
-abbrev pub IsSetOnceMore : Known → Known → Type 0
+abbrev pub IsSetOnceMore : KnownInStretch → KnownInStretch → Type 0
 IsSetOnceMore s t = (v : ℕ) → t.times v ≤ s.times v + 1
 
 -- behind an item; one that stands in no stretch ends it
-abbrev pub after : Known → Item → Known
+abbrev pub after : KnownInStretch → Item → KnownInStretch
 after s (Assign v x) = set s v (followed s x)
 after s (Load v kind x) = set s v None
 after s (Store width x y) = s
@@ -81,7 +81,7 @@ after s (Halt x) = nothing
 -- ---- second loads
 
 -- the rest of a stretch holds a load of this kind from this address, where each store before it is apart from the address
-abbrev pub loads_again : LoadKind → SymAddr → Known → Form → Bool
+abbrev pub loads_again : LoadKind → SymAddr → KnownInStretch → Form → Bool
 loads_again kind at s Done = false
 loads_again kind at s (Do place (Assign v x) k) = loads_again kind at (after s (Assign v x)) k
 loads_again kind at s (Do place (Load v kind' x) k) =
@@ -99,12 +99,12 @@ loads_again kind at s (Do place (Halt x) k) = false
 loads_again kind at s (If place test p q k) = false
 loads_again kind at s (Loop place body step k) = false
 
-abbrev pub is_first : Known → Item → Form → Bool
+abbrev pub is_first : KnownInStretch → Item → Form → Bool
 is_first s (Load v kind x) k = loads_again kind (symbol s x) (after s (Load v kind x)) k
 is_first s item k = false
 
 -- some stretch holds two such loads, the rest of the first one from s on
-abbrev pub has_second : Known → Form → Bool
+abbrev pub has_second : KnownInStretch → Form → Bool
 has_second s Done = false
 has_second s (Do place item k) = is_first s item k || has_second (after s item) k
 has_second s (If place test p q k) =

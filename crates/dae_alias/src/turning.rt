@@ -4,7 +4,7 @@ ghost use Rattle.std.specs.Prelude.{◌≡◌, ◌+◌, ◌^◌, ◌<◌, OnOk, 
 ghost use Rattle.dae_alias.specs.Meeting.{known_in};
 ghost use Rattle.dae_alias.specs.Reuse.{copy, loads_in, number_of, turned};
 ghost use Rattle.dae_alias.specs.Stretches.{IsSetOnceMore, IsSetSeldom};
-ghost use Rattle.dae_alias.specs.Turning.{IsTurned, Turns, Writes, holders_of};
+ghost use Rattle.dae_alias.specs.Turning.{IsTurned, TurnsInto, Writes, holders_of};
 ghost use Rattle.dae_ir.specs.declared.form.Statement.TheVariants.{Simple};
 ghost use Rattle.dae_ir.specs.Code.{Do, Done};
 ghost use Rattle.dae_ir.specs.Form.{before, form_of};
@@ -27,7 +27,7 @@ pub struct FoundLoad {
 
 /// A list of statements with its loads reused, and the number of loads up to its end.
 #[derive(Drop)]
-pub struct Part {
+pub struct ReusedList {
     pub statements: Vec<Statement>,
     pub loads: usize,
 }
@@ -114,7 +114,7 @@ fn turn_load(
     requires loads { walk.old.loads + 1 < 2 ^ 64 }
     requires seldom { IsSetSeldom (known_in walk.old) }
     ensures turns { OnOk result
-        (Turns (holders_of table.now)
+        (TurnsInto (holders_of table.now)
         (Simple load.place (item.Load load.variable load.kind load.address)) walk.old walk.new
         out.old.items out.new.items) }
     ensures once { OnOk result (IsSetOnceMore (known_in walk.old) (known_in walk.new)) }
@@ -136,7 +136,7 @@ fn turn_item(
     requires loads { walk.old.loads + loads_in (Do place item.now Done) < 2 ^ 64 }
     requires seldom { IsSetSeldom (known_in walk.old) }
     ensures turns { OnOk result
-        (Turns (holders_of table.now) (Simple place item.now) walk.old walk.new out.old.items
+        (TurnsInto (holders_of table.now) (Simple place item.now) walk.old walk.new out.old.items
         out.new.items) }
     ensures once { OnOk result (IsSetOnceMore (known_in walk.old) (known_in walk.new)) }
 {
@@ -161,7 +161,7 @@ pub fn turn_statements(
     table: &[Option<u32>],
     loads: usize,
     statements: &[Statement],
-) -> Result<Part, AllocError>
+) -> Result<ReusedList, AllocError>
     requires { loads + loads_in (form_of statements.now) < 2 ^ 64 }
     ensures { IfOk result (IsTurned (holders_of table.now) statements.now loads) }
 {
@@ -170,7 +170,7 @@ pub fn turn_statements(
     for statement in statements {
         turn_statement(alloc, table, &mut walk, statement, &mut out)?;
     }
-    Ok(Part {
+    Ok(ReusedList {
         statements: out,
         loads: walk.loads,
     })
@@ -187,7 +187,7 @@ fn turn_statement(
     requires loads { walk.old.loads + loads_in (before statement.now Done) < 2 ^ 64 }
     requires seldom { IsSetSeldom (known_in walk.old) }
     ensures turns { OnOk result
-        (Turns (holders_of table.now) statement.now walk.old walk.new out.old.items
+        (TurnsInto (holders_of table.now) statement.now walk.old walk.new out.old.items
         out.new.items) }
     ensures once { OnOk result (IsSetOnceMore (known_in walk.old) (known_in walk.new)) }
 {

@@ -3,12 +3,12 @@ use Rattle.std.proofs.Common.{◌≡◌, ℕ, ◌+◌, ◌*◌, ◌/◌, ◌%◌
 use Rattle.std.proofs.lemmas.List.{length-map}
 use Rattle.dae_image.specs.Ranges.{IsIn, words_range, content_range}
 use Rattle.dae_image.specs.declared.LineMark.{LineMark}
-use Rattle.dae_image.specs.Contents.{Contents, Fits, HeaderFits, header}
+use Rattle.dae_image.specs.Contents.{ImageContents, Fits, HeaderFits, header}
 use Rattle.dae_asm_order.specs.Sheets.{Row, Sheet}
 use Rattle.dae_asm_labels.specs.Labels.{Look, words, labels_a, labels_e}
-use Rattle.dae_asm_lines.specs.Targets.{Target}
+use Rattle.dae_asm_lines.specs.Targets.{JumpTarget}
 use Rattle.dae_asm_values.specs.Values.{IsEntry}
-use Rattle.dae_asm_data.specs.declared.marks.Counts.{Counts}
+use Rattle.dae_asm_data.specs.declared.marks.TextCounts.{TextCounts}
 use Rattle.dae_asm_data.specs.Data.{MarkRow}
 use Rattle.dae_asm_data.specs.Parts.{IsContent, AreMarks, AreNames}
 use Rattle.dae_asm.specs.declared.head.Head.{Head}
@@ -17,7 +17,7 @@ use Rattle.dae_asm.specs.Making.{AreFew, IsHead, IsCode}
 use Rattle.dae_asm.proofs.Headed.{head_kept}
 use Rattle.dae_asm.proofs.Parted.{Kept}
 
-abbrev pub made_of : Head → List ℕ → List ℕ → List ℕ → List LineMark → List (List ℕ) → Contents
+abbrev pub made_of : Head → List ℕ → List ℕ → List ℕ → List LineMark → List (List ℕ) → ImageContents
 made_of h code_a code_e content lines names = record {
   budget = h.budget;
   memory = h.memory;
@@ -33,7 +33,7 @@ made_of h code_a code_e content lines names = record {
   names = names;
 }
 
-abbrev pub counts_are : ℕ → ℕ → ℕ → Counts
+abbrev pub counts_are : ℕ → ℕ → ℕ → TextCounts
 counts_are a e n = record { words_a = a; words_e = e; names = n }
 
 -- what image_of has made
@@ -52,7 +52,7 @@ remainder_one n = omega arith
 below_end : (n len count : ℕ) → len ≡ count → n < 4 * count → n / 4 + 1 ≤ len
 below_end n len count e h = omega arith
 
-words_fit : (labels : Look) (count : ℕ) (t : Target) (n len : ℕ) → IsEntry labels count t n → len ≡ count → 1 ≤ len → count ≤ 33554432 → IsIn (words_range n) len
+words_fit : (labels : Look) (count : ℕ) (t : JumpTarget) (n len : ℕ) → IsEntry labels count t n → len ≡ count → 1 ≤ len → count ≤ 33554432 → IsIn (words_range n) len
 words_fit labels count t n len h e some few =
     let within : n / 4 + 1 ≤ len = elim h.inside [ inl none ↦ absurd (omega arith) | inr low ↦ below_end n len count e low ] in
     (within, (omega arith), remainder_one len)
@@ -133,10 +133,10 @@ kept_of s h a e code_a code_e head ka ke in_a in_e = record {
   e = (code_is s.begin_e e (labels_e s) s.code_e code_e ke in_e).kept;
 }
 
-pub marks_are : (found known : Counts) (rows : List MarkRow) (ms : List LineMark) → found ≡ known → AreMarks found rows ms → AreMarks known rows ms
-marks_are found known rows ms same h = subst (λ (n : Counts). AreMarks n rows ms) same h
+pub marks_are : (found known : TextCounts) (rows : List MarkRow) (ms : List LineMark) → found ≡ known → AreMarks found rows ms → AreMarks known rows ms
+marks_are found known rows ms same h = subst (λ (n : TextCounts). AreMarks n rows ms) same h
 
-pub parts_of : (s : Sheet) (h : Head) (a e : Look) (counts : Counts) (ws_a ws_e bytes : List ℕ) (ms : List LineMark) (ns : List (List ℕ)) (code_a code_e content : List ℕ) (lines : List LineMark) (names : List (List ℕ))
+pub parts_of : (s : Sheet) (h : Head) (a e : Look) (counts : TextCounts) (ws_a ws_e bytes : List ℕ) (ms : List LineMark) (ns : List (List ℕ)) (code_a code_e content : List ℕ) (lines : List LineMark) (names : List (List ℕ))
     → a ≡ labels_a s → e ≡ labels_e s → counts ≡ counts_of s
     → code_a ≡ ws_a → code_e ≡ ws_e → content ≡ bytes → lines ≡ ms → names ≡ ns
     → AreFew s → IsHead s h → IsCode s.begin_a a s.code_a ws_a → IsCode s.begin_e e s.code_e ws_e → IsContent h.memory s.bytes bytes → AreMarks counts s.marks ms → AreNames s.names ns

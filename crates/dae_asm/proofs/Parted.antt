@@ -4,7 +4,7 @@ use Rattle.dae_asm_order.specs.Sheets.{Sheet}
 use Rattle.dae_asm_labels.specs.Labels.{Look, labels_a, labels_e}
 use Rattle.dae_asm_data.specs.declared.faults.ValueFault.{ValueFault}
 use Rattle.dae_asm_data.specs.declared.faults.ValueFault.TheVariants as faults
-use Rattle.dae_asm_data.specs.declared.marks.Counts.{Counts}
+use Rattle.dae_asm_data.specs.declared.marks.TextCounts.{TextCounts}
 use Rattle.dae_asm_data.specs.Bounds.{Bound, AreKept, data_bounds, mark_bounds, name_bounds, IsFirstBroken, IsValueFault}
 use Rattle.dae_asm_data.specs.Walking.{Leads}
 use Rattle.dae_asm_data.proofs.Laws.{starts, past_part, breaks_in}
@@ -88,8 +88,8 @@ data_is s memory e k = subst (λ (z : ℤ). AreKept (data_bounds z 0 s.bytes)) (
 pub data_fault : (s : Sheet) (e : ValueFault) (memory : ℕ) → Kept s → s.memory.1 ≡ pos memory → IsValueFault (data_of s memory) e → IsValueFault (bounds s) e
 data_fault s e memory k same h = fault_in (bounds s) (the_data s) (from_marks s) e (at_data s k) (subst (λ (z : ℤ). IsValueFault (data_bounds z 0 s.bytes) e) (sym same) h)
 
-pub marks_fault : (s : Sheet) (e : ValueFault) (memory : ℕ) (found : Counts) → found ≡ counts_of s → Kept s → s.memory.1 ≡ pos memory → AreKept (data_of s memory) → IsValueFault (mark_bounds found 0 None s.marks) e → IsValueFault (bounds s) e
-marks_fault s e memory found counted k same d h = fault_in (bounds s) (the_marks s) (from_names s) e (at_marks s k (data_is s memory same d)) (subst (λ (n : Counts). IsValueFault (mark_bounds n 0 None s.marks) e) counted h)
+pub marks_fault : (s : Sheet) (e : ValueFault) (memory : ℕ) (found : TextCounts) → found ≡ counts_of s → Kept s → s.memory.1 ≡ pos memory → AreKept (data_of s memory) → IsValueFault (mark_bounds found 0 None s.marks) e → IsValueFault (bounds s) e
+marks_fault s e memory found counted k same d h = fault_in (bounds s) (the_marks s) (from_names s) e (at_marks s k (data_is s memory same d)) (subst (λ (n : TextCounts). IsValueFault (mark_bounds n 0 None s.marks) e) counted h)
 
 pub names_fault : (s : Sheet) (e : ValueFault) (memory : ℕ) → Kept s → s.memory.1 ≡ pos memory → AreKept (data_of s memory) → AreKept (the_marks s) → IsValueFault (from_names s) e → IsValueFault (bounds s) e
 names_fault s e memory k same d m h = last_fault (bounds s) (from_names s) e (at_names s k (data_is s memory same d) m) h

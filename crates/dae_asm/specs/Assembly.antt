@@ -2,14 +2,14 @@
 use Rattle.std.specs.Prelude.{◌≡◌, ℕ, pos, List, [], ◌∷◌, ◌++◌, map, length, Some, None}
 use Rattle.dae_image.specs.declared.Image.{Image}
 use Rattle.dae_image.specs.Ranges.{memory_range, calls_range, private_range}
-use Rattle.dae_image.specs.Contents.{Contents}
+use Rattle.dae_image.specs.Contents.{ImageContents}
 use Rattle.dae_image.specs.Images.{contents}
 use Rattle.dae_asm_order.specs.Sheets.{Row, Sheet, IsSheet}
 use Rattle.dae_asm_order.specs.Order.{IsBadLine}
 use Rattle.dae_asm_labels.specs.Labels.{Look, words, labels_a, labels_e, all_label_tests, first_false}
 use Rattle.dae_asm_values.specs.Values.{depths, IsAddress}
 use Rattle.dae_asm_values.specs.Claims.{code_claims, AreMet}
-use Rattle.dae_asm_data.specs.declared.marks.Counts.{Counts}
+use Rattle.dae_asm_data.specs.declared.marks.TextCounts.{TextCounts}
 use Rattle.dae_asm_data.specs.Data.{numbers}
 use Rattle.dae_asm_data.specs.Parts.{places, spelled}
 use Rattle.dae_asm_data.specs.Bounds.{Bound, Budget, Number, Entry, HasCode, Code, data_bounds, mark_bounds, name_bounds, IsFirstBroken}
@@ -19,7 +19,7 @@ use Rattle.dae_asm.specs.declared.errors.AsmError.TheVariants as errors
 -- ---- the image
 
 -- each field of an image as its lines say
-pub record Says (s : Sheet) (c : Contents) : Type 0 where
+pub record Says (s : Sheet) (c : ImageContents) : Type 0 where
   pub budget : s.budget.1 ≡ map (λ n. pos n) (depths c.budget)
   pub memory : s.memory.1 ≡ pos c.memory
   pub calls : s.calls.1 ≡ pos c.calls
@@ -60,7 +60,7 @@ abbrev pub code_bounds : ℕ → Look → List Row → List (ℕ × Bound)
 code_bounds line labels rows =
     (line, HasCode (words rows)) ∷ map (λ c. (c.0, Code c.1)) (code_claims labels 0 rows)
 
-abbrev pub counts_of : Sheet → Counts
+abbrev pub counts_of : Sheet → TextCounts
 counts_of s = record {
   words_a = words s.code_a;
   words_e = words s.code_e;

@@ -6,7 +6,7 @@ ghost use Rattle.dae_asm_data.specs.Bounds.{IsValueFault};
 ghost use Rattle.dae_asm.specs.Assembly.{counts_of, head_bounds};
 ghost use Rattle.dae_asm.specs.Making.{HasTables, IsHead, AreFew};
 
-use dae_asm_data::{Counts, ValueFault};
+use dae_asm_data::{TextCounts, ValueFault};
 use dae_asm_labels::Labels;
 use dae_asm_sheet::Sheet;
 use dae_asm_values::{budget_of, calls_of, entry_of, memory_of, private_of};
@@ -31,7 +31,7 @@ pub struct Head {
 /// The first line with a number that its field does not hold.
 pub fn head_of(
     labels: &Labels<'_>,
-    counts: Counts,
+    counts: TextCounts,
     sheet: &Sheet<'_, '_>,
 ) -> Result<Head, ValueFault>
     requires tables { HasTables labels.now (sheet_seen sheet.now) }

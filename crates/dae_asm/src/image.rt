@@ -10,8 +10,8 @@ ghost use Rattle.dae_asm.specs.Assembly.{Says, bounds, code_bounds};
 ghost use Rattle.dae_asm.specs.Making.{HasTables, AreFew, IsCode, AreCodesFormed};
 
 use crate::head::head_of;
-use dae_asm_data::{Counts, ValueFault, content_of, count_names, marks_of, names_of};
-use dae_asm_labels::{Definition, Labels};
+use dae_asm_data::{TextCounts, ValueFault, content_of, count_names, marks_of, names_of};
+use dae_asm_labels::{LabelDefinition, Labels};
 use dae_asm_sheet::{Row, Sheet};
 use dae_asm_values::{CodeFault, code_of, count_words};
 use dae_base::Items;
@@ -32,7 +32,7 @@ fn see_words(code: &[u32])
 /// or memory is wanting.
 fn code_from(
     alloc: Global,
-    table: &IndexMap<&[u8], Definition>,
+    table: &IndexMap<&[u8], LabelDefinition>,
     line: u32,
     rows: &[Row<'_>],
 ) -> Result<Vec<u32>, ValueFault>
@@ -72,7 +72,7 @@ pub fn image_of(
     ensures ok { IfOk result (λ image. Says (sheet_seen sheet.now) (contents image)) }
     ensures err { IfErr result (IsValueFault (bounds (sheet_seen sheet.now))) }
 {
-    let counts = Counts {
+    let counts = TextCounts {
         words_a: count_words(sheet.code_a),
         words_e: count_words(sheet.code_e),
         names: count_names(sheet.names),

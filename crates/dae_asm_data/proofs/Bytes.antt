@@ -3,7 +3,7 @@ use Rattle.std.proofs.Common.{◌≡◌, ℕ, ◌+◌, ◌-◌, ◌<◌, ◌≤�
 use Rattle.std.proofs.lemmas.Bool.{leb-true, leb-false}
 use Rattle.std.proofs.lemmas.List.{append-nil, length-map, map-append, drop_all}
 use Rattle.std.proofs.lemmas.List.Elements.{All-nil, All-head, All-tail, All-append}
-use Rattle.dae_asm_lines.specs.Tokens.{Token}
+use Rattle.dae_asm_lines.specs.Tokens.{LineToken}
 use Rattle.dae_asm_lines.specs.Scanning.{first_token}
 use Rattle.dae_asm_lines.specs.Lines.{numbers_in}
 use Rattle.dae_asm_order.specs.Sheets.{Row}
@@ -13,7 +13,7 @@ use Rattle.dae_asm_values.proofs.Laws.{rows_from}
 use Rattle.dae_asm_data.specs.Data.{NumberRow, numbers, AreBytes, IsData}
 use Rattle.dae_asm_data.specs.Bounds.{Data, IsFirstBroken, data_bounds}
 use Rattle.dae_asm_data.specs.Parts.{IsContent}
-use Rattle.dae_asm_data.specs.Walking.{Leads, Put, IsPut, PutRow, IsRowPut}
+use Rattle.dae_asm_data.specs.Walking.{Leads, PutsBytes, IsPut, PutRow, IsRowPut}
 use Rattle.dae_asm_data.proofs.Leading.{starts, goes_on, passes, breaks, ends}
 
 abbrev pub small : ℕ → Type 0
@@ -24,20 +24,20 @@ as_numbers bs = map (λ b. pos b) bs
 
 -- ---- tokens
 
-same_pair : (p q : Token × List Token) → Some p ≡ Some q → p ≡ q
+same_pair : (p q : LineToken × List LineToken) → Some p ≡ Some q → p ≡ q
 same_pair p q e = cc
 
-pub first_is : (ts us : List Token) (t : Token) → first_token ts ≡ Some (t, us) → ts ≡ t ∷ us
+pub first_is : (ts us : List LineToken) (t : LineToken) → first_token ts ≡ Some (t, us) → ts ≡ t ∷ us
 first_is [] us t e = absurd cc
 first_is (x ∷ xs) us t e =
     let p : (x, xs) ≡ (t, us) = same_pair (x, xs) (t, us) e in
-    ap (λ (q : Token × List Token). q.0 ∷ q.1) p
+    ap (λ (q : LineToken × List LineToken). q.0 ∷ q.1) p
 
 -- the numbers of tokens from one on
-pub numbers_from : (ts us : List Token) (t : Token) → first_token ts ≡ Some (t, us) → numbers_in ts ≡ numbers_in (t ∷ us)
+pub numbers_from : (ts us : List LineToken) (t : LineToken) → first_token ts ≡ Some (t, us) → numbers_in ts ≡ numbers_in (t ∷ us)
 numbers_from ts us t e = ap numbers_in (first_is ts us t e)
 
-pub fewer : (ts us : List Token) (t : Token) → first_token ts ≡ Some (t, us) → length us < length ts
+pub fewer : (ts us : List LineToken) (t : LineToken) → first_token ts ≡ Some (t, us) → length us < length ts
 fewer ts us t e = let f = ap length (first_is ts us t e) in omega arith
 
 -- ---- bytes behind others
@@ -71,7 +71,7 @@ pub no_byte_at : (old now : List ℕ) (all tokens rest : List ℤ) (z y : ℤ) �
 no_byte_at old now all tokens rest z y p e none same =
     no_byte old now all rest z (subst (λ (zs : List ℤ). Putting old now all zs) e p) (λ b few is. none b few (same ∙ is))
 
-pub was_put : (old new : List ℕ) (zs : List ℤ) (b : Bool) → IsPut old new zs b → b ≡ true → Put old new zs
+pub was_put : (old new : List ℕ) (zs : List ℤ) (b : Bool) → IsPut old new zs b → b ≡ true → PutsBytes old new zs
 was_put old new zs true h e = h
 was_put old new zs false h e = absurd cc
 
@@ -90,7 +90,7 @@ no_data memory old row none few = record {
 length_of : (zs : List ℤ) (bytes : List ℕ) → zs ≡ as_numbers bytes → length zs ≡ length bytes
 length_of zs bytes e = ap length e ∙ length-map bytes (λ b. pos b)
 
-one_leads : (memory : ℕ) (old new : List ℕ) (its : NumberRow) (rows : List NumberRow) → Put old new its.1 → 16 + length new ≤ memory → Leads (data_bounds (pos memory) (length old) (its ∷ rows)) (data_bounds (pos memory) (length new) rows)
+one_leads : (memory : ℕ) (old new : List ℕ) (its : NumberRow) (rows : List NumberRow) → PutsBytes old new its.1 → 16 + length new ≤ memory → Leads (data_bounds (pos memory) (length old) (its ∷ rows)) (data_bounds (pos memory) (length new) rows)
 one_leads memory old new its rows p few =
     let same : length its.1 ≡ length p.bytes = length_of its.1 p.bytes p.are.said in
     let long : length new ≡ length old + length p.bytes = ap length p.behind ∙ length-append old p.bytes in
@@ -102,7 +102,7 @@ one_leads memory old new its rows p few =
     (p.bytes, record { bytes = p.are; inside = (memory, (refl, fits)) }) in
     subst (λ (n : ℕ). Leads all (data_bounds (pos memory) n rows)) next past
 
-pub data_put : (memory : ℕ) (old new : List ℕ) (row : Row) (its : NumberRow) → ((rows : List Row) → bytes_in (row ∷ rows) ≡ its ∷ bytes_in rows) → Put old new its.1 → 16 + length new ≤ memory → PutRow memory old new row
+pub data_put : (memory : ℕ) (old new : List ℕ) (row : Row) (its : NumberRow) → ((rows : List Row) → bytes_in (row ∷ rows) ≡ its ∷ bytes_in rows) → PutsBytes old new its.1 → 16 + length new ≤ memory → PutRow memory old new row
 data_put memory old new row its is p few = record {
   bytes = p.bytes;
   small = p.are.small;
@@ -120,7 +120,7 @@ broken_at memory old row its is line none rows =
     let there : IsFirstBroken all row.0 = subst (λ (n : ℕ). IsFirstBroken all n) line here in
     subst (λ (bs : List NumberRow). IsFirstBroken (data_bounds (pos memory) (length old) bs) row.0) (sym (is rows)) there
 
-past_end : (memory : ℕ) (old new : List ℕ) (zs : List ℤ) → Put old new zs → memory < 16 + length new → (bs : List ℕ) → IsData (pos memory) (length old) zs bs → ⊥
+past_end : (memory : ℕ) (old new : List ℕ) (zs : List ℤ) → PutsBytes old new zs → memory < 16 + length new → (bs : List ℕ) → IsData (pos memory) (length old) zs bs → ⊥
 past_end memory old new zs p many bs d =
     let same : length zs ≡ length p.bytes = length_of zs p.bytes p.are.said in
     let also : length zs ≡ length bs = length_of zs bs d.bytes.said in
@@ -131,11 +131,11 @@ past_end memory old new zs p many bs d =
     let few : 16 + length old + length bs ≤ m = d.inside.1.1 in
     absurd (omega arith)
 
-pub too_many : (memory : ℕ) (old new : List ℕ) (row : Row) (its : NumberRow) → ((rows : List Row) → bytes_in (row ∷ rows) ≡ its ∷ bytes_in rows) → its.0 ≡ row.0 → Put old new its.1 → memory < 16 + length new
+pub too_many : (memory : ℕ) (old new : List ℕ) (row : Row) (its : NumberRow) → ((rows : List Row) → bytes_in (row ∷ rows) ≡ its ∷ bytes_in rows) → its.0 ≡ row.0 → PutsBytes old new its.1 → memory < 16 + length new
     → (rows : List Row) → IsFirstBroken (data_bounds (pos memory) (length old) (bytes_in (row ∷ rows))) row.0
 too_many memory old new row its is line p many = broken_at memory old row its is line (past_end memory old new its.1 p many)
 
-row_by : (memory : ℕ) (old new : List ℕ) (row : Row) (its : NumberRow) (len : ℕ) (t : Bool) → ((rows : List Row) → bytes_in (row ∷ rows) ≡ its ∷ bytes_in rows) → its.0 ≡ row.0 → Put old new its.1 → len ≡ length new → 16 ≤ memory → leb len (memory - 16) ≡ t
+row_by : (memory : ℕ) (old new : List ℕ) (row : Row) (its : NumberRow) (len : ℕ) (t : Bool) → ((rows : List Row) → bytes_in (row ∷ rows) ≡ its ∷ bytes_in rows) → its.0 ≡ row.0 → PutsBytes old new its.1 → len ≡ length new → 16 ≤ memory → leb len (memory - 16) ≡ t
     → IsRowPut memory old new row t
 row_by memory old new row its len true is line p same some e =
     let few : len ≤ memory - 16 = leb-true len (memory - 16) e in
@@ -144,7 +144,7 @@ row_by memory old new row its len false is line p same some e =
     let many : memory - 16 < len = leb-false len (memory - 16) e in
     too_many memory old new row its is line p (omega arith)
 
-pub row_put : (memory : ℕ) (old new : List ℕ) (row : Row) (its : NumberRow) (len : ℕ) → ((rows : List Row) → bytes_in (row ∷ rows) ≡ its ∷ bytes_in rows) → its.0 ≡ row.0 → Put old new its.1 → len ≡ length new → 16 ≤ memory
+pub row_put : (memory : ℕ) (old new : List ℕ) (row : Row) (its : NumberRow) (len : ℕ) → ((rows : List Row) → bytes_in (row ∷ rows) ≡ its ∷ bytes_in rows) → its.0 ≡ row.0 → PutsBytes old new its.1 → len ≡ length new → 16 ≤ memory
     → IsRowPut memory old new row (leb len (memory - 16))
 row_put memory old new row its len is line p same some = row_by memory old new row its len (leb len (memory - 16)) is line p same some refl
 

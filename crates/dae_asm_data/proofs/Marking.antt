@@ -6,14 +6,14 @@ use Rattle.std.proofs.lemmas.Bool.{and_parts, and_from, ltb-true, lt-ltb}
 use Rattle.dae_base.specs.declared.Side.{Side}
 use Rattle.dae_base.specs.declared.Side.TheVariants.{A, E}
 use Rattle.dae_image.specs.declared.LineMark.{LineMark}
-use Rattle.dae_image.specs.declared.header.Header.{Header}
+use Rattle.dae_image.specs.declared.header.ImageHeader.{ImageHeader}
 use Rattle.dae_image.specs.Contents.{follows, code_length, is_line, are_lines}
 use Rattle.dae_asm_order.specs.Sheets.{Row}
 use Rattle.dae_asm_sheet.specs.declared.rows.Row as code
 use Rattle.dae_asm_sheet.specs.Rows.{row_seen, rows_seen, marks_in}
 use Rattle.dae_asm_values.proofs.Laws.{rows_from}
 use Rattle.dae_asm_data.specs.declared.faults.Found.TheVariants as founds
-use Rattle.dae_asm_data.specs.declared.marks.Counts.{Counts}
+use Rattle.dae_asm_data.specs.declared.marks.TextCounts.{TextCounts}
 use Rattle.dae_asm_data.specs.Data.{MarkRow, SaysMark, IsBehind, words_on, IsMark}
 use Rattle.dae_asm_data.specs.Bounds.{Mark, mark_bounds}
 use Rattle.dae_asm_data.specs.Parts.{places, spelled, HasCounts, AreMarks}
@@ -49,7 +49,7 @@ follows_it (Some row) (Some k) m l b =
 follows_it None (Some k) m l b = absurd l
 follows_it (Some row) None m l b = absurd l
 
-pub stands : (counts : Counts) (before : ℕ) (row_before : Option MarkRow) (last : Option LineMark) (its : MarkRow) (m : LineMark) → IsLast row_before last → SaysMark its m → m.line < 2 ^ 32 → may_stand counts before last m ≡ true
+pub stands : (counts : TextCounts) (before : ℕ) (row_before : Option MarkRow) (last : Option LineMark) (its : MarkRow) (m : LineMark) → IsLast row_before last → SaysMark its m → m.line < 2 ^ 32 → may_stand counts before last m ≡ true
     → IsMark counts before row_before its m
 stands counts before row_before last its m l s fits e =
     let a = and_parts (nat_lt before 262144) (follows last m && (nat_lt m.word (words_on counts m.side) && (nat_lt m.file counts.names && nat_lt 0 m.line))) e in
@@ -66,7 +66,7 @@ stands counts before row_before last its m l s fits e =
       fits = fits;
     }
 
-may : (counts : Counts) (before : ℕ) (row_before : Option MarkRow) (last : Option LineMark) (its : MarkRow) (m : LineMark) → IsLast row_before last → IsMark counts before row_before its m → may_stand counts before last m ≡ true
+may : (counts : TextCounts) (before : ℕ) (row_before : Option MarkRow) (last : Option LineMark) (its : MarkRow) (m : LineMark) → IsLast row_before last → IsMark counts before row_before its m → may_stand counts before last m ≡ true
 may counts before row_before last its m l h =
     let some : 0 < m.line = let one = h.one in omega arith in
     and_from (nat_lt before 262144) (follows last m && (nat_lt m.word (words_on counts m.side) && (nat_lt m.file counts.names && nat_lt 0 m.line))) (lt-ltb before 262144 h.few)
@@ -74,14 +74,14 @@ may counts before row_before last its m l h =
     (and_from (nat_lt m.word (words_on counts m.side)) (nat_lt m.file counts.names && nat_lt 0 m.line) (lt-ltb m.word (words_on counts m.side) h.inside)
     (and_from (nat_lt m.file counts.names) (nat_lt 0 m.line) (lt-ltb m.file counts.names h.known) (lt-ltb 0 m.line some))))
 
-pub stands_not : (counts : Counts) (before : ℕ) (row_before : Option MarkRow) (last : Option LineMark) (its : MarkRow) (m : LineMark) → IsLast row_before last → SaysMark its m → may_stand counts before last m ≡ false
+pub stands_not : (counts : TextCounts) (before : ℕ) (row_before : Option MarkRow) (last : Option LineMark) (its : MarkRow) (m : LineMark) → IsLast row_before last → SaysMark its m → may_stand counts before last m ≡ false
     → (k : LineMark) → IsMark counts before row_before its k → ⊥
 stands_not counts before row_before last its m l s e k h =
     let same : k ≡ m = one_mark its k m h.said s in
     let yes : may_stand counts before last m ≡ true = subst (λ (x : LineMark). may_stand counts before last x ≡ true) same (may counts before row_before last its k l h) in
     absurd cc
 
-words_small : (counts : Counts) (s : Side) → counts.words_a < 2 ^ 32 → counts.words_e < 2 ^ 32 → words_on counts s < 2 ^ 32
+words_small : (counts : TextCounts) (s : Side) → counts.words_a < 2 ^ 32 → counts.words_e < 2 ^ 32 → words_on counts s < 2 ^ 32
 words_small counts A a e = a
 words_small counts E a e = e
 
@@ -89,7 +89,7 @@ words_small counts E a e = e
 pub spelled_says : (n : ℕ) (side : Side) (w f l x y z : ℤ) (m : LineMark) → IsSpelled side (x, y, z) m → x ≡ w → y ≡ f → z ≡ l → SaysMark (n, side, w, f, l) m
 spelled_says n side w f l x y z m s a b d = record { side = s.side_is; word = sym a ∙ s.word.0; file = sym b ∙ s.file.0; line = sym d ∙ s.line.0 }
 
-pub spells_none : (counts : Counts) (before : ℕ) (row_before : Option MarkRow) (n : ℕ) (side : Side) (w f l x y z : ℤ) → ((m : LineMark) → IsSpelled side (x, y, z) m → ⊥) → x ≡ w → y ≡ f → z ≡ l
+pub spells_none : (counts : TextCounts) (before : ℕ) (row_before : Option MarkRow) (n : ℕ) (side : Side) (w f l x y z : ℤ) → ((m : LineMark) → IsSpelled side (x, y, z) m → ⊥) → x ≡ w → y ≡ f → z ≡ l
     → counts.words_a < 2 ^ 32 → counts.words_e < 2 ^ 32 → counts.names < 2 ^ 32 → (k : LineMark) → IsMark counts before row_before (n, side, w, f, l) k → ⊥
 spells_none counts before row_before n side w f l x y z none a b d first second third k h =
     let words = words_small counts k.side first second in
@@ -99,16 +99,16 @@ spells_none counts before row_before n side w f l x y z none a b d first second 
 
 -- ---- all rows
 
-pub record Marking (counts : Counts) (all rest : List Row) (last : Option LineMark) (ms : List LineMark) : Type 0 where
+pub record Marking (counts : TextCounts) (all rest : List Row) (last : Option LineMark) (ms : List LineMark) : Type 0 where
   pub row_before : Option MarkRow
   pub is_last : IsLast row_before last
   pub leads : Leads (mark_bounds counts 0 None (marks_in all)) (mark_bounds counts (length ms) row_before (marks_in rest))
   pub said : places (marks_in all) ≡ spelled ms ++ places (marks_in rest)
   pub few : length ms ≤ 262144
   pub numbers : All (λ (m : LineMark). m.line < 2 ^ 32) ms
-  pub lines : (h : Header) → HasCounts h counts → (more : List LineMark) → are_lines h last more ≡ true → are_lines h None (ms ++ more) ≡ true
+  pub lines : (h : ImageHeader) → HasCounts h counts → (more : List LineMark) → are_lines h last more ≡ true → are_lines h None (ms ++ more) ≡ true
 
-pub no_mark : (counts : Counts) (all : List Row) (row : Row) (rest : List Row) (last : Option LineMark) (ms : List LineMark) → Marking counts all (row ∷ rest) last ms → ((rows : List Row) → marks_in (row ∷ rows) ≡ marks_in rows)
+pub no_mark : (counts : TextCounts) (all : List Row) (row : Row) (rest : List Row) (last : Option LineMark) (ms : List LineMark) → Marking counts all (row ∷ rest) last ms → ((rows : List Row) → marks_in (row ∷ rows) ≡ marks_in rows)
     → Marking counts all rest last ms
 no_mark counts all row rest last ms w none = record {
   row_before = w.row_before;
@@ -120,11 +120,11 @@ no_mark counts all row rest last ms w none = record {
   lines = w.lines;
 }
 
-same_words : (counts : Counts) (h : Header) → HasCounts h counts → (s : Side) → code_length h s ≡ words_on counts s
+same_words : (counts : TextCounts) (h : ImageHeader) → HasCounts h counts → (s : Side) → code_length h s ≡ words_on counts s
 same_words counts h has A = has.words_a
 same_words counts h has E = has.words_e
 
-is_one : (counts : Counts) (h : Header) (before : ℕ) (row_before : Option MarkRow) (last : Option LineMark) (its : MarkRow) (m : LineMark) → HasCounts h counts → IsLast row_before last → IsMark counts before row_before its m → is_line h last m ≡ true
+is_one : (counts : TextCounts) (h : ImageHeader) (before : ℕ) (row_before : Option MarkRow) (last : Option LineMark) (its : MarkRow) (m : LineMark) → HasCounts h counts → IsLast row_before last → IsMark counts before row_before its m → is_line h last m ≡ true
 is_one counts h before row_before last its m has l k =
     let some : 0 < m.line = let one = k.one in omega arith in
     let inside : m.word < code_length h m.side = subst (λ (n : ℕ). m.word < n) (sym (same_words counts h has m.side)) k.inside in
@@ -141,7 +141,7 @@ place_of its m s =
     let e = s.line in
     rw (a, b, d, e) refl
 
-pub marked : (counts : Counts) (all : List Row) (row : Row) (rest : List Row) (last : Option LineMark) (ms : List LineMark) (m : LineMark) → Marking counts all (row ∷ rest) last ms
+pub marked : (counts : TextCounts) (all : List Row) (row : Row) (rest : List Row) (last : Option LineMark) (ms : List LineMark) (m : LineMark) → Marking counts all (row ∷ rest) last ms
     → ((row_before : Option MarkRow) → IsLast row_before last → IsMarkFound counts (length ms) row_before row (founds.Value m)) → Marking counts all rest (Some m) (ms ++ m ∷ [])
 marked counts all row rest last ms m w found =
     let its : MarkRow = (found w.row_before w.is_last).0 in
@@ -173,7 +173,7 @@ marked counts all row rest last ms m w found =
           subst (λ (xs : List LineMark). are_lines h None xs ≡ true) (sym (append_assoc ms (m ∷ []) more)) (w.lines h has (m ∷ more) both);
     }
 
-pub all_marked : (counts : Counts) (all : List Row) (last : Option LineMark) (ms : List LineMark) → Marking counts all [] last ms → AreMarks counts (marks_in all) ms
+pub all_marked : (counts : TextCounts) (all : List Row) (last : Option LineMark) (ms : List LineMark) → Marking counts all [] last ms → AreMarks counts (marks_in all) ms
 all_marked counts all last ms w = record {
   said = w.said ∙ append-nil (spelled ms);
   few = w.few;
@@ -184,23 +184,23 @@ all_marked counts all last ms w = record {
 
 -- ---- the walk
 
-pub moved : (counts : Counts) (all rest : List Row) (last k : Option LineMark) (ms ns : List LineMark) → last ≡ k → ms ≡ ns → Marking counts all rest k ns → Marking counts all rest last ms
+pub moved : (counts : TextCounts) (all rest : List Row) (last k : Option LineMark) (ms ns : List LineMark) → last ≡ k → ms ≡ ns → Marking counts all rest k ns → Marking counts all rest last ms
 moved counts all rest last k ms ns e f w = rw (e, f) w
 
-pub go_past : (counts : Counts) (rows : List code.Row) (i : ℕ) (d : code.Row) (last : Option LineMark) (ms : List LineMark) (before : ℕ) → i < length rows → before ≡ length ms → Marking counts (rows_seen rows) (rows_seen (drop i rows)) last ms
+pub go_past : (counts : TextCounts) (rows : List code.Row) (i : ℕ) (d : code.Row) (last : Option LineMark) (ms : List LineMark) (before : ℕ) → i < length rows → before ≡ length ms → Marking counts (rows_seen rows) (rows_seen (drop i rows)) last ms
     → ((row_before : Option MarkRow) → IsLast row_before last → IsMarkFound counts before row_before (row_seen (get_or rows i d)) founds.Nothing) → Marking counts (rows_seen rows) (rows_seen (drop (i + 1) rows)) last ms
 go_past counts rows i d last ms before within same w found =
     let here = subst (λ (rest : List Row). Marking counts (rows_seen rows) rest last ms) (rows_from rows i d within) w in
     no_mark counts (rows_seen rows) (row_seen (get_or rows i d)) (rows_seen (drop (i + 1) rows)) last ms here (found w.row_before w.is_last)
 
-pub go_on : (counts : Counts) (rows : List code.Row) (i : ℕ) (d : code.Row) (last : Option LineMark) (ms : List LineMark) (before : ℕ) (m : LineMark) → i < length rows → before ≡ length ms → Marking counts (rows_seen rows) (rows_seen (drop i rows)) last ms
+pub go_on : (counts : TextCounts) (rows : List code.Row) (i : ℕ) (d : code.Row) (last : Option LineMark) (ms : List LineMark) (before : ℕ) (m : LineMark) → i < length rows → before ≡ length ms → Marking counts (rows_seen rows) (rows_seen (drop i rows)) last ms
     → ((row_before : Option MarkRow) → IsLast row_before last → IsMarkFound counts before row_before (row_seen (get_or rows i d)) (founds.Value m)) → Marking counts (rows_seen rows) (rows_seen (drop (i + 1) rows)) (Some m) (ms ++ m ∷ [])
 go_on counts rows i d last ms before m within same w found =
     let here = subst (λ (rest : List Row). Marking counts (rows_seen rows) rest last ms) (rows_from rows i d within) w in
     let its = subst (λ (n : ℕ). (row_before : Option MarkRow) → IsLast row_before last → IsMarkFound counts n row_before (row_seen (get_or rows i d)) (founds.Value m)) same found in
     marked counts (rows_seen rows) (row_seen (get_or rows i d)) (rows_seen (drop (i + 1) rows)) last ms m here its
 
-pub over : (counts : Counts) (rows : List code.Row) (i : ℕ) (last : Option LineMark) (ms : List LineMark) → length rows ≤ i → Marking counts (rows_seen rows) (rows_seen (drop i rows)) last ms → AreMarks counts (marks_in (rows_seen rows)) ms
+pub over : (counts : TextCounts) (rows : List code.Row) (i : ℕ) (last : Option LineMark) (ms : List LineMark) → length rows ≤ i → Marking counts (rows_seen rows) (rows_seen (drop i rows)) last ms → AreMarks counts (marks_in (rows_seen rows)) ms
 over counts rows i last ms past w =
     let none : rows_seen (drop i rows) ≡ [] = ap rows_seen (drop_all i rows past) in
     all_marked counts (rows_seen rows) last ms (subst (λ (rest : List Row). Marking counts (rows_seen rows) rest last ms) none w)

@@ -2,23 +2,23 @@
 use Rattle.std.specs.Prelude.{◌≡◌, ℕ, suc, ◌+◌, ◌≤◌, ℤ, List, [], ◌∷◌, length, Option, Some, All, ◌⊎◌}
 use Rattle.dae_base.specs.declared.Depths.{Depths}
 use Rattle.dae_image.specs.declared.LineMark.{LineMark}
-use Rattle.dae_image.specs.declared.fields.Range.{Range}
-use Rattle.dae_asm_lines.specs.Targets.{Target}
+use Rattle.dae_image.specs.declared.fields.FieldRange.{FieldRange}
+use Rattle.dae_asm_lines.specs.Targets.{JumpTarget}
 use Rattle.dae_asm_labels.specs.Labels.{Look}
 use Rattle.dae_asm_values.specs.Values.{IsFor, IsBudget, IsEntry}
 use Rattle.dae_asm_values.specs.Claims.{Claim, Meets}
 use Rattle.dae_asm_data.specs.declared.faults.ValueFault.{ValueFault}
 use Rattle.dae_asm_data.specs.declared.faults.ValueFault.TheVariants as faults
-use Rattle.dae_asm_data.specs.declared.marks.Counts.{Counts}
+use Rattle.dae_asm_data.specs.declared.marks.TextCounts.{TextCounts}
 use Rattle.dae_asm_data.specs.Data.{NumberRow, IsData, MarkRow, IsMark, IsName}
 
 pub data Bound : Type 0 where
   -- the seven numbers of a budget
   Budget : List ℤ → Bound
   -- a number of this range
-  Number : Range → ℤ → Bound
+  Number : FieldRange → ℤ → Bound
   -- where a code of so many words is entered
-  Entry : Look → ℕ → Target → Bound
+  Entry : Look → ℕ → JumpTarget → Bound
   -- a code of so many words, of which it has one
   HasCode : ℕ → Bound
   -- a word of code
@@ -26,7 +26,7 @@ pub data Bound : Type 0 where
   -- data: the bytes of memory, how many stand before, and the numbers
   Data : ℤ → ℕ → List ℤ → Bound
   -- a mark: how many stand before, the line before, and its own
-  Mark : Counts → ℕ → Option MarkRow → MarkRow → Bound
+  Mark : TextCounts → ℕ → Option MarkRow → MarkRow → Bound
   -- a name: how many stand before, and the numbers
   Name : ℕ → List ℤ → Bound
 
@@ -58,7 +58,7 @@ data_bounds memory before (row ∷ rows) =
     (row.0, Data memory before row.1) ∷ data_bounds memory (before + length row.1) rows
 
 -- marks behind so many others, of which this is the last
-abbrev pub mark_bounds : Counts → ℕ → Option MarkRow → List MarkRow → List (ℕ × Bound)
+abbrev pub mark_bounds : TextCounts → ℕ → Option MarkRow → List MarkRow → List (ℕ × Bound)
 mark_bounds counts before last [] = []
 mark_bounds counts before last (row ∷ rows) =
     (row.0, Mark counts before last row) ∷ mark_bounds counts (suc before) (Some row) rows

@@ -5,7 +5,7 @@ use Rattle.dae_base.specs.declared.Side.{Side}
 use Rattle.dae_base.specs.declared.Side.TheVariants.{A, E}
 use Rattle.dae_image.specs.declared.LineMark.{LineMark}
 use Rattle.dae_image.specs.Contents.{follows, is_name}
-use Rattle.dae_asm_data.specs.declared.marks.Counts.{Counts}
+use Rattle.dae_asm_data.specs.declared.marks.TextCounts.{TextCounts}
 
 -- numbers that are bytes
 pub record AreBytes (zs : List ℤ) (bs : List ℕ) : Type 0 where
@@ -48,12 +48,12 @@ abbrev pub IsBehind : Option MarkRow → LineMark → Type 0
 IsBehind None m = Unit {0}
 IsBehind (Some row) m = (last : LineMark) × (SaysMark row last × IsTrue (follows (Some last) m))
 
-abbrev pub words_on : Counts → Side → ℕ
+abbrev pub words_on : TextCounts → Side → ℕ
 words_on counts A = counts.words_a
 words_on counts E = counts.words_e
 
 -- a mark behind so many others: of a word of its side's code and of a file that has a name
-pub record IsMark (counts : Counts) (before : ℕ) (last : Option MarkRow) (row : MarkRow)
+pub record IsMark (counts : TextCounts) (before : ℕ) (last : Option MarkRow) (row : MarkRow)
     (m : LineMark) : Type 0 where
   pub said : SaysMark row m
   pub few : before < 262144

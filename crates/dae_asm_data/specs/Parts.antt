@@ -3,9 +3,9 @@ use Rattle.std.specs.Prelude.{◌≡◌, ℕ, ◌+◌, ◌<◌, ◌≤◌, ◌^�
 use Rattle.std.specs.List.{list_all}
 use Rattle.dae_base.specs.declared.Side.{Side}
 use Rattle.dae_image.specs.declared.LineMark.{LineMark}
-use Rattle.dae_image.specs.declared.header.Header.{Header}
+use Rattle.dae_image.specs.declared.header.ImageHeader.{ImageHeader}
 use Rattle.dae_image.specs.Contents.{are_lines, is_name}
-use Rattle.dae_asm_data.specs.declared.marks.Counts.{Counts}
+use Rattle.dae_asm_data.specs.declared.marks.TextCounts.{TextCounts}
 use Rattle.dae_asm_data.specs.Data.{NumberRow, numbers, AreBytes, MarkRow}
 use Rattle.dae_asm_data.specs.Bounds.{AreKept, data_bounds, mark_bounds, name_bounds}
 
@@ -22,16 +22,16 @@ places rows = map (λ r. (r.1, r.2, r.3, r.4)) rows
 abbrev pub spelled : List LineMark → List (Side × ℤ × ℤ × ℤ)
 spelled marks = map (λ m. (m.side, pos m.word, pos m.file, pos m.line)) marks
 
-pub record HasCounts (h : Header) (counts : Counts) : Type 0 where
+pub record HasCounts (h : ImageHeader) (counts : TextCounts) : Type 0 where
   pub words_a : h.words_a ≡ counts.words_a
   pub words_e : h.words_e ≡ counts.words_e
   pub names : h.names ≡ counts.names
 
 -- the marks of lines, in an image whose head has these counts
-pub record AreMarks (counts : Counts) (rows : List MarkRow) (marks : List LineMark) : Type 0 where
+pub record AreMarks (counts : TextCounts) (rows : List MarkRow) (marks : List LineMark) : Type 0 where
   pub said : places rows ≡ spelled marks
   pub few : length marks ≤ 262144
-  pub lines : (h : Header) → HasCounts h counts → IsTrue (are_lines h None marks)
+  pub lines : (h : ImageHeader) → HasCounts h counts → IsTrue (are_lines h None marks)
   pub numbers : All (λ m. m.line < 2 ^ 32) marks
   pub kept : AreKept (mark_bounds counts 0 None rows)
 

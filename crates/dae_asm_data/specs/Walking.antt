@@ -9,7 +9,7 @@ use Rattle.dae_asm_sheet.specs.Rows.{bytes_in, marks_in, names_in}
 use Rattle.dae_asm_values.specs.Values.{IsWord}
 use Rattle.dae_asm_data.specs.declared.faults.Found.{Found}
 use Rattle.dae_asm_data.specs.declared.faults.Found.TheVariants as founds
-use Rattle.dae_asm_data.specs.declared.marks.Counts.{Counts}
+use Rattle.dae_asm_data.specs.declared.marks.TextCounts.{TextCounts}
 use Rattle.dae_asm_data.specs.Data.{NumberRow, numbers, AreBytes, MarkRow, SaysMark, words_on, IsMark, SaysName, IsName}
 use Rattle.dae_asm_data.specs.Bounds.{Bound, AreKept, IsFirstBroken, data_bounds}
 
@@ -21,13 +21,13 @@ pub record Leads (all rest : List (ℕ × Bound)) : Type 0 where
 -- ---- data
 
 -- the bytes that numbers say stand behind others
-pub record Put (old new : List ℕ) (zs : List ℤ) : Type 0 where
+pub record PutsBytes (old new : List ℕ) (zs : List ℤ) : Type 0 where
   pub bytes : List ℕ
   pub are : AreBytes zs bytes
   pub behind : new ≡ old ++ bytes
 
 abbrev pub IsPut : List ℕ → List ℕ → List ℤ → Bool → Type 0
-IsPut old new zs true = Put old new zs
+IsPut old new zs true = PutsBytes old new zs
 IsPut old new zs false = (bytes : List ℕ) → AreBytes zs bytes → ⊥
 
 -- the data of a row stand behind others, in a memory of so many bytes
@@ -57,7 +57,7 @@ pub record IsSpelled (side : Side) (numbers : ℤ × ℤ × ℤ) (m : LineMark) 
   pub line : IsWord numbers.2 m.line
 
 -- a mark may stand behind so many others, of which this is the last
-abbrev pub may_stand : Counts → ℕ → Option LineMark → LineMark → Bool
+abbrev pub may_stand : TextCounts → ℕ → Option LineMark → LineMark → Bool
 may_stand counts before last m =
     nat_lt before 262144 && (follows last m && (nat_lt m.word (words_on counts m.side)
     && (nat_lt m.file counts.names && nat_lt 0 m.line)))
@@ -73,7 +73,7 @@ pub record OneMark (row : Row) (its : MarkRow) : Type 0 where
   pub is : (rows : List Row) → marks_in (row ∷ rows) ≡ its ∷ marks_in rows
   pub line : its.0 ≡ row.0
 
-abbrev pub IsMarkFound : Counts → ℕ → Option MarkRow → Row → Found LineMark → Type 0
+abbrev pub IsMarkFound : TextCounts → ℕ → Option MarkRow → Row → Found LineMark → Type 0
 IsMarkFound counts before last row founds.Nothing =
     (rows : List Row) → marks_in (row ∷ rows) ≡ marks_in rows
 IsMarkFound counts before last row (founds.Value m) =

@@ -1,7 +1,7 @@
 //! Data.
 
 ghost use Rattle.std.specs.Prelude.{◌≡◌, ℕ, pos, ◌+◌, ◌<◌, ◌≤◌, List, [], ◌∷◌, length, IfSome, IfNone, IfOk, IfErr};
-ghost use Rattle.dae_asm_lines.specs.Tokens.{Token, tokens_of};
+ghost use Rattle.dae_asm_lines.specs.Tokens.{LineToken, tokens_of};
 ghost use Rattle.dae_asm_lines.specs.Scanning.{scanned};
 ghost use Rattle.dae_asm_lines.specs.Lines.{numbers_in};
 ghost use Rattle.dae_asm_sheet.specs.Rows.{row_seen, rows_seen, bytes_in};
@@ -29,9 +29,9 @@ fn byte_of(number: i64) -> Option<u8>
 
 /// The number that a token is.
 fn number_of(token: Scanned<'_>) -> Option<i64>
-    ensures some { IfSome result (λ number. (tokens : List Token)
+    ensures some { IfSome result (λ number. (tokens : List LineToken)
         → numbers_in (scanned token.entry ∷ tokens) ≡ number ∷ numbers_in tokens) }
-    ensures none { IfNone result ((tokens : List Token)
+    ensures none { IfNone result ((tokens : List LineToken)
         → numbers_in (scanned token.entry ∷ tokens) ≡ numbers_in tokens) }
 {
     match token {

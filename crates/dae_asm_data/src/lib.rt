@@ -4,7 +4,7 @@
 
 pub use data::content_of;
 pub use faults::ValueFault;
-pub use marks::{Counts, marks_of};
+pub use marks::{TextCounts, marks_of};
 pub use names::{count_names, names_of};
 
 mod data;

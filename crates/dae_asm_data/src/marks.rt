@@ -18,13 +18,13 @@ use std::alloc::Global;
 
 /// How many words the codes of a text have, and how many names it has.
 #[derive(Clone, Copy)]
-pub struct Counts {
+pub struct TextCounts {
     pub words_a: u32,
     pub words_e: u32,
     pub names: u32,
 }
 
-impl Counts {
+impl TextCounts {
     fn words_on(self, side: Side) -> u32
         ensures { result ≡ words_on self side }
     {
@@ -60,7 +60,7 @@ fn mark_of_numbers(side: Side, numbers: (i64, i64, i64)) -> Option<LineMark>
 }
 
 /// Whether a mark may stand behind so many others, of which this is the last.
-fn may_stand(counts: Counts, before: usize, last: Option<LineMark>, mark: LineMark) -> bool
+fn may_stand(counts: TextCounts, before: usize, last: Option<LineMark>, mark: LineMark) -> bool
     ensures { result ≡ may_stand counts before last mark }
 {
     before < 262_144
@@ -71,7 +71,12 @@ fn may_stand(counts: Counts, before: usize, last: Option<LineMark>, mark: LineMa
 }
 
 /// What a row says of marks behind so many others, of which this is the last.
-fn mark_at(counts: Counts, before: usize, last: Option<LineMark>, row: &Row<'_>) -> Found<LineMark>
+fn mark_at(
+    counts: TextCounts,
+    before: usize,
+    last: Option<LineMark>,
+    row: &Row<'_>,
+) -> Found<LineMark>
     ensures { (row_before : Option MarkRow) → IsLast row_before last
         → IsMarkFound counts before row_before (row_seen row.now) result }
 {
@@ -96,7 +101,7 @@ fn mark_at(counts: Counts, before: usize, last: Option<LineMark>, row: &Row<'_>)
 /// before; or memory is wanting.
 pub fn marks_of(
     alloc: Global,
-    counts: Counts,
+    counts: TextCounts,
     rows: &[Row<'_>],
 ) -> Result<Vec<LineMark>, ValueFault>
     ensures ok { IfOk result (λ marks.

@@ -6,7 +6,7 @@ ghost use Rattle.dae_asm_lines.specs.Lines.{numbers_in};
 ghost use Rattle.dae_asm_order.specs.Sheets as sheets;
 ghost use Rattle.dae_asm_sheet.specs.Rows.{row_seen, bytes_in, marks_in, names_in};
 
-use dae_asm_lines::Item;
+use dae_asm_lines::LineItem;
 use dae_asm_sheet::Row;
 use dae_base::Side;
 
@@ -19,7 +19,7 @@ pub fn data_in<'t>(row: &Row<'t>) -> Option<&'t [u8]>
         → bytes_in (row_seen row.now ∷ rows) ≡ bytes_in rows) }
 {
     match row.item {
-        Item::Bytes(line) => Some(line),
+        LineItem::Bytes(line) => Some(line),
         _ => None,
     }
 }
@@ -33,7 +33,7 @@ pub fn mark_in(row: &Row<'_>) -> Option<(Side, i64, i64, i64)>
         → marks_in (row_seen row.now ∷ rows) ≡ marks_in rows) }
 {
     match row.item {
-        Item::Mark(side, word, file, line) => Some((side, word, file, line)),
+        LineItem::Mark(side, word, file, line) => Some((side, word, file, line)),
         _ => None,
     }
 }
@@ -47,7 +47,7 @@ pub fn name_in<'t>(row: &Row<'t>) -> Option<&'t [u8]>
         → names_in (row_seen row.now ∷ rows) ≡ names_in rows) }
 {
     match row.item {
-        Item::Name(line) => Some(line),
+        LineItem::Name(line) => Some(line),
         _ => None,
     }
 }

@@ -6,10 +6,10 @@ use denote.Ref.{Bor}
 use Rattle.indexmap.specs.IndexMap.{IndexMap, get_by}
 use Rattle.dae_asm_lines.specs.declared.Operands.{Operands}
 use Rattle.dae_asm_lines.specs.declared.Operands.TheVariants.{Branch, Jump}
-use Rattle.dae_asm_lines.specs.Targets.{Target, Given, Named}
+use Rattle.dae_asm_lines.specs.Targets.{JumpTarget, Given, Named}
 use Rattle.dae_asm_lines.specs.Items as items
 use Rattle.dae_asm_order.specs.Sheets.{Row, Sheet}
-use Rattle.dae_asm_labels.specs.declared.definitions.Definition.{Definition}
+use Rattle.dae_asm_labels.specs.declared.definitions.LabelDefinition.{LabelDefinition}
 
 -- how many words the rows of a code make
 abbrev pub words : List Row → ℕ
@@ -22,7 +22,7 @@ words (row ∷ rows) = words rows
 
 -- labels in the order of their lines, each with its address and its line
 abbrev pub Labels : Type 0
-Labels = List (List ℕ × Definition)
+Labels = List (List ℕ × LabelDefinition)
 
 -- the labels of a code from an address on; each word has four bytes
 abbrev pub labels_from : ℕ → List Row → Labels
@@ -34,13 +34,13 @@ labels_from address ((n, items.Plain z) ∷ rows) = labels_from (address + 4) ro
 labels_from address (row ∷ rows) = labels_from address rows
 
 -- the first definition of a label
-abbrev pub found : List ℕ → Labels → Option Definition
+abbrev pub found : List ℕ → Labels → Option LabelDefinition
 found name [] = None
 found name (l ∷ ls) = if bytes_eq name l.0 then Some l.1 else found name ls
 
 -- where each label of a code is defined
 abbrev pub Look : Type 0
-Look = List ℕ → Option Definition
+Look = List ℕ → Option LabelDefinition
 
 abbrev pub looks_in : List Row → Look
 looks_in rows = λ name. found name (labels_from 0 rows)
@@ -52,22 +52,22 @@ abbrev pub labels_e : Sheet → Look
 labels_e s = looks_in s.code_e
 
 -- what a table has of each label
-abbrev pub looks : {S : Type 0} → IndexMap (Bor (List ℕ)) Definition S → Look
+abbrev pub looks : {S : Type 0} → IndexMap (Bor (List ℕ)) LabelDefinition S → Look
 looks table = λ name. get_by (λ k. bytes_eq name k.now) table
 
 -- ---- tests
 
-abbrev pub is_known : Look → Target → Bool
+abbrev pub is_known : Look → JumpTarget → Bool
 is_known labels (Given z) = true
 is_known labels (Named name) = is_some (labels name)
 
-abbrev pub operands_known : Look → Operands Target → Bool
+abbrev pub operands_known : Look → Operands JumpTarget → Bool
 operands_known labels (Branch a b t) = is_known labels t
 operands_known labels (Jump a t) = is_known labels t
 operands_known labels operands = true
 
 -- a label that is defined first on this line
-abbrev pub is_on : ℕ → Option Definition → Bool
+abbrev pub is_on : ℕ → Option LabelDefinition → Bool
 is_on n None = false
 is_on n (Some d) = d.line == n
 

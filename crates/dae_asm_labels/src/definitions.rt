@@ -7,14 +7,14 @@ ghost use Rattle.dae_asm_sheet.specs.Rows.{row_seen, rows_seen, sheet_seen};
 ghost use Rattle.dae_asm_labels.specs.Labels.{words, looks, looks_in, labels_a, labels_e};
 ghost use Rattle.dae_asm_labels.specs.Tables.{found_or, or_else};
 
-use dae_asm_lines::Item;
+use dae_asm_lines::LineItem;
 use dae_asm_sheet::{Row, Sheet};
 use indexmap::IndexMap;
 use std::alloc::{AllocError, Global};
 
 /// The address of a label, and the number of the line that defines it first.
 #[derive(Clone, Copy)]
-pub struct Definition {
+pub struct LabelDefinition {
     pub address: u32,
     pub line: u32,
 }
@@ -22,12 +22,15 @@ pub struct Definition {
 /// The labels of each side.
 #[derive(Drop)]
 pub struct Labels<'t> {
-    pub a: IndexMap<&'t [u8], Definition>,
-    pub e: IndexMap<&'t [u8], Definition>,
+    pub a: IndexMap<&'t [u8], LabelDefinition>,
+    pub e: IndexMap<&'t [u8], LabelDefinition>,
 }
 
 /// The definition of a label.
-pub fn definition_of(table: &IndexMap<&[u8], Definition>, label: &[u8]) -> Option<Definition>
+pub fn definition_of(
+    table: &IndexMap<&[u8], LabelDefinition>,
+    label: &[u8],
+) -> Option<LabelDefinition>
     ensures { result ≡ looks table.now label.now }
 {
     table.get(label).copied()
@@ -35,11 +38,11 @@ pub fn definition_of(table: &IndexMap<&[u8], Definition>, label: &[u8]) -> Optio
 
 /// Notes a definition of a label, where it has none.
 fn note<'t>(
-    table: &mut IndexMap<&'t [u8], Definition>,
+    table: &mut IndexMap<&'t [u8], LabelDefinition>,
     label: &'t [u8],
-    definition: Definition,
+    definition: LabelDefinition,
 ) -> Result<(), AllocError>
-    ensures { OnOk result ((name : List ℕ) (other : Option Definition)
+    ensures { OnOk result ((name : List ℕ) (other : Option LabelDefinition)
         → or_else (looks table.old name)
         (if bytes_eq name label.now then Some definition else other)
         ≡ or_else (looks table.new name) other) }
@@ -53,7 +56,7 @@ fn note<'t>(
 
 /// Notes the label that a row defines, and gives the address behind the row.
 fn define<'t>(
-    table: &mut IndexMap<&'t [u8], Definition>,
+    table: &mut IndexMap<&'t [u8], LabelDefinition>,
     address: u32,
     row: &Row<'t>,
 ) -> Result<u32, AllocError>
@@ -65,15 +68,15 @@ fn define<'t>(
         → next + 4 * words rows ≡ address + 4 * words (row_seen row.now ∷ rows)) }
 {
     match row.item {
-        Item::Label(label) => {
-            let definition = Definition {
+        LineItem::Label(label) => {
+            let definition = LabelDefinition {
                 address,
                 line: row.line,
             };
             note(table, label, definition)?;
             Ok(address)
         }
-        Item::Instruction(_, _) | Item::Plain(_) => Ok(address + 4),
+        LineItem::Instruction(_, _) | LineItem::Plain(_) => Ok(address + 4),
         _ => Ok(address),
     }
 }
@@ -81,7 +84,7 @@ fn define<'t>(
 fn definitions<'t>(
     alloc: Global,
     rows: &[Row<'t>],
-) -> Result<IndexMap<&'t [u8], Definition>, AllocError>
+) -> Result<IndexMap<&'t [u8], LabelDefinition>, AllocError>
     requires { words (rows_seen rows.now) ≤ 33554432 }
     ensures { IfOk result (λ table. looks table ≡ looks_in (rows_seen rows.now)) }
 {

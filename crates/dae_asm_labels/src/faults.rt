@@ -6,21 +6,24 @@ ghost use Rattle.dae_asm_lines.specs.Lines.{operands_seen};
 ghost use Rattle.dae_asm_sheet.specs.Rows.{row_seen, rows_seen, sheet_seen};
 ghost use Rattle.dae_asm_labels.specs.Labels.{looks, is_known, operands_known, row_test, label_tests, all_label_tests, first_false, labels_a, labels_e};
 
-use crate::definitions::{Definition, Labels, definition_of};
-use dae_asm_lines::{Item, Operands, Target};
+use crate::definitions::{LabelDefinition, Labels, definition_of};
+use dae_asm_lines::{JumpTarget, LineItem, Operands};
 use dae_asm_sheet::{Row, Sheet};
 use indexmap::IndexMap;
 
-fn is_known(table: &IndexMap<&[u8], Definition>, target: Target<'_>) -> bool
+fn is_known(table: &IndexMap<&[u8], LabelDefinition>, target: JumpTarget<'_>) -> bool
     ensures { result ≡ is_known (looks table.now) (target_seen target.entry) }
 {
     match target {
-        Target::Number(_) => true,
-        Target::Label(label) => definition_of(table, label).is_some(),
+        JumpTarget::Number(_) => true,
+        JumpTarget::Label(label) => definition_of(table, label).is_some(),
     }
 }
 
-fn operands_known(table: &IndexMap<&[u8], Definition>, operands: Operands<Target<'_>>) -> bool
+fn operands_known(
+    table: &IndexMap<&[u8], LabelDefinition>,
+    operands: Operands<JumpTarget<'_>>,
+) -> bool
     ensures { result ≡ operands_known (looks table.now) (operands_seen operands.entry) }
 {
     match operands {
@@ -31,20 +34,20 @@ fn operands_known(table: &IndexMap<&[u8], Definition>, operands: Operands<Target
 }
 
 /// Whether a row defines no label a second time and uses none that is not defined.
-fn is_sound(table: &IndexMap<&[u8], Definition>, row: &Row<'_>) -> bool
+fn is_sound(table: &IndexMap<&[u8], LabelDefinition>, row: &Row<'_>) -> bool
     ensures { result ≡ row_test (looks table.now) (row_seen row.now) }
 {
     match row.item {
-        Item::Label(label) => match definition_of(table, label) {
+        LineItem::Label(label) => match definition_of(table, label) {
             Some(definition) => definition.line == row.line,
             None => false,
         },
-        Item::Instruction(_, operands) => operands_known(table, operands),
+        LineItem::Instruction(_, operands) => operands_known(table, operands),
         _ => true,
     }
 }
 
-fn code_fault(table: &IndexMap<&[u8], Definition>, rows: &[Row<'_>]) -> Option<u32>
+fn code_fault(table: &IndexMap<&[u8], LabelDefinition>, rows: &[Row<'_>]) -> Option<u32>
     ensures { result ≡ first_false (label_tests (looks table.now) (rows_seen rows.now)) }
 {
     for row in rows {

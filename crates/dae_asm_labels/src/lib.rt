@@ -2,7 +2,7 @@
 // one a second time or uses one that its side does not define.
 #![tactic(auto)]
 
-pub use definitions::{Definition, Labels, definition_of, labels_of};
+pub use definitions::{LabelDefinition, Labels, definition_of, labels_of};
 pub use faults::label_fault;
 
 mod definitions;

@@ -10,7 +10,7 @@ use Rattle.dae_base.specs.declared.Side.TheVariants.{A, E}
 use Rattle.dae_base.specs.Words.{AreBytes}
 use Rattle.dae_image.specs.declared.Image.{Image}
 use Rattle.dae_image.specs.declared.LineMark.{LineMark}
-use Rattle.dae_image.specs.declared.header.Header.{Header}
+use Rattle.dae_image.specs.declared.header.ImageHeader.{ImageHeader}
 use Rattle.dae_image.specs.Contents.{header, code_length, follows, is_line, are_lines, is_name}
 use Rattle.dae_image.specs.Images.{contents}
 use Rattle.dae_image.specs.Ranges.{IsIn, is_in, entry_range, name_range}
@@ -18,12 +18,12 @@ use Rattle.std.specs.Str.{is_utf8}
 use Rattle.dae_asm_laws.proofs.Bytes.{text_bytes}
 use Rattle.dae_asm_laws.proofs.Same.{mark_place}
 use Rattle.dae_asm_lines.specs.Items as items
-use Rattle.dae_asm_lines.specs.Targets.{Target}
+use Rattle.dae_asm_lines.specs.Targets.{JumpTarget}
 use Rattle.dae_asm_order.specs.Sheets.{Row, Sheet}
 use Rattle.dae_asm_labels.specs.Labels.{Look, words, labels_a, labels_e}
 use Rattle.dae_asm_values.specs.Values.{IsAddress, IsEntry}
 use Rattle.dae_asm_values.specs.Claims.{Claim, code_claims, AreMet}
-use Rattle.dae_asm_data.specs.declared.marks.Counts.{Counts}
+use Rattle.dae_asm_data.specs.declared.marks.TextCounts.{TextCounts}
 use Rattle.dae_asm_data.specs.Data.{NumberRow, numbers, MarkRow, SaysMark, IsBehind, words_on}
 use Rattle.dae_asm_data.specs.Bounds.{Bound, Code, IsKept, data_bounds, mark_bounds, name_bounds}
 use Rattle.dae_asm.specs.Assembly.{Says, head_bounds, code_bounds, counts_of, bounds}
@@ -124,7 +124,7 @@ behind None (Some last) m h e = absurd h
 behind (Some row) None m h e = absurd h
 behind (Some row) (Some last) m h e = (last, (h, e))
 
-record Counted (h : Header) (counts : Counts) : Type 0 where
+record Counted (h : ImageHeader) (counts : TextCounts) : Type 0 where
   pub words_a : h.words_a ≡ counts.words_a
   pub words_e : h.words_e ≡ counts.words_e
   pub names : h.names ≡ counts.names
@@ -132,11 +132,11 @@ record Counted (h : Header) (counts : Counts) : Type 0 where
 below : (n m k : ℕ) → nat_lt n m ≡ true → m ≡ k → n < k
 below n m k t e = let h : n < m = grind (arith, nat_tests) in omega arith
 
-on_side : (h : Header) (counts : Counts) (side : Side) → Counted h counts → code_length h side ≡ words_on counts side
+on_side : (h : ImageHeader) (counts : TextCounts) (side : Side) → Counted h counts → code_length h side ≡ words_on counts side
 on_side h counts A c = c.words_a
 on_side h counts E c = c.words_e
 
-marks_kept : (h : Header) (counts : Counts) (before : ℕ) (row : Option MarkRow) (last : Option LineMark) (rows : List MarkRow) (ms : List LineMark) → Counted h counts → Last row last
+marks_kept : (h : ImageHeader) (counts : TextCounts) (before : ℕ) (row : Option MarkRow) (last : Option LineMark) (rows : List MarkRow) (ms : List LineMark) → Counted h counts → Last row last
     → map (λ r. row_place r) rows ≡ map (λ m. mark_place m) ms → are_lines h last ms ≡ true → AllByRecursion (λ m. m.line < 2 ^ 32) ms → before + length ms ≤ 262144 → Kept (mark_bounds counts before row rows)
 marks_kept h counts before row last [] ms c l e good small few = tt
 marks_kept h counts before row last (r ∷ rows) [] c l e good small few = absurd cc
@@ -178,7 +178,7 @@ names_kept before (row ∷ rows) (name ∷ names) e good few =
 
 -- ---- a whole text
 
-entry_kept : (labels : Look) (rows : List Row) (t : Target) (n : ℕ) (ws : List ℕ) → IsAddress labels t n → IsIn entry_range n → n / 4 + 1 ≤ length ws → AreMet (code_claims labels 0 rows) ws → IsEntry labels (words rows) t n
+entry_kept : (labels : Look) (rows : List Row) (t : JumpTarget) (n : ℕ) (ws : List ℕ) → IsAddress labels t n → IsIn entry_range n → n / 4 + 1 ≤ length ws → AreMet (code_claims labels 0 rows) ws → IsEntry labels (words rows) t n
 entry_kept labels rows t n ws said range inside met =
     let e = as_many labels 0 rows ws met in
     record { said = said; range = range; inside = inr (omega arith) }

@@ -6,12 +6,12 @@ use Rattle.dae_encode.specs.declared.Inst.{Inst}
 use Rattle.dae_encode.specs.Spelling.{encoded}
 use Rattle.dae_image.specs.declared.Image.{Image}
 use Rattle.dae_image.specs.declared.LineMark.{LineMark}
-use Rattle.dae_image.specs.Contents.{Contents}
+use Rattle.dae_image.specs.Contents.{ImageContents}
 use Rattle.dae_image.specs.Images.{contents}
 use Rattle.dae_image.proofs.Laws.{same_image}
 use Rattle.dae_asm_lines.specs.declared.Operands.{Operands}
 use Rattle.dae_asm_lines.specs.declared.Operands.TheVariants.{Registers, Immediate, Based, Branch, Upper, Jump, Alone}
-use Rattle.dae_asm_lines.specs.Targets.{Target, Given, Named}
+use Rattle.dae_asm_lines.specs.Targets.{JumpTarget, Given, Named}
 use Rattle.dae_asm_lines.proofs.Laws.{one_instruction}
 use Rattle.dae_asm_order.specs.Sheets.{Sheet}
 use Rattle.dae_asm_labels.specs.Labels.{Look}
@@ -83,18 +83,18 @@ same_depths c d e =
 
 -- ---- code
 
-one_address : (labels : Look) (t : Target) (n m : ℕ) → IsAddress labels t n → IsAddress labels t m → n ≡ m
+one_address : (labels : Look) (t : JumpTarget) (n m : ℕ) → IsAddress labels t n → IsAddress labels t m → n ≡ m
 one_address labels (Given z) n m e f = cc
 one_address labels (Named name) n m e f = cc
 
-one_offset : (labels : Look) (here : ℕ) (t : Target) (y z : ℤ) → IsOffset labels here t y → IsOffset labels here t z → y ≡ z
+one_offset : (labels : Look) (here : ℕ) (t : JumpTarget) (y z : ℤ) → IsOffset labels here t y → IsOffset labels here t z → y ≡ z
 one_offset labels here (Given x) y z e f = sym e ∙ f
 one_offset labels here (Named name) y z e f =
     let a = e.1.0 in let b = f.1.0 in let c = e.1.1 in let d = f.1.1 in
     let same : e.0 ≡ f.0 = cc in
     cc
 
-one_resolved : (labels : Look) (here : ℕ) (os : Operands Target) (p q : Operands ℤ) → AreOperands labels here os p → AreOperands labels here os q → p ≡ q
+one_resolved : (labels : Look) (here : ℕ) (os : Operands JumpTarget) (p q : Operands ℤ) → AreOperands labels here os p → AreOperands labels here os q → p ≡ q
 one_resolved labels here (Registers a b c) p q e f = e ∙ sym f
 one_resolved labels here (Immediate a b c) p q e f = e ∙ sym f
 one_resolved labels here (Based a b c) p q e f = e ∙ sym f
@@ -103,7 +103,7 @@ one_resolved labels here (Upper a b) p q e f = e ∙ sym f
 one_resolved labels here (Jump a t) p q e f = let same = one_offset labels here t e.0 f.0 e.1.1 f.1.1 in e.1.0 ∙ ap (λ (z : ℤ). Jump a z) same ∙ sym f.1.0
 one_resolved labels here Alone p q e f = e ∙ sym f
 
-one_said : (labels : Look) (here : ℕ) (like : Inst) (os : Operands Target) (i j : Inst) → IsInstruction labels here like os i → IsInstruction labels here like os j → i ≡ j
+one_said : (labels : Look) (here : ℕ) (like : Inst) (os : Operands JumpTarget) (i j : Inst) → IsInstruction labels here like os i → IsInstruction labels here like os j → i ≡ j
 one_said labels here like os i j h k =
     let same : k.its ≡ h.its = one_resolved labels here os k.its h.its k.are h.are in
     one_instruction like i j h.its h.filled (rw (sym same) k.filled)
@@ -122,7 +122,7 @@ one_code (c ∷ cs) ws vs h k =
 
 -- ---- images
 
-same_contents : (s : Sheet) (c d : Contents) → Says s c → Says s d → c ≡ d
+same_contents : (s : Sheet) (c d : ImageContents) → Says s c → Says s d → c ≡ d
 same_contents s c d h k =
     let budget = same_depths c.budget d.budget (sym h.budget ∙ k.budget) in
     let memory = same_number s.memory.1 c.memory d.memory h.memory k.memory in
@@ -138,7 +138,7 @@ same_contents s c d h k =
     let names = same_names c.names d.names (sym h.names ∙ k.names) in
     by_fields c d budget memory calls private_a private_e entry_a entry_e code_a code_e content lines names
   where
-    by_fields : (c d : Contents) → c.budget ≡ d.budget → c.memory ≡ d.memory → c.calls ≡ d.calls → c.private_a ≡ d.private_a → c.private_e ≡ d.private_e → c.entry_a ≡ d.entry_a → c.entry_e ≡ d.entry_e
+    by_fields : (c d : ImageContents) → c.budget ≡ d.budget → c.memory ≡ d.memory → c.calls ≡ d.calls → c.private_a ≡ d.private_a → c.private_e ≡ d.private_e → c.entry_a ≡ d.entry_a → c.entry_e ≡ d.entry_e
         → c.code_a ≡ d.code_a → c.code_e ≡ d.code_e → c.content ≡ d.content → c.lines ≡ d.lines → c.names ≡ d.names → c ≡ d
     by_fields c d e0 e1 e2 e3 e4 e5 e6 e7 e8 e9 e10 e11 =
         let e : record { budget = c.budget; memory = c.memory; calls = c.calls; private_a = c.private_a; private_e = c.private_e; entry_a = c.entry_a; entry_e = c.entry_e; code_a = c.code_a; code_e = c.code_e; content = c.content; lines = c.lines; names = c.names } ≡ record { budget = d.budget; memory = d.memory; calls = d.calls; private_a = d.private_a; private_e = d.private_e; entry_a = d.entry_a; entry_e = d.entry_e; code_a = d.code_a; code_e = d.code_e; content = d.content; lines = d.lines; names = d.names } = cc in

@@ -7,9 +7,9 @@ use Rattle.dae_encode.specs.declared.Inst.{Inst}
 use Rattle.dae_encode.specs.declared.Inst.TheVariants.{Lui, Auipc, Jal, Jalr, Beq, Bne, Blt, Bge, Bltu, Bgeu, Lb, Lh, Lw, Lbu, Lhu, Sb, Sh, Sw, Addi, Slti, Sltiu, Xori, Ori, Andi, Slli, Srli, Srai, Add, Sub, Sll, Slt, Sltu, Xor, Srl, Sra, Or, And, Mul, Mulh, Mulhsu, Mulhu, Div, Divu, Rem, Remu, Ecall}
 use Rattle.dae_asm_lines.specs.declared.Operands.{Operands}
 use Rattle.dae_asm_lines.specs.declared.Operands.TheVariants.{Registers, Immediate, Based, Branch, Upper, Jump, Alone}
-use Rattle.dae_asm_lines.specs.Targets.{Target, Given, Named}
+use Rattle.dae_asm_lines.specs.Targets.{JumpTarget, Given, Named}
 use Rattle.dae_asm_lines.specs.Names.{name_of, operands_of, named, AreAlike}
-use Rattle.dae_asm_lines.specs.Tokens.{Token, Word, Number}
+use Rattle.dae_asm_lines.specs.Tokens.{LineToken, Word, Number}
 use Rattle.dae_asm_lines.specs.Items as items
 use Rattle.dae_asm_lines.specs.Items.{Says, SayOperands, IsRegister}
 use Rattle.dae_asm_lines.specs.Reading.{register, first, end, all_numbers, two_registers_at, registers_at, immediate_at, based_at, branch_at, upper_at, jump_at, alone_at, operands_at, seven_at, one_at, private_at, entry_at, nothing_at, mark_at, if_few, bytes_at, name_at, instruction_at, behind_name, colon_at, item_of}
@@ -17,7 +17,7 @@ use Rattle.dae_asm_lines.proofs.Steps.{is_register, is_target}
 
 -- ---- operands
 
-operands_read : (form : Operands ℤ) (ts : List Token) (o : Operands Target) → AreAlike form o → SayOperands ts o → operands_at form ts ≡ Some o
+operands_read : (form : Operands ℤ) (ts : List LineToken) (o : Operands JumpTarget) → AreAlike form o → SayOperands ts o → operands_at form ts ≡ Some o
 unfolding operands_at registers_at immediate_at based_at branch_at upper_at jump_at alone_at two_registers_at first end
 operands_read (Registers _ _ _) ts (Registers a b c) alike h =
     let e = h.whole in let x = is_register h.x a h.one in let y = is_register h.y b h.two in let z = is_register h.z c h.three in rw (e, x, y, z) refl
@@ -34,7 +34,7 @@ operands_read Alone ts Alone alike e = rw e refl
 operands_read _ ts _ alike say = absurd alike
 
 -- a register is no colon
-no_colon : (x : Token) (r : ℤ) (ts : List Token) → IsRegister x r → colon_at (x ∷ ts) ≡ None
+no_colon : (x : LineToken) (r : ℤ) (ts : List LineToken) → IsRegister x r → colon_at (x ∷ ts) ≡ None
 unfolding colon_at first
 no_colon x r ts h = let e = h.whole in rw e refl
 
@@ -42,7 +42,7 @@ nothing : colon_at [] ≡ None
 unfolding colon_at first
 nothing = refl
 
-operands_no_colon : (ts : List Token) (o : Operands Target) → SayOperands ts o → colon_at ts ≡ None
+operands_no_colon : (ts : List LineToken) (o : Operands JumpTarget) → SayOperands ts o → colon_at ts ≡ None
 operands_no_colon ts (Registers a b c) h = let e = h.whole in rw e (no_colon h.x a _ h.one)
 operands_no_colon ts (Immediate a b n) h = let e = h.whole in rw e (no_colon h.x a _ h.one)
 operands_no_colon ts (Based a n b) h = let e = h.whole in rw e (no_colon h.x a _ h.one)
@@ -52,7 +52,7 @@ operands_no_colon ts (Jump a t) h = let e = h.whole in rw e (no_colon h.x a _ h.
 operands_no_colon ts Alone e = rw e nothing
 
 -- the name of an instruction is no other word
-only_instruction : (i : Inst) (ts : List Token) → behind_name (name_of i) ts ≡ instruction_at (name_of i) ts
+only_instruction : (i : Inst) (ts : List LineToken) → behind_name (name_of i) ts ≡ instruction_at (name_of i) ts
 unfolding behind_name name_of
 only_instruction (Lui a b) ts = refl
 only_instruction (Auipc a b) ts = refl
@@ -101,7 +101,7 @@ only_instruction (Rem a b c) ts = refl
 only_instruction (Remu a b c) ts = refl
 only_instruction Ecall ts = refl
 
-instruction_read : (i : Inst) (ts : List Token) (o : Operands Target) → named (name_of i) ≡ Some i → AreAlike (operands_of i) o → SayOperands ts o → instruction_at (name_of i) ts ≡ Some (items.Instruction i o)
+instruction_read : (i : Inst) (ts : List LineToken) (o : Operands JumpTarget) → named (name_of i) ≡ Some i → AreAlike (operands_of i) o → SayOperands ts o → instruction_at (name_of i) ts ≡ Some (items.Instruction i o)
 unfolding instruction_at
 instruction_read i ts o known alike say = let read = operands_read (operands_of i) ts o alike say in rw (known, read) refl
 
@@ -144,19 +144,19 @@ numbers_no_colon (n ∷ ns) = refl
 
 -- ---- a line
 
-behind : (w : List ℕ) (ts : List Token) (o : Option items.Item) → colon_at ts ≡ None → behind_name w ts ≡ o → item_of (Word w ∷ ts) ≡ o
+behind : (w : List ℕ) (ts : List LineToken) (o : Option items.LineItem) → colon_at ts ≡ None → behind_name w ts ≡ o → item_of (Word w ∷ ts) ≡ o
 unfolding item_of first
 behind w ts o none e = rw none e
 
-by_seven : (ts : List Token) → behind_name (codes ".budget") ts ≡ seven_at ts
+by_seven : (ts : List LineToken) → behind_name (codes ".budget") ts ≡ seven_at ts
 unfolding behind_name
 by_seven ts = refl
 
-by_bytes : (ts : List Token) → behind_name (codes ".byte") ts ≡ bytes_at ts
+by_bytes : (ts : List LineToken) → behind_name (codes ".byte") ts ≡ bytes_at ts
 unfolding behind_name
 by_bytes ts = refl
 
-by_name : (ts : List Token) → behind_name (codes ".name") ts ≡ name_at ts
+by_name : (ts : List LineToken) → behind_name (codes ".name") ts ≡ name_at ts
 unfolding behind_name
 by_name ts = refl
 
@@ -170,16 +170,16 @@ unfolding item_of colon_at behind_name mark_at first end
 mark_read A w f l = refl
 mark_read E w f l = refl
 
-target_no_colon : (x : Token) (t : Target) (ts : List Token) → items.IsTarget x t → colon_at (x ∷ ts) ≡ None
+target_no_colon : (x : LineToken) (t : JumpTarget) (ts : List LineToken) → items.IsTarget x t → colon_at (x ∷ ts) ≡ None
 unfolding colon_at first
 target_no_colon x (Given z) ts e = rw e refl
 target_no_colon x (Named w) ts (e, l) = rw e refl
 
-entry_read : (x y : Token) (a e : Target) → items.IsTarget x a → items.IsTarget y e → behind_name (codes ".entry") (x ∷ y ∷ []) ≡ Some (items.Entry a e)
+entry_read : (x y : LineToken) (a e : JumpTarget) → items.IsTarget x a → items.IsTarget y e → behind_name (codes ".entry") (x ∷ y ∷ []) ≡ Some (items.Entry a e)
 unfolding behind_name entry_at first end
 entry_read x y a e hx hy = let one = is_target x a hx in let two = is_target y e hy in rw (one, two) refl
 
-pub read : (ts : List Token) (i : items.Item) → Says ts i → item_of ts ≡ Some i
+pub read : (ts : List LineToken) (i : items.LineItem) → Says ts i → item_of ts ≡ Some i
 unfolding item_of colon_at behind_name one_at private_at nothing_at first end
 read ts (items.Budget ns) (e, seven) = rw e (behind (codes ".budget") (map Number ns) _ (numbers_no_colon ns) (by_seven (map Number ns) ∙ seven_read ns seven))
 read ts (items.Memory n) e = rw e refl

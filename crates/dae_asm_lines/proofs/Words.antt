@@ -2,18 +2,18 @@
 use Rattle.std.proofs.Common.{◌≡◌, ℕ, suc, ◌+◌, Bool, true, false, not, ◌&&◌, ◌==◌, cond, if◌then◌else◌, List, [], ◌∷◌, ◌++◌, take, drop, refl, ap, ◌∙◌, append_assoc, arith}
 use Rattle.std.specs.List.{prefix_len}
 use Rattle.std.proofs.lemmas.List.{append-nil}
-use Rattle.dae_asm_lines.specs.Tokens.{Token, Sign, is_blank, is_sign, token_of, word_then, tokens_behind, tokens_of, before_comment}
+use Rattle.dae_asm_lines.specs.Tokens.{LineToken, Sign, is_blank, is_sign, token_of, word_then, tokens_behind, tokens_of, before_comment}
 use Rattle.dae_asm_lines.specs.Scanning.{is_word_byte, is_spoken}
 
 -- what a word that has begun comes to, where the next byte is of this kind
-abbrev behind : Bool → Bool → List ℕ → ℕ → List ℕ → List Token
+abbrev behind : Bool → Bool → List ℕ → ℕ → List ℕ → List LineToken
 behind blank sign w b bs = if blank then word_then w (tokens_behind [] bs) else (if sign then word_then w (Sign b ∷ tokens_behind [] bs) else tokens_behind (w ++ b ∷ []) bs)
 
 abbrev run : Bool → Bool → List ℕ → ℕ
 run blank sign bs = cond (not blank && not sign) (1 + prefix_len is_word_byte bs) 0
 
 -- the word ends before the first blank or sign
-abbrev Ends : List ℕ → List ℕ → ℕ → List Token → Type 0
+abbrev Ends : List ℕ → List ℕ → ℕ → List LineToken → Type 0
 Ends w bs n tokens = tokens ≡ word_then (w ++ take n bs) (tokens_behind [] (drop n bs))
 
 by_kind : (w : List ℕ) (b : ℕ) (bs : List ℕ) (blank sign : Bool) → is_blank b ≡ blank → is_sign b ≡ sign → Ends (w ++ b ∷ []) bs (prefix_len is_word_byte bs) (tokens_behind (w ++ b ∷ []) bs) → Ends w (b ∷ bs) (run blank sign bs) (behind blank sign w b bs)

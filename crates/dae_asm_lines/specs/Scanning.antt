@@ -2,9 +2,9 @@
 use Rattle.std.specs.Prelude.{◌≡◌, ℕ, Bool, false, not, ◌&&◌, ◌==◌, List, [], ◌∷◌, Option, Some, None}
 use Rattle.dae_asm_lines.specs.declared.tokens.Scanned.{Scanned}
 use Rattle.dae_asm_lines.specs.declared.tokens.Scanned.TheVariants as scans
-use Rattle.dae_asm_lines.specs.Tokens.{Token, Word, Number, Sign, Other, is_blank, is_sign}
+use Rattle.dae_asm_lines.specs.Tokens.{LineToken, Word, Number, Sign, Other, is_blank, is_sign}
 
-abbrev pub scanned : Scanned → Token
+abbrev pub scanned : Scanned → LineToken
 scanned (scans.Word word) = Word word.now
 scanned (scans.Number z) = Number z
 scanned (scans.Sign b) = Sign b
@@ -15,7 +15,7 @@ abbrev pub Gives : {X Y : Type 0} → (X → Y) → Option X → Option Y → Ty
 Gives view None read = read ≡ None
 Gives view (Some x) read = read ≡ Some (view x)
 
-abbrev pub first_token : List Token → Option (Token × List Token)
+abbrev pub first_token : List LineToken → Option (LineToken × List LineToken)
 first_token [] = None
 first_token (t ∷ ts) = Some (t, ts)
 

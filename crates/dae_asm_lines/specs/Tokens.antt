@@ -6,11 +6,11 @@ use Rattle.std.specs.List.{list_all}
 use Rattle.std.specs.Char.{is_ascii_alphabetic, is_ascii_digit}
 use Rattle.std.specs.Str.Parse.{digits_value}
 
-pub data Token : Type 0 where
-  Word : List ℕ → Token
-  Number : ℤ → Token
-  Sign : ℕ → Token
-  Other : Token
+pub data LineToken : Type 0 where
+  Word : List ℕ → LineToken
+  Number : ℤ → LineToken
+  Sign : ℕ → LineToken
+  Other : LineToken
 
 -- a space or a tab
 unfoldable pub is_blank : ℕ → Bool
@@ -58,29 +58,29 @@ number_of (b ∷ bs) =
     if b == 45 then option_map (λ n. neg_ℤ (pos n)) (size_of bs)
     else option_map (λ n. pos n) (size_of (b ∷ bs))
 
-abbrev pub number_or_other : Option ℤ → Token
+abbrev pub number_or_other : Option ℤ → LineToken
 number_or_other None = Other
 number_or_other (Some z) = Number z
 
-abbrev pub token_of : List ℕ → Token
+abbrev pub token_of : List ℕ → LineToken
 token_of word = if is_name word then Word word else number_or_other (number_of word)
 
 -- ---- lines
 
 -- a word, if it has bytes, and the tokens behind it
-abbrev pub word_then : List ℕ → List Token → List Token
+abbrev pub word_then : List ℕ → List LineToken → List LineToken
 word_then [] tokens = tokens
 word_then (b ∷ bs) tokens = token_of (b ∷ bs) ∷ tokens
 
 -- the tokens of a word that has begun and of the bytes behind it
-abbrev pub tokens_behind : List ℕ → List ℕ → List Token
+abbrev pub tokens_behind : List ℕ → List ℕ → List LineToken
 tokens_behind word [] = word_then word []
 tokens_behind word (b ∷ bs) =
     if is_blank b then word_then word (tokens_behind [] bs)
     else (if is_sign b then word_then word (Sign b ∷ tokens_behind [] bs)
     else tokens_behind (word ++ b ∷ []) bs)
 
-unfoldable pub tokens_of : List ℕ → List Token
+unfoldable pub tokens_of : List ℕ → List LineToken
 tokens_of line = tokens_behind [] line
 
 -- a line up to its comment

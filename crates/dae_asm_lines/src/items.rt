@@ -11,11 +11,11 @@ ghost use Rattle.dae_asm_lines.specs.Lines.{IsFound, operands_seen, seen};
 use crate::instructions::{like, operands_of};
 use crate::numbers::{count_numbers, end, name, number, register, sign, target};
 use crate::tokens::is_label;
-use crate::{Item, Line, Operands, Target};
+use crate::{JumpTarget, Line, LineItem, Operands};
 use dae_base::Side;
 
 #[tactic(auto, unfolding(crate::specs::Reading::seven_at))]
-fn budget(line: &[u8]) -> Option<Item<'_>>
+fn budget(line: &[u8]) -> Option<LineItem<'_>>
     ensures { Gives seen result (seven_at (tokens_of line.now)) }
 {
     let (ld, rest) = number(line)?;
@@ -26,27 +26,27 @@ fn budget(line: &[u8]) -> Option<Item<'_>>
     let (eb, rest) = number(rest)?;
     let (cq, rest) = number(rest)?;
     end(rest)?;
-    Some(Item::Budget([ld, al, sa, sd, ab, eb, cq]))
+    Some(LineItem::Budget([ld, al, sa, sd, ab, eb, cq]))
 }
 
 #[tactic(auto, unfolding(crate::specs::Reading::private_at))]
-fn private(line: &[u8]) -> Option<Item<'_>>
+fn private(line: &[u8]) -> Option<LineItem<'_>>
     ensures { Gives seen result (private_at (tokens_of line.now)) }
 {
     let (a, rest) = number(line)?;
     let (e, rest) = number(rest)?;
     end(rest)?;
-    Some(Item::Private(a, e))
+    Some(LineItem::Private(a, e))
 }
 
 #[tactic(auto, unfolding(crate::specs::Reading::entry_at))]
-fn entry(line: &[u8]) -> Option<Item<'_>>
+fn entry(line: &[u8]) -> Option<LineItem<'_>>
     ensures { Gives seen result (entry_at (tokens_of line.now)) }
 {
     let (a, rest) = target(line)?;
     let (e, rest) = target(rest)?;
     end(rest)?;
-    Some(Item::Entry(a, e))
+    Some(LineItem::Entry(a, e))
 }
 
 fn side_of(name: &[u8]) -> Option<Side>
@@ -62,7 +62,7 @@ fn side_of(name: &[u8]) -> Option<Side>
 }
 
 #[tactic(auto, unfolding(crate::specs::Reading::mark_at))]
-fn mark(line: &[u8]) -> Option<Item<'_>>
+fn mark(line: &[u8]) -> Option<LineItem<'_>>
     ensures { Gives seen result (mark_at (tokens_of line.now)) }
 {
     let (side, rest) = name(line)?;
@@ -71,27 +71,27 @@ fn mark(line: &[u8]) -> Option<Item<'_>>
     let (file, rest) = number(rest)?;
     let (line, rest) = number(rest)?;
     end(rest)?;
-    Some(Item::Mark(side, word, file, line))
+    Some(LineItem::Mark(side, word, file, line))
 }
 
 #[tactic(auto, unfolding(crate::specs::Reading::bytes_at))]
-fn bytes(line: &[u8]) -> Option<Item<'_>>
+fn bytes(line: &[u8]) -> Option<LineItem<'_>>
     ensures { Gives seen result (bytes_at (tokens_of line.now)) }
 {
     let count = count_numbers(line)?;
     if 1 <= count && count <= 16 {
-        Some(Item::Bytes(line))
+        Some(LineItem::Bytes(line))
     } else {
         None
     }
 }
 
 #[tactic(auto, unfolding(crate::specs::Reading::name_at))]
-fn file_name(line: &[u8]) -> Option<Item<'_>>
+fn file_name(line: &[u8]) -> Option<LineItem<'_>>
     ensures { Gives seen result (name_at (tokens_of line.now)) }
 {
     count_numbers(line)?;
-    Some(Item::Name(line))
+    Some(LineItem::Name(line))
 }
 
 #[tactic(auto, unfolding(crate::specs::Reading::two_registers_at))]
@@ -107,7 +107,7 @@ fn two_registers(line: &[u8]) -> Option<(i64, i64, &[u8])>
 }
 
 #[tactic(auto, unfolding(crate::specs::Reading::registers_at))]
-fn registers(line: &[u8]) -> Option<Operands<Target<'_>>>
+fn registers(line: &[u8]) -> Option<Operands<JumpTarget<'_>>>
     ensures { Gives operands_seen result (registers_at (tokens_of line.now)) }
 {
     let (first, second, rest) = two_registers(line)?;
@@ -117,7 +117,7 @@ fn registers(line: &[u8]) -> Option<Operands<Target<'_>>>
 }
 
 #[tactic(auto, unfolding(crate::specs::Reading::immediate_at))]
-fn immediate(line: &[u8]) -> Option<Operands<Target<'_>>>
+fn immediate(line: &[u8]) -> Option<Operands<JumpTarget<'_>>>
     ensures { Gives operands_seen result (immediate_at (tokens_of line.now)) }
 {
     let (first, second, rest) = two_registers(line)?;
@@ -127,7 +127,7 @@ fn immediate(line: &[u8]) -> Option<Operands<Target<'_>>>
 }
 
 #[tactic(auto, unfolding(crate::specs::Reading::based_at))]
-fn based(line: &[u8]) -> Option<Operands<Target<'_>>>
+fn based(line: &[u8]) -> Option<Operands<JumpTarget<'_>>>
     ensures { Gives operands_seen result (based_at (tokens_of line.now)) }
 {
     let (first, rest) = register(line)?;
@@ -141,7 +141,7 @@ fn based(line: &[u8]) -> Option<Operands<Target<'_>>>
 }
 
 #[tactic(auto, unfolding(crate::specs::Reading::branch_at))]
-fn branch(line: &[u8]) -> Option<Operands<Target<'_>>>
+fn branch(line: &[u8]) -> Option<Operands<JumpTarget<'_>>>
     ensures { Gives operands_seen result (branch_at (tokens_of line.now)) }
 {
     let (first, second, rest) = two_registers(line)?;
@@ -151,7 +151,7 @@ fn branch(line: &[u8]) -> Option<Operands<Target<'_>>>
 }
 
 #[tactic(auto, unfolding(crate::specs::Reading::upper_at))]
-fn upper(line: &[u8]) -> Option<Operands<Target<'_>>>
+fn upper(line: &[u8]) -> Option<Operands<JumpTarget<'_>>>
     ensures { Gives operands_seen result (upper_at (tokens_of line.now)) }
 {
     let (first, rest) = register(line)?;
@@ -162,7 +162,7 @@ fn upper(line: &[u8]) -> Option<Operands<Target<'_>>>
 }
 
 #[tactic(auto, unfolding(crate::specs::Reading::jump_at))]
-fn jump(line: &[u8]) -> Option<Operands<Target<'_>>>
+fn jump(line: &[u8]) -> Option<Operands<JumpTarget<'_>>>
     ensures { Gives operands_seen result (jump_at (tokens_of line.now)) }
 {
     let (first, rest) = register(line)?;
@@ -173,7 +173,7 @@ fn jump(line: &[u8]) -> Option<Operands<Target<'_>>>
 }
 
 #[tactic(auto, unfolding(crate::specs::Reading::alone_at))]
-fn alone(line: &[u8]) -> Option<Operands<Target<'_>>>
+fn alone(line: &[u8]) -> Option<Operands<JumpTarget<'_>>>
     ensures { Gives operands_seen result (alone_at (tokens_of line.now)) }
 {
     end(line)?;
@@ -182,7 +182,7 @@ fn alone(line: &[u8]) -> Option<Operands<Target<'_>>>
 
 /// Operands of the same form as these.
 #[tactic(auto, unfolding(crate::specs::Reading::operands_at))]
-fn operands_like(form: Operands<i64>, line: &[u8]) -> Option<Operands<Target<'_>>>
+fn operands_like(form: Operands<i64>, line: &[u8]) -> Option<Operands<JumpTarget<'_>>>
     ensures { Gives operands_seen result (operands_at form (tokens_of line.now)) }
 {
     match form {
@@ -197,17 +197,17 @@ fn operands_like(form: Operands<i64>, line: &[u8]) -> Option<Operands<Target<'_>
 }
 
 #[tactic(auto, unfolding(crate::specs::Reading::instruction_at))]
-fn instruction<'t>(name: &[u8], line: &'t [u8]) -> Option<Item<'t>>
+fn instruction<'t>(name: &[u8], line: &'t [u8]) -> Option<LineItem<'t>>
     ensures { Gives seen result (instruction_at name.now (tokens_of line.entry.now)) }
 {
     let like = like(name)?;
     let operands = operands_like(operands_of(&like), line)?;
-    Some(Item::Instruction(like, operands))
+    Some(LineItem::Instruction(like, operands))
 }
 
 /// An item without numbers.
 #[tactic(auto, unfolding(crate::specs::Reading::nothing_at))]
-fn alone_item<'t>(item: Item<'t>, line: &[u8]) -> Option<Item<'t>>
+fn alone_item<'t>(item: LineItem<'t>, line: &[u8]) -> Option<LineItem<'t>>
     ensures { Gives seen result (nothing_at (seen item.entry) (tokens_of line.now)) }
 {
     end(line)?;
@@ -215,35 +215,35 @@ fn alone_item<'t>(item: Item<'t>, line: &[u8]) -> Option<Item<'t>>
 }
 
 #[tactic(auto, unfolding(crate::specs::Reading::one_at))]
-fn memory(line: &[u8]) -> Option<Item<'_>>
+fn memory(line: &[u8]) -> Option<LineItem<'_>>
     ensures { Gives seen result (one_at (λ n. items.Memory n) (tokens_of line.now)) }
 {
     let (number, rest) = number(line)?;
     end(rest)?;
-    Some(Item::Memory(number))
+    Some(LineItem::Memory(number))
 }
 
 #[tactic(auto, unfolding(crate::specs::Reading::one_at))]
-fn calls(line: &[u8]) -> Option<Item<'_>>
+fn calls(line: &[u8]) -> Option<LineItem<'_>>
     ensures { Gives seen result (one_at (λ n. items.Calls n) (tokens_of line.now)) }
 {
     let (number, rest) = number(line)?;
     end(rest)?;
-    Some(Item::Calls(number))
+    Some(LineItem::Calls(number))
 }
 
 #[tactic(auto, unfolding(crate::specs::Reading::one_at))]
-fn plain(line: &[u8]) -> Option<Item<'_>>
+fn plain(line: &[u8]) -> Option<LineItem<'_>>
     ensures { Gives seen result (one_at (λ n. items.Plain n) (tokens_of line.now)) }
 {
     let (number, rest) = number(line)?;
     end(rest)?;
-    Some(Item::Plain(number))
+    Some(LineItem::Plain(number))
 }
 
 /// What follows a name that is no label.
 #[tactic(auto, unfolding(crate::specs::Reading::behind_name))]
-fn behind_name<'t>(name: &[u8], rest: &'t [u8]) -> Option<Item<'t>>
+fn behind_name<'t>(name: &[u8], rest: &'t [u8]) -> Option<LineItem<'t>>
     ensures { Gives seen result (behind_name name.now (tokens_of rest.entry.now)) }
 {
     if name == b".budget".as_slice() {
@@ -257,11 +257,11 @@ fn behind_name<'t>(name: &[u8], rest: &'t [u8]) -> Option<Item<'t>>
     } else if name == b".entry".as_slice() {
         entry(rest)
     } else if name == b".a".as_slice() {
-        alone_item(Item::Code(Side::A), rest)
+        alone_item(LineItem::Code(Side::A), rest)
     } else if name == b".e".as_slice() {
-        alone_item(Item::Code(Side::E), rest)
+        alone_item(LineItem::Code(Side::E), rest)
     } else if name == b".data".as_slice() {
-        alone_item(Item::Data, rest)
+        alone_item(LineItem::Data, rest)
     } else if name == b".word".as_slice() {
         plain(rest)
     } else if name == b".byte".as_slice() {
@@ -285,12 +285,12 @@ fn colon(line: &[u8]) -> Option<()>
 }
 
 #[tactic(auto, unfolding(crate::specs::Reading::item_of))]
-fn item_of(line: &[u8]) -> Option<Item<'_>>
+fn item_of(line: &[u8]) -> Option<LineItem<'_>>
     ensures { Gives seen result (item_of (tokens_of line.now)) }
 {
     let (name, rest) = name(line)?;
     match colon(rest) {
-        Some(_) if is_label(name) => Some(Item::Label(name)),
+        Some(_) if is_label(name) => Some(LineItem::Label(name)),
         _ => behind_name(name, rest),
     }
 }

@@ -18,7 +18,7 @@ use dae_encode::Inst;
 /// What a branch or a jump goes to, or where a code is entered: an offset or an address in bytes, or
 /// a label.
 #[derive(Clone, Copy)]
-pub enum Target<'t> {
+pub enum JumpTarget<'t> {
     Number(i64),
     Label(&'t [u8]),
 }
@@ -45,7 +45,7 @@ pub enum Operands<T> {
 /// What a line says. Numbers may be out of any range: those below -10^12 count as -10^12, and those
 /// above 10^12 as 10^12.
 #[derive(Clone, Copy)]
-pub enum Item<'t> {
+pub enum LineItem<'t> {
     /// `.budget`: ld, al, sa, sd, ab, eb and cq.
     Budget([i64; 7]),
     /// `.memory`, in bytes.
@@ -55,7 +55,7 @@ pub enum Item<'t> {
     /// `.private`, in bytes: that of A and that of E.
     Private(i64, i64),
     /// `.entry`: that of A and that of E.
-    Entry(Target<'t>, Target<'t>),
+    Entry(JumpTarget<'t>, JumpTarget<'t>),
     /// `.a` or `.e`
     Code(Side),
     /// `.data`
@@ -63,7 +63,7 @@ pub enum Item<'t> {
     /// `NAME:`
     Label(&'t [u8]),
     /// An instruction like this one, but for its operands.
-    Instruction(Inst, Operands<Target<'t>>),
+    Instruction(Inst, Operands<JumpTarget<'t>>),
     /// `.word`
     Plain(i64),
     /// `.byte`: the part of the line that holds its numbers, from 1 to 16.
@@ -80,7 +80,7 @@ pub enum Line<'t> {
     /// It has no tokens.
     Empty,
     /// It spells this item.
-    Says(Item<'t>),
+    Says(LineItem<'t>),
     /// It spells none.
     Bad,
 }

@@ -7,7 +7,7 @@ ghost use Rattle.dae_asm_lines.specs.Tokens.{tokens_of};
 ghost use Rattle.dae_asm_lines.specs.Scanning.{Gives};
 ghost use Rattle.dae_asm_lines.specs.Reading.{first, number, name, sign, register, register_of, target, end, all_numbers};
 
-use crate::Target;
+use crate::JumpTarget;
 use crate::tokens::{Scanned, is_label, next_token, size_of};
 
 /// A number, and what follows it.
@@ -83,13 +83,16 @@ pub fn register(line: &[u8]) -> Option<(i64, &[u8])>
 
 /// A number or a label, and what follows it.
 #[tactic(auto, unfolding(crate::specs::Reading::first))]
-pub fn target(line: &[u8]) -> Option<(Target<'_>, &[u8])>
+pub fn target(line: &[u8]) -> Option<(JumpTarget<'_>, &[u8])>
     ensures { Gives (λ x. (target_seen x.0, tokens_of x.1.now)) result
         (first target (tokens_of line.now)) }
 {
     match next_token(line) {
-        Some((Scanned::Number(number), rest)) => Some((Target::Number(number), rest)),
-        Some((Scanned::Word(name), rest)) if is_label(name) => Some((Target::Label(name), rest)),
+        Some((Scanned::Number(number), rest)) => Some((JumpTarget::Number(number), rest)),
+        Some((Scanned::Word(name), rest)) if is_label(name) => Some((
+            JumpTarget::Label(name),
+            rest,
+        )),
         _ => None,
     }
 }

@@ -1,6 +1,6 @@
 -- The items of lines, numbered.
 use Rattle.std.proofs.Common.{◌≡◌, ℕ, zero, suc, ◌+◌, List, [], ◌∷◌, ◌++◌, length, Option, Some, None, refl, ap, subst, arith}
-use Rattle.dae_asm_lines.specs.Items.{Item}
+use Rattle.dae_asm_lines.specs.Items.{LineItem}
 use Rattle.dae_asm_lines.specs.Lines.{IsLine}
 use Rattle.dae_asm_lines.proofs.Laws.{one_line}
 use Rattle.dae_asm_order.specs.Sheets.{Row, AreItems, none, skips, says, Skips, none_skipped, one_skipped}
@@ -30,7 +30,7 @@ skipped (line ∷ lines) (suc count) behind (one_skipped l rest) =
     let r = skipped lines count behind rest in
     record { front = line ∷ r.front; whole = ap (λ (ls : List (List ℕ)). line ∷ ls) r.whole; many = ap suc r.many; items = λ n. skips l (r.items (suc n)) }
 
-pub nothing_and_item : (line : List ℕ) (item : Item) → IsLine line None → IsLine line (Some item) → ⊥
+pub nothing_and_item : (line : List ℕ) (item : LineItem) → IsLine line None → IsLine line (Some item) → ⊥
 nothing_and_item line item a b = let e = one_line line None (Some item) a b in cc
 
 -- lines have one list of items
@@ -48,7 +48,7 @@ one_list n (line ∷ lines) ((m, item) ∷ rows) ((k, other) ∷ others) (says a
     cc
 
 -- no list of items has a line that says nothing that a line may say
-pub no_list : (n : ℕ) (front : List (List ℕ)) (line : List ℕ) (rows : List Row) → ((o : Option Item) → IsLine line o → ⊥) → AreItems n (front ++ (line ∷ [])) rows → ⊥
+pub no_list : (n : ℕ) (front : List (List ℕ)) (line : List ℕ) (rows : List Row) → ((o : Option LineItem) → IsLine line o → ⊥) → AreItems n (front ++ (line ∷ [])) rows → ⊥
 no_list n [] line rows bad (skips a r) = bad None a
 no_list n [] line ((m, item) ∷ rows) bad (says a r) = bad (Some item) a
 no_list n (first ∷ front) line rows bad (skips a r) = no_list (suc n) front line rows bad r

@@ -3,11 +3,11 @@ use Rattle.std.proofs.Common.{◌≡◌, ℕ, true, List, [], ◌∷◌, ◌++�
 use Rattle.std.specs.List.{list_all}
 use Rattle.dae_base.specs.declared.Side.{Side}
 use Rattle.dae_base.specs.declared.Side.TheVariants.{A, E}
-use Rattle.dae_asm_lines.specs.Targets.{Target, Given}
+use Rattle.dae_asm_lines.specs.Targets.{JumpTarget, Given}
 use Rattle.dae_asm_lines.specs.Items as items
-use Rattle.dae_asm_lines.specs.Items.{Item}
-use Rattle.dae_asm_order.specs.declared.order.Place.{Place}
-use Rattle.dae_asm_order.specs.declared.order.Place.TheVariants as places
+use Rattle.dae_asm_lines.specs.Items.{LineItem}
+use Rattle.dae_asm_order.specs.declared.order.NextItem.{NextItem}
+use Rattle.dae_asm_order.specs.declared.order.NextItem.TheVariants as places
 use Rattle.dae_asm_order.specs.Sheets.{Row, Sheet, rows_of, is_code}
 use Rattle.dae_asm_order.specs.Order.{Begin}
 use Rattle.dae_asm_order.specs.Walking.{place_behind, or_none, place_after, is_last}
@@ -27,7 +27,7 @@ pub record AreNames (rows : List Row) : Type 0 where
   pub names : List (ℕ × List ℤ)
   pub whole : rows ≡ map name_row names
 
-from_names : (rows : List Row) (p : Place) → place_after places.Names rows ≡ Some p → AreNames rows
+from_names : (rows : List Row) (p : NextItem) → place_after places.Names rows ≡ Some p → AreNames rows
 from_names [] p e = record { names = []; whole = refl }
 from_names ((n, items.Name zs) ∷ rows) p e =
     let rest = from_names rows p e in
@@ -42,7 +42,7 @@ pub record AreMarks (rows : List Row) : Type 0 where
 no_marks : (rows : List Row) → AreNames rows → AreMarks rows
 no_marks rows found = record { marks = []; names = found.names; whole = found.whole }
 
-from_marks : (rows : List Row) (p : Place) → place_after places.Marks rows ≡ Some p → AreMarks rows
+from_marks : (rows : List Row) (p : NextItem) → place_after places.Marks rows ≡ Some p → AreMarks rows
 from_marks [] p e = record { marks = []; names = []; whole = refl }
 from_marks ((n, items.Mark s w f l) ∷ rows) p e =
     let rest = from_marks rows p e in
@@ -59,7 +59,7 @@ pub record AreBytes (rows : List Row) : Type 0 where
 no_bytes : (rows : List Row) → AreMarks rows → AreBytes rows
 no_bytes rows found = record { bytes = []; marks = found.marks; names = found.names; whole = found.whole }
 
-from_bytes : (rows : List Row) (p : Place) → place_after places.Bytes rows ≡ Some p → AreBytes rows
+from_bytes : (rows : List Row) (p : NextItem) → place_after places.Bytes rows ≡ Some p → AreBytes rows
 from_bytes [] p e = record { bytes = []; marks = []; names = []; whole = refl }
 from_bytes ((n, items.Bytes zs) ∷ rows) p e =
     let rest = from_bytes rows p e in
@@ -69,7 +69,7 @@ from_bytes ((n, items.Name zs) ∷ rows) p e = no_bytes ((n, items.Name zs) ∷ 
 from_bytes (row ∷ rows) p e = absurd cc
 
 -- the code of a side and what ends it
-pub record IsCode (rows : List Row) (next : Place) (ends : Item) (p : Place) : Type 0 where
+pub record IsCode (rows : List Row) (next : NextItem) (ends : LineItem) (p : NextItem) : Type 0 where
   pub code : List Row
   pub n : ℕ
   pub rest : List Row
@@ -77,12 +77,12 @@ pub record IsCode (rows : List Row) (next : Place) (ends : Item) (p : Place) : T
   pub all : IsTrue (list_all (λ r. is_code r.1) code)
   pub goes_on : place_after next rest ≡ Some p
 
-one_more : (row : Row) (rows : List Row) (next : Place) (ends : Item) (p : Place) → is_code row.1 ≡ true → IsCode rows next ends p → IsCode (row ∷ rows) next ends p
+one_more : (row : Row) (rows : List Row) (next : NextItem) (ends : LineItem) (p : NextItem) → is_code row.1 ≡ true → IsCode rows next ends p → IsCode (row ∷ rows) next ends p
 one_more row rows next ends p is rest =
     let all = rest.all in
     record { code = row ∷ rest.code; n = rest.n; rest = rest.rest; whole = ap (λ (rs : List Row). row ∷ rs) rest.whole; all = rw is all; goes_on = rest.goes_on }
 
-from_code_e : (rows : List Row) (p : Place) → is_last p ≡ true → place_after (places.Code E) rows ≡ Some p → IsCode rows places.Bytes items.Data p
+from_code_e : (rows : List Row) (p : NextItem) → is_last p ≡ true → place_after (places.Code E) rows ≡ Some p → IsCode rows places.Bytes items.Data p
 from_code_e [] p last e = absurd cc
 from_code_e ((n, items.Label name) ∷ rows) p last e = one_more (n, items.Label name) rows places.Bytes items.Data p refl (from_code_e rows p last e)
 from_code_e ((n, items.Instruction i o) ∷ rows) p last e = one_more (n, items.Instruction i o) rows places.Bytes items.Data p refl (from_code_e rows p last e)
@@ -90,7 +90,7 @@ from_code_e ((n, items.Plain z) ∷ rows) p last e = one_more (n, items.Plain z)
 from_code_e ((n, items.Data) ∷ rows) p last e = record { code = []; n = n; rest = rows; whole = refl; all = refl; goes_on = e }
 from_code_e (row ∷ rows) p last e = absurd cc
 
-from_code_a : (rows : List Row) (p : Place) → is_last p ≡ true → place_after (places.Code A) rows ≡ Some p → IsCode rows (places.Code E) (items.Code E) p
+from_code_a : (rows : List Row) (p : NextItem) → is_last p ≡ true → place_after (places.Code A) rows ≡ Some p → IsCode rows (places.Code E) (items.Code E) p
 from_code_a [] p last e = absurd cc
 from_code_a ((n, items.Label name) ∷ rows) p last e = one_more (n, items.Label name) rows (places.Code E) (items.Code E) p refl (from_code_a rows p last e)
 from_code_a ((n, items.Instruction i o) ∷ rows) p last e = one_more (n, items.Instruction i o) rows (places.Code E) (items.Code E) p refl (from_code_a rows p last e)
@@ -111,7 +111,7 @@ pub record AreCodes (rows : List Row) : Type 0 where
   pub all_a : IsTrue (list_all (λ r. is_code r.1) code_a)
   pub all_e : IsTrue (list_all (λ r. is_code r.1) code_e)
 
-from_codes : (rows : List Row) (p : Place) → is_last p ≡ true → place_after places.Codes rows ≡ Some p → AreCodes rows
+from_codes : (rows : List Row) (p : NextItem) → is_last p ≡ true → place_after places.Codes rows ≡ Some p → AreCodes rows
 from_codes [] p last e = absurd cc
 from_codes ((n, items.Code A) ∷ rows) p last e =
     let a = from_code_a rows p last e in
@@ -140,54 +140,54 @@ pub record Sheeted (rows : List Row) : Type 0 where
   pub code_e : IsTrue (list_all (λ r. is_code r.1) sheet.code_e)
 
 -- a row of this form, and the place behind it
-pub record Starts {X : Type 0} (rows : List Row) (p next : Place) (item : X → Item) : Type 0 where
+pub record Starts {X : Type 0} (rows : List Row) (p next : NextItem) (item : X → LineItem) : Type 0 where
   pub n : ℕ
   pub x : X
   pub rest : List Row
   pub whole : rows ≡ (n, item x) ∷ rest
   pub goes_on : place_after next rest ≡ Some p
 
-abbrev budget_item : List ℤ → Item
+abbrev budget_item : List ℤ → LineItem
 budget_item ns = items.Budget ns
 
-abbrev memory_item : ℤ → Item
+abbrev memory_item : ℤ → LineItem
 memory_item z = items.Memory z
 
-abbrev calls_item : ℤ → Item
+abbrev calls_item : ℤ → LineItem
 calls_item z = items.Calls z
 
-abbrev private_item : ℤ × ℤ → Item
+abbrev private_item : ℤ × ℤ → LineItem
 private_item x = items.Private x.0 x.1
 
-abbrev entry_item : Target × Target → Item
+abbrev entry_item : JumpTarget × JumpTarget → LineItem
 entry_item x = items.Entry x.0 x.1
 
-from_budget : (rows : List Row) (p : Place) → is_last p ≡ true → place_after places.Budget rows ≡ Some p → Starts rows p places.Memory budget_item
+from_budget : (rows : List Row) (p : NextItem) → is_last p ≡ true → place_after places.Budget rows ≡ Some p → Starts rows p places.Memory budget_item
 from_budget [] p last e = absurd cc
 from_budget ((n, items.Budget ns) ∷ rows) p last e = record { n = n; x = ns; rest = rows; whole = refl; goes_on = e }
 from_budget (row ∷ rows) p last e = absurd cc
 
-from_memory : (rows : List Row) (p : Place) → is_last p ≡ true → place_after places.Memory rows ≡ Some p → Starts rows p places.Calls memory_item
+from_memory : (rows : List Row) (p : NextItem) → is_last p ≡ true → place_after places.Memory rows ≡ Some p → Starts rows p places.Calls memory_item
 from_memory [] p last e = absurd cc
 from_memory ((n, items.Memory z) ∷ rows) p last e = record { n = n; x = z; rest = rows; whole = refl; goes_on = e }
 from_memory (row ∷ rows) p last e = absurd cc
 
-from_calls : (rows : List Row) (p : Place) → is_last p ≡ true → place_after places.Calls rows ≡ Some p → Starts rows p places.Private calls_item
+from_calls : (rows : List Row) (p : NextItem) → is_last p ≡ true → place_after places.Calls rows ≡ Some p → Starts rows p places.Private calls_item
 from_calls [] p last e = absurd cc
 from_calls ((n, items.Calls z) ∷ rows) p last e = record { n = n; x = z; rest = rows; whole = refl; goes_on = e }
 from_calls (row ∷ rows) p last e = absurd cc
 
-from_private : (rows : List Row) (p : Place) → is_last p ≡ true → place_after places.Private rows ≡ Some p → Starts rows p places.Entry private_item
+from_private : (rows : List Row) (p : NextItem) → is_last p ≡ true → place_after places.Private rows ≡ Some p → Starts rows p places.Entry private_item
 from_private [] p last e = absurd cc
 from_private ((n, items.Private a b) ∷ rows) p last e = record { n = n; x = (a, b); rest = rows; whole = refl; goes_on = e }
 from_private (row ∷ rows) p last e = absurd cc
 
-from_entry : (rows : List Row) (p : Place) → is_last p ≡ true → place_after places.Entry rows ≡ Some p → Starts rows p places.Codes entry_item
+from_entry : (rows : List Row) (p : NextItem) → is_last p ≡ true → place_after places.Entry rows ≡ Some p → Starts rows p places.Codes entry_item
 from_entry [] p last e = absurd cc
 from_entry ((n, items.Entry a b) ∷ rows) p last e = record { n = n; x = (a, b); rest = rows; whole = refl; goes_on = e }
 from_entry (row ∷ rows) p last e = absurd cc
 
-pub sheeted : (rows : List Row) (p : Place) → is_last p ≡ true → place_after places.Budget rows ≡ Some p → Sheeted rows
+pub sheeted : (rows : List Row) (p : NextItem) → is_last p ≡ true → place_after places.Budget rows ≡ Some p → Sheeted rows
 sheeted rows p last e =
     let b = from_budget rows p last e in
     let m = from_memory b.rest p last b.goes_on in
@@ -225,11 +225,11 @@ sheeted rows p last e =
 
 -- ---- rows that may follow
 
-by_place : (o : Option Place) (xs ys : List Row) → ((q : Place) → place_after q (xs ++ ys) ≡ or_none (place_after q xs) (λ r. place_after r ys)) → or_none o (λ q. place_after q (xs ++ ys)) ≡ or_none (or_none o (λ q. place_after q xs)) (λ r. place_after r ys)
+by_place : (o : Option NextItem) (xs ys : List Row) → ((q : NextItem) → place_after q (xs ++ ys) ≡ or_none (place_after q xs) (λ r. place_after r ys)) → or_none o (λ q. place_after q (xs ++ ys)) ≡ or_none (or_none o (λ q. place_after q xs)) (λ r. place_after r ys)
 by_place None xs ys h = refl
 by_place (Some q) xs ys h = h q
 
-pub place_join : (p : Place) (xs ys : List Row) → place_after p (xs ++ ys) ≡ or_none (place_after p xs) (λ r. place_after r ys)
+pub place_join : (p : NextItem) (xs ys : List Row) → place_after p (xs ++ ys) ≡ or_none (place_after p xs) (λ r. place_after r ys)
 place_join p [] ys = refl
 place_join p (x ∷ xs) ys = by_place (place_behind p x.1) xs ys (λ q. place_join q xs ys)
 
@@ -254,13 +254,13 @@ to_calls = (0, items.Calls (pos 0)) ∷ to_private
 abbrev to_memory : List Row
 to_memory = (0, items.Memory (pos 0)) ∷ to_calls
 
-record Completes (p : Place) : Type 0 where
+record Completes (p : NextItem) : Type 0 where
   pub rows : List Row
-  pub end : Place
+  pub end : NextItem
   pub ends : place_after p rows ≡ Some end
   pub last : is_last end ≡ true
 
-completes : (p : Place) → Completes p
+completes : (p : NextItem) → Completes p
 completes places.Budget = record { rows = (0, items.Budget []) ∷ to_memory; end = places.Bytes; ends = refl; last = refl }
 completes places.Memory = record { rows = to_memory; end = places.Bytes; ends = refl; last = refl }
 completes places.Calls = record { rows = to_calls; end = places.Bytes; ends = refl; last = refl }
@@ -273,17 +273,17 @@ completes places.Bytes = record { rows = []; end = places.Bytes; ends = refl; la
 completes places.Marks = record { rows = []; end = places.Marks; ends = refl; last = refl }
 completes places.Names = record { rows = []; end = places.Names; ends = refl; last = refl }
 
-pub begins : (rows : List Row) (p : Place) → place_after places.Budget rows ≡ Some p → Begin rows
+pub begins : (rows : List Row) (p : NextItem) → place_after places.Budget rows ≡ Some p → Begin rows
 begins rows p e =
     let c = completes p in
-    let joined = place_join places.Budget rows c.rows ∙ ap (λ (o : Option Place). or_none o (λ r. place_after r c.rows)) e ∙ c.ends in
+    let joined = place_join places.Budget rows c.rows ∙ ap (λ (o : Option NextItem). or_none o (λ r. place_after r c.rows)) e ∙ c.ends in
     let s = sheeted (rows ++ c.rows) c.end c.last joined in
     record { sheet = s.sheet; behind = c.rows; whole = s.whole; code_a = s.code_a; code_e = s.code_e }
 
 -- ---- from a sheet to places
 
-pub record Ends (p : Place) (rows : List Row) : Type 0 where
-  pub end : Place
+pub record Ends (p : NextItem) (rows : List Row) : Type 0 where
+  pub end : NextItem
   pub ends : place_after p rows ≡ Some end
   pub last : is_last end ≡ true
 
@@ -317,17 +317,17 @@ sheet_ends s all_a all_e =
     let a = code_kept A s.code_a ((s.begin_e, items.Code E) ∷ (s.code_e ++ ((s.begin_data, items.Data) ∷ content))) all_a in
     record { end = d.end; ends = a ∙ e ∙ d.ends; last = d.last }
 
-some_place : (o : Option Place) (ys : List Row) (q : Place) → or_none o (λ r. place_after r ys) ≡ Some q → (p : Place) × (o ≡ Some p)
+some_place : (o : Option NextItem) (ys : List Row) (q : NextItem) → or_none o (λ r. place_after r ys) ≡ Some q → (p : NextItem) × (o ≡ Some p)
 some_place None ys q e = absurd cc
 some_place (Some p) ys q e = (p, refl)
 
-pub begun : (rows : List Row) → Begin rows → (p : Place) × (place_after places.Budget rows ≡ Some p)
+pub begun : (rows : List Row) → Begin rows → (p : NextItem) × (place_after places.Budget rows ≡ Some p)
 begun rows b =
     let s = sheet_ends b.sheet b.code_a b.code_e in
     some_place (place_after places.Budget rows) b.behind s.end (sym (place_join places.Budget rows b.behind) ∙ ap (place_after places.Budget) b.whole ∙ s.ends)
 
 -- rows of a sheet end at a last place
-pub is_sheet_last : (rows : List Row) (p : Place) (s : Sheet) → rows ≡ rows_of s → IsTrue (list_all (λ r. is_code r.1) s.code_a) → IsTrue (list_all (λ r. is_code r.1) s.code_e) → place_after places.Budget rows ≡ Some p → is_last p ≡ true
+pub is_sheet_last : (rows : List Row) (p : NextItem) (s : Sheet) → rows ≡ rows_of s → IsTrue (list_all (λ r. is_code r.1) s.code_a) → IsTrue (list_all (λ r. is_code r.1) s.code_e) → place_after places.Budget rows ≡ Some p → is_last p ≡ true
 is_sheet_last rows p s whole all_a all_e e =
     let t = sheet_ends s all_a all_e in
     let there : place_after places.Budget rows ≡ Some t.end = ap (place_after places.Budget) whole ∙ t.ends in
@@ -335,5 +335,5 @@ is_sheet_last rows p s whole all_a all_e e =
     let last = t.last in
     ap is_last (sym same) ∙ last
   where
-    by_some : (x y : Place) → Some x ≡ Some y → x ≡ y
+    by_some : (x y : NextItem) → Some x ≡ Some y → x ≡ y
     by_some x y h = cc

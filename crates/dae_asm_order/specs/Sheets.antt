@@ -3,9 +3,9 @@ use Rattle.std.specs.Prelude.{ℕ, suc, ℤ, ◌==◌, if◌then◌else◌, Bool
 use Rattle.std.specs.List.{list_all}
 use Rattle.dae_base.specs.declared.Side.{Side}
 use Rattle.dae_base.specs.declared.Side.TheVariants.{A, E}
-use Rattle.dae_asm_lines.specs.Targets.{Target}
+use Rattle.dae_asm_lines.specs.Targets.{JumpTarget}
 use Rattle.dae_asm_lines.specs.Items as items
-use Rattle.dae_asm_lines.specs.Items.{Item}
+use Rattle.dae_asm_lines.specs.Items.{LineItem}
 use Rattle.dae_asm_lines.specs.Lines.{IsLine}
 
 -- ---- lines
@@ -24,13 +24,13 @@ lines_of text = lines_behind [] text
 
 -- an item and the number of its line
 abbrev pub Row : Type 0
-Row = ℕ × Item
+Row = ℕ × LineItem
 
 -- the items of lines, of which the first has this number; lines without tokens say nothing
 pub data AreItems : ℕ → List (List ℕ) → List Row → Type 0 where
   none : {n : ℕ} → AreItems n [] []
   skips : {n : ℕ} {line : List ℕ} {lines : List (List ℕ)} {rows : List Row} → IsLine line None → AreItems (suc n) lines rows → AreItems n (line ∷ lines) rows
-  says : {n : ℕ} {line : List ℕ} {lines : List (List ℕ)} {item : Item} {rows : List Row} → IsLine line (Some item) → AreItems (suc n) lines rows → AreItems n (line ∷ lines) ((n, item) ∷ rows)
+  says : {n : ℕ} {line : List ℕ} {lines : List (List ℕ)} {item : LineItem} {rows : List Row} → IsLine line (Some item) → AreItems (suc n) lines rows → AreItems n (line ∷ lines) ((n, item) ∷ rows)
 
 -- lines that say nothing, and how many they are, before others
 pub data Skips : List (List ℕ) → ℕ → List (List ℕ) → Type 0 where
@@ -40,7 +40,7 @@ pub data Skips : List (List ℕ) → ℕ → List (List ℕ) → Type 0 where
 -- ---- sheets
 
 -- a label, an instruction or a word
-abbrev pub is_code : Item → Bool
+abbrev pub is_code : LineItem → Bool
 is_code (items.Label name) = true
 is_code (items.Instruction i operands) = true
 is_code (items.Plain n) = true
@@ -52,7 +52,7 @@ pub record Sheet : Type 0 where
   pub memory : ℕ × ℤ
   pub calls : ℕ × ℤ
   pub private : ℕ × ℤ × ℤ
-  pub entry : ℕ × Target × Target
+  pub entry : ℕ × JumpTarget × JumpTarget
   pub begin_a : ℕ
   pub code_a : List Row
   pub begin_e : ℕ

@@ -4,13 +4,13 @@ use Rattle.std.specs.Prelude.{◌≡◌, ℕ, suc, ◌+◌, ◌<◌, ◌≤◌, 
 use Rattle.dae_base.specs.declared.Side.{Side}
 use Rattle.dae_base.specs.declared.Side.TheVariants.{A, E}
 use Rattle.dae_asm_lines.specs.Items as items
-use Rattle.dae_asm_lines.specs.Items.{Item}
+use Rattle.dae_asm_lines.specs.Items.{LineItem}
 use Rattle.dae_asm_lines.specs.Lines.{IsLine, seen}
 use Rattle.dae_asm_order.specs.declared.lines.Lines.{Lines}
 use Rattle.dae_asm_order.specs.declared.lines.Next.{Next}
 use Rattle.dae_asm_order.specs.declared.lines.Next.TheVariants as nexts
-use Rattle.dae_asm_order.specs.declared.order.Place.{Place}
-use Rattle.dae_asm_order.specs.declared.order.Place.TheVariants as places
+use Rattle.dae_asm_order.specs.declared.order.NextItem.{NextItem}
+use Rattle.dae_asm_order.specs.declared.order.NextItem.TheVariants as places
 use Rattle.dae_asm_order.specs.Sheets.{Row, lines_of, Skips}
 
 -- a byte of a line
@@ -18,7 +18,7 @@ abbrev pub is_inner : ℕ → Bool
 is_inner b = not (b == 10)
 
 -- an item of the line n, behind lines that say nothing, and the lines behind it
-pub record IsItem (from : Lines) (item : Item) (n : ℕ) (after : Lines) : Type 0 where
+pub record IsItem (from : Lines) (item : LineItem) (n : ℕ) (after : Lines) : Type 0 where
   pub count : ℕ
   pub line : List ℕ
   pub skipped : Skips (lines_of from.text.now) count (line ∷ lines_of after.text.now)
@@ -34,7 +34,7 @@ pub record IsBadNext (from : Lines) (n : ℕ) : Type 0 where
   pub line : List ℕ
   pub behind : List (List ℕ)
   pub skipped : Skips (lines_of from.text.now) count (line ∷ behind)
-  pub bad : (o : Option Item) → IsLine line o → ⊥
+  pub bad : (o : Option LineItem) → IsLine line o → ⊥
   pub number : n ≡ from.before + suc count
 
 -- no item
@@ -51,7 +51,7 @@ IsNext from (nexts.End n) = IsEnd from n
 
 -- ---- the order
 
-abbrev pub in_code : Side → Item → Option Place
+abbrev pub in_code : Side → LineItem → Option NextItem
 in_code side (items.Label name) = Some (places.Code side)
 in_code side (items.Instruction i operands) = Some (places.Code side)
 in_code side (items.Plain n) = Some (places.Code side)
@@ -60,7 +60,7 @@ in_code E items.Data = Some places.Bytes
 in_code _ _ = None
 
 -- the place behind an item, if the item may stand there
-abbrev pub place_behind : Place → Item → Option Place
+abbrev pub place_behind : NextItem → LineItem → Option NextItem
 place_behind places.Budget (items.Budget ns) = Some places.Memory
 place_behind places.Memory (items.Memory n) = Some places.Calls
 place_behind places.Calls (items.Calls n) = Some places.Private
@@ -76,16 +76,16 @@ place_behind places.Marks (items.Name ns) = Some places.Names
 place_behind places.Names (items.Name ns) = Some places.Names
 place_behind _ _ = None
 
-abbrev pub or_none : Option Place → (Place → Option Place) → Option Place
+abbrev pub or_none : Option NextItem → (NextItem → Option NextItem) → Option NextItem
 or_none None f = None
 or_none (Some p) f = f p
 
 -- the place behind rows, each of which may stand where it stands
-abbrev pub place_after : Place → List Row → Option Place
+abbrev pub place_after : NextItem → List Row → Option NextItem
 place_after place [] = Some place
 place_after place (row ∷ rows) = or_none (place_behind place row.1) (λ p. place_after p rows)
 
-abbrev pub is_last : Place → Bool
+abbrev pub is_last : NextItem → Bool
 is_last places.Bytes = true
 is_last places.Marks = true
 is_last places.Names = true

@@ -5,7 +5,7 @@ ghost use Rattle.std.specs.List.{prefix_len};
 ghost use Rattle.dae_asm_order.specs.Sheets.{lines_of};
 ghost use Rattle.dae_asm_order.specs.Walking.{IsNext, is_inner};
 
-use dae_asm_lines::{Item, Line, line_of};
+use dae_asm_lines::{Line, LineItem, line_of};
 
 /// The part of a text from a line on, and how many lines stand before it.
 #[derive(Clone, Copy)]
@@ -18,7 +18,7 @@ pub struct Lines<'t> {
 #[derive(Clone, Copy)]
 pub enum Next<'t> {
     /// An item, the number of its line, and the lines that follow.
-    Item(Item<'t>, u32, Lines<'t>),
+    Item(LineItem<'t>, u32, Lines<'t>),
     /// A line that spells no item.
     Bad(u32),
     /// Nothing: the text has so many lines.

@@ -6,12 +6,12 @@ ghost use Rattle.dae_asm_order.specs.Order.{IsBadLine, IsOrdered};
 ghost use Rattle.dae_asm_order.specs.Walking.{place_behind, is_last};
 
 use crate::lines::{Lines, Next};
-use dae_asm_lines::Item;
+use dae_asm_lines::LineItem;
 use dae_base::Side;
 
 /// What may stand next in a text.
 #[derive(Clone, Copy)]
-pub enum Place {
+pub enum NextItem {
     Budget,
     Memory,
     Calls,
@@ -29,32 +29,35 @@ pub enum Place {
 }
 
 /// The place behind an item, or None where it may not stand there.
-fn place_behind(place: Place, item: &Item<'_>) -> Option<Place>
+fn place_behind(place: NextItem, item: &LineItem<'_>) -> Option<NextItem>
     ensures { result ≡ place_behind place (seen item.now) }
 {
     match (place, *item) {
-        (Place::Budget, Item::Budget(_)) => Some(Place::Memory),
-        (Place::Memory, Item::Memory(_)) => Some(Place::Calls),
-        (Place::Calls, Item::Calls(_)) => Some(Place::Private),
-        (Place::Private, Item::Private(_, _)) => Some(Place::Entry),
-        (Place::Entry, Item::Entry(_, _)) => Some(Place::Codes),
-        (Place::Codes, Item::Code(Side::A)) => Some(Place::Code(Side::A)),
-        (Place::Code(Side::A), Item::Code(Side::E)) => Some(Place::Code(Side::E)),
-        (Place::Code(side), Item::Label(_) | Item::Instruction(_, _) | Item::Plain(_)) => {
-            Some(Place::Code(side))
-        }
-        (Place::Code(Side::E), Item::Data) => Some(Place::Bytes),
-        (Place::Bytes, Item::Bytes(_)) => Some(Place::Bytes),
-        (Place::Bytes | Place::Marks, Item::Mark(_, _, _, _)) => Some(Place::Marks),
-        (Place::Bytes | Place::Marks | Place::Names, Item::Name(_)) => Some(Place::Names),
+        (NextItem::Budget, LineItem::Budget(_)) => Some(NextItem::Memory),
+        (NextItem::Memory, LineItem::Memory(_)) => Some(NextItem::Calls),
+        (NextItem::Calls, LineItem::Calls(_)) => Some(NextItem::Private),
+        (NextItem::Private, LineItem::Private(_, _)) => Some(NextItem::Entry),
+        (NextItem::Entry, LineItem::Entry(_, _)) => Some(NextItem::Codes),
+        (NextItem::Codes, LineItem::Code(Side::A)) => Some(NextItem::Code(Side::A)),
+        (NextItem::Code(Side::A), LineItem::Code(Side::E)) => Some(NextItem::Code(Side::E)),
+        (
+            NextItem::Code(side),
+            LineItem::Label(_) | LineItem::Instruction(_, _) | LineItem::Plain(_),
+        ) => { Some(NextItem::Code(side)) }
+        (NextItem::Code(Side::E), LineItem::Data) => Some(NextItem::Bytes),
+        (NextItem::Bytes, LineItem::Bytes(_)) => Some(NextItem::Bytes),
+        (NextItem::Bytes | NextItem::Marks, LineItem::Mark(_, _, _, _)) => Some(NextItem::Marks),
+        (NextItem::Bytes | NextItem::Marks | NextItem::Names, LineItem::Name(_)) => Some(
+            NextItem::Names,
+        ),
         _ => None,
     }
 }
 
-fn is_last(place: Place) -> bool
+fn is_last(place: NextItem) -> bool
     ensures { result ≡ is_last place }
 {
-    matches!(place, Place::Bytes | Place::Marks | Place::Names)
+    matches!(place, NextItem::Bytes | NextItem::Marks | NextItem::Names)
 }
 
 /// Whether the items of a text are in order, or the first line that is out of it.
@@ -63,7 +66,7 @@ pub fn order_of(text: &[u8]) -> Result<(), u32>
     ensures ok { IfOk result (λ _. IsOrdered text.now) }
     ensures err { IfErr result (IsBadLine text.now) }
 {
-    let mut place = Place::Budget;
+    let mut place = NextItem::Budget;
     let mut lines = Lines::of(text);
     loop {
         match lines.next() {

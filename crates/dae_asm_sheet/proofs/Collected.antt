@@ -1,7 +1,7 @@
 -- The items of a text that are collected.
 use Rattle.std.proofs.Common.{◌≡◌, ℕ, zero, suc, ◌+◌, List, [], ◌∷◌, ◌++◌, map, Option, Some, None, refl, sym, ap, ◌∙◌, subst, append_assoc, arith}
 use Rattle.std.proofs.lemmas.List.{append-nil}
-use Rattle.dae_asm_lines.specs.Items.{Item}
+use Rattle.dae_asm_lines.specs.Items.{LineItem}
 use Rattle.dae_asm_lines.specs.Lines.{IsLine}
 use Rattle.dae_asm_lines.proofs.Laws.{one_line}
 use Rattle.dae_asm_order.specs.declared.lines.Lines.{Lines}
@@ -35,19 +35,19 @@ passed n (suc count) (line ∷ lines) behind rows (one_skipped l rest) (skips l'
 passed n (suc count) (line ∷ lines) behind ((m, item) ∷ rows) (one_skipped l rest) (says l' h) = absurd (nothing_and_item line item l l')
 
 -- the first of rows, and the others
-record First (n : ℕ) (item : Item) (lines : List (List ℕ)) (rows : List Row) : Type 0 where
+record First (n : ℕ) (item : LineItem) (lines : List (List ℕ)) (rows : List Row) : Type 0 where
   pub others : List Row
   pub whole : rows ≡ (n, item) ∷ others
   pub items : AreItems (suc n) lines others
 
-is_first : (n : ℕ) (line : List ℕ) (item : Item) (lines : List (List ℕ)) (rows : List Row) → IsLine line (Some item) → AreItems n (line ∷ lines) rows → First n item lines rows
+is_first : (n : ℕ) (line : List ℕ) (item : LineItem) (lines : List (List ℕ)) (rows : List Row) → IsLine line (Some item) → AreItems n (line ∷ lines) rows → First n item lines rows
 is_first n line item lines rows l (skips l' h) = absurd (nothing_and_item line item l' l)
 is_first n line item lines ((m, other) ∷ rows) l (says l' h) =
     let e = one_line line (Some other) (Some item) l' l in
     let same : other ≡ item = cc in
-    record { others = rows; whole = ap (λ (i : Item). (n, i) ∷ rows) same; items = h }
+    record { others = rows; whole = ap (λ (i : LineItem). (n, i) ∷ rows) same; items = h }
 
-pub further : (all found : List Row) (lines after : Lines) (item : Item) (n : ℕ) → Rest all found lines → IsItem lines item n after → Rest all (found ++ ((n, item) ∷ [])) after
+pub further : (all found : List Row) (lines after : Lines) (item : LineItem) (n : ℕ) → Rest all found lines → IsItem lines item n after → Rest all (found ++ ((n, item) ∷ [])) after
 further all found lines after item n r h =
     let there = passed (suc lines.before) h.count (lines_of lines.text.now) (h.line ∷ lines_of after.text.now) r.rest h.skipped r.items.are in
     let number : suc lines.before + h.count ≡ n = let k = h.number in omega arith in
@@ -59,7 +59,7 @@ further all found lines after item n r h =
       items = record { are = subst (λ (k : ℕ). AreItems (suc k) (lines_of after.text.now) f.others) (sym h.goes_on) f.items };
     }
 
-bad_first : (n : ℕ) (line : List ℕ) (lines : List (List ℕ)) (rows : List Row) → ((o : Option Item) → IsLine line o → ⊥) → AreItems n (line ∷ lines) rows → ⊥
+bad_first : (n : ℕ) (line : List ℕ) (lines : List (List ℕ)) (rows : List Row) → ((o : Option LineItem) → IsLine line o → ⊥) → AreItems n (line ∷ lines) rows → ⊥
 bad_first n line lines rows bad (skips l h) = bad None l
 bad_first n line lines ((m, item) ∷ rows) bad (says l h) = bad (Some item) l
 

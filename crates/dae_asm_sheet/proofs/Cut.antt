@@ -6,23 +6,23 @@ use Rattle.dae_base.specs.declared.Side.TheVariants.{A, E}
 use Rattle.dae_asm_lines.specs.Items as items
 use Rattle.dae_asm_order.specs.Sheets.{Row, Sheet, rows_of, is_code}
 use Rattle.dae_asm_order.proofs.Laws.{byte_row, mark_row, name_row}
-use Rattle.dae_asm_sheet.specs.declared.sheet.Part.{Part}
-use Rattle.dae_asm_sheet.specs.declared.sheet.Part.TheVariants as parts
+use Rattle.dae_asm_sheet.specs.declared.sheet.SheetPart.{SheetPart}
+use Rattle.dae_asm_sheet.specs.declared.sheet.SheetPart.TheVariants as parts
 use Rattle.dae_asm_sheet.specs.Rows.{belongs, part_length, front, back, bytes_in, marks_in, names_in, first, cut}
 
-abbrev Belong : Part → List Row → Type 0
+abbrev Belong : SheetPart → List Row → Type 0
 Belong part rows = list_all (λ r. belongs part r.1) rows ≡ true
 
 -- rows that end a part
-abbrev Stops : Part → List Row → Type 0
+abbrev Stops : SheetPart → List Row → Type 0
 Stops part [] = Unit {0}
 Stops part (row ∷ rows) = belongs part row.1 ≡ false
 
-one_more : (part : Part) (x : Row) (xs ys : List Row) (t : Bool) → belongs part x.1 ≡ t → Belong part (x ∷ xs) → (Belong part xs → part_length part (xs ++ ys) ≡ length xs) → part_length part ((x ∷ xs) ++ ys) ≡ length (x ∷ xs)
+one_more : (part : SheetPart) (x : Row) (xs ys : List Row) (t : Bool) → belongs part x.1 ≡ t → Belong part (x ∷ xs) → (Belong part xs → part_length part (xs ++ ys) ≡ length xs) → part_length part ((x ∷ xs) ++ ys) ≡ length (x ∷ xs)
 one_more part x xs ys true e all rest = let more : Belong part xs = rw e at all in let h = rest more in rw e (omega arith)
 one_more part x xs ys false e all rest = let no : false ≡ true = rw e at all in absurd cc
 
-counted : (part : Part) (xs ys : List Row) → Belong part xs → Stops part ys → part_length part (xs ++ ys) ≡ length xs
+counted : (part : SheetPart) (xs ys : List Row) → Belong part xs → Stops part ys → part_length part (xs ++ ys) ≡ length xs
 counted part [] [] all stops = refl
 counted part [] (y ∷ ys) all stops = rw stops refl
 counted part (x ∷ xs) ys all stops = one_more part x xs ys (belongs part x.1) refl all (λ more. counted part xs ys more stops)
@@ -37,10 +37,10 @@ drop_all [] [] = refl
 drop_all [] (y ∷ ys) = refl
 drop_all (x ∷ xs) ys = drop_all xs ys
 
-front_is : (part : Part) (xs ys : List Row) → Belong part xs → Stops part ys → front part (xs ++ ys) ≡ xs
+front_is : (part : SheetPart) (xs ys : List Row) → Belong part xs → Stops part ys → front part (xs ++ ys) ≡ xs
 front_is part xs ys all stops = ap (λ (n : ℕ). take n (xs ++ ys)) (counted part xs ys all stops) ∙ take_all xs ys
 
-back_is : (part : Part) (xs ys : List Row) → Belong part xs → Stops part ys → back part (xs ++ ys) ≡ ys
+back_is : (part : SheetPart) (xs ys : List Row) → Belong part xs → Stops part ys → back part (xs ++ ys) ≡ ys
 back_is part xs ys all stops = ap (λ (n : ℕ). drop n (xs ++ ys)) (counted part xs ys all stops) ∙ drop_all xs ys
 
 -- ---- data, marks and names

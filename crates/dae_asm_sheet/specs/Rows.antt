@@ -5,17 +5,17 @@ use Rattle.std.specs.List.{prefix_len}
 use Rattle.std.specs.Option.{option_map}
 use Rattle.dae_base.specs.declared.Side.{Side}
 use Rattle.dae_base.specs.declared.Side.TheVariants.{A, E}
-use Rattle.dae_asm_lines.specs.Targets.{Target, target_seen}
+use Rattle.dae_asm_lines.specs.Targets.{JumpTarget, target_seen}
 use Rattle.dae_asm_lines.specs.Items as items
-use Rattle.dae_asm_lines.specs.Items.{Item}
+use Rattle.dae_asm_lines.specs.Items.{LineItem}
 use Rattle.dae_asm_lines.specs.Lines.{seen}
 use Rattle.dae_asm_lines.specs.Reading.{◌>>=◌}
 use Rattle.dae_asm_order.specs.Sheets as sheets
 use Rattle.dae_asm_order.specs.Sheets.{Row, is_code}
 use Rattle.dae_asm_sheet.specs.declared.rows.Row as code
 use Rattle.dae_asm_sheet.specs.declared.sheet.Sheet as code_sheet
-use Rattle.dae_asm_sheet.specs.declared.sheet.Part.{Part}
-use Rattle.dae_asm_sheet.specs.declared.sheet.Part.TheVariants as parts
+use Rattle.dae_asm_sheet.specs.declared.sheet.SheetPart.{SheetPart}
+use Rattle.dae_asm_sheet.specs.declared.sheet.SheetPart.TheVariants as parts
 
 abbrev pub row_seen : code.Row → Row
 row_seen r = (r.line, seen r.item)
@@ -69,7 +69,7 @@ sheet_seen s = record {
 
 -- ---- the places
 
-abbrev pub belongs : Part → Item → Bool
+abbrev pub belongs : SheetPart → LineItem → Bool
 belongs parts.Code item = is_code item
 belongs parts.Bytes (items.Bytes zs) = true
 belongs parts.Bytes _ = false
@@ -77,13 +77,13 @@ belongs parts.Marks (items.Mark side w f l) = true
 belongs parts.Marks _ = false
 
 -- how many rows from the first on belong to a part
-abbrev pub part_length : Part → List Row → ℕ
+abbrev pub part_length : SheetPart → List Row → ℕ
 part_length part rows = prefix_len (λ r. belongs part r.1) rows
 
-abbrev pub front : Part → List Row → List Row
+abbrev pub front : SheetPart → List Row → List Row
 front part rows = take (part_length part rows) rows
 
-abbrev pub back : Part → List Row → List Row
+abbrev pub back : SheetPart → List Row → List Row
 back part rows = drop (part_length part rows) rows
 
 -- the first row, if it is of a kind, and those behind it
@@ -110,7 +110,7 @@ abbrev pub private_of : Row → Option (ℕ × ℤ × ℤ)
 private_of (n, items.Private a e) = Some (n, a, e)
 private_of _ = None
 
-abbrev pub entry_of : Row → Option (ℕ × Target × Target)
+abbrev pub entry_of : Row → Option (ℕ × JumpTarget × JumpTarget)
 entry_of (n, items.Entry a e) = Some (n, a, e)
 entry_of _ = None
 

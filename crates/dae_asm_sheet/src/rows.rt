@@ -5,7 +5,7 @@ ghost use Rattle.dae_asm_order.specs.Sheets as sheets;
 ghost use Rattle.dae_asm_order.specs.Sheets.{AreItems, lines_of};
 ghost use Rattle.dae_asm_sheet.specs.Rows.{rows_seen};
 
-use dae_asm_lines::Item;
+use dae_asm_lines::LineItem;
 use dae_asm_order::{Lines, Next};
 use std::alloc::{AllocError, Global};
 
@@ -13,7 +13,7 @@ use std::alloc::{AllocError, Global};
 #[derive(Clone, Copy)]
 pub struct Row<'t> {
     pub line: u32,
-    pub item: Item<'t>,
+    pub item: LineItem<'t>,
 }
 
 /// The items of a text whose lines all say one or nothing.

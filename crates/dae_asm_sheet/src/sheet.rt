@@ -7,7 +7,7 @@ ghost use Rattle.dae_asm_lines.specs.Scanning.{Gives};
 ghost use Rattle.dae_asm_sheet.specs.Rows.{row_seen, rows_seen, sheet_seen, belongs, part_length, front, back, first, first_row, budget_of, memory_of, calls_of, private_of, entry_of, a_of, e_of, data_of, cut};
 
 use crate::rows::Row;
-use dae_asm_lines::{Item, Target};
+use dae_asm_lines::{JumpTarget, LineItem};
 use dae_base::Side;
 
 /// A text in order: the numbers of its lines, and what they say.
@@ -17,7 +17,7 @@ pub struct Sheet<'r, 't> {
     pub memory: (u32, i64),
     pub calls: (u32, i64),
     pub private: (u32, i64, i64),
-    pub entry: (u32, Target<'t>, Target<'t>),
+    pub entry: (u32, JumpTarget<'t>, JumpTarget<'t>),
     pub begin_a: u32,
     pub code_a: &'r [Row<'t>],
     pub begin_e: u32,
@@ -30,25 +30,26 @@ pub struct Sheet<'r, 't> {
 
 /// Lines of one kind that stand together.
 #[derive(Clone, Copy)]
-pub enum Part {
+pub enum SheetPart {
     Code,
     Bytes,
     Marks,
 }
 
-fn belongs(part: Part, item: &Item<'_>) -> bool
+fn belongs(part: SheetPart, item: &LineItem<'_>) -> bool
     ensures { result ≡ belongs part (seen item.now) }
 {
     match (part, *item) {
-        (Part::Code, Item::Label(_) | Item::Instruction(_, _) | Item::Plain(_)) => true,
-        (Part::Bytes, Item::Bytes(_)) => true,
-        (Part::Marks, Item::Mark(_, _, _, _)) => true,
+        (SheetPart::Code, LineItem::Label(_) | LineItem::Instruction(_, _) | LineItem::Plain(_)) =>
+            true,
+        (SheetPart::Bytes, LineItem::Bytes(_)) => true,
+        (SheetPart::Marks, LineItem::Mark(_, _, _, _)) => true,
         _ => false,
     }
 }
 
 /// How many rows from the first on belong to a part.
-fn part_length(part: Part, rows: &[Row<'_>]) -> usize
+fn part_length(part: SheetPart, rows: &[Row<'_>]) -> usize
     ensures counted { result ≡ part_length part (rows_seen rows.now) }
     ensures within { result ≤ length rows.now }
 {
@@ -63,7 +64,7 @@ fn part_length(part: Part, rows: &[Row<'_>]) -> usize
 }
 
 /// The rows of a part, and those behind it.
-fn split_part<'r, 't>(part: Part, rows: &'r [Row<'t>]) -> (&'r [Row<'t>], &'r [Row<'t>])
+fn split_part<'r, 't>(part: SheetPart, rows: &'r [Row<'t>]) -> (&'r [Row<'t>], &'r [Row<'t>])
     ensures front { rows_seen result.0.now ≡ front part (rows_seen rows.entry.now) }
     ensures back { rows_seen result.1.now ≡ back part (rows_seen rows.entry.now) }
 {
@@ -88,7 +89,7 @@ fn budget_of<'r, 't>(rows: &'r [Row<'t>]) -> Option<((u32, [i64; 7]), &'r [Row<'
 {
     let (row, rest) = first_row(rows)?;
     match row.item {
-        Item::Budget(numbers) => Some(((row.line, numbers), rest)),
+        LineItem::Budget(numbers) => Some(((row.line, numbers), rest)),
         _ => None,
     }
 }
@@ -101,7 +102,7 @@ fn memory_of<'r, 't>(rows: &'r [Row<'t>]) -> Option<((u32, i64), &'r [Row<'t>])>
 {
     let (row, rest) = first_row(rows)?;
     match row.item {
-        Item::Memory(number) => Some(((row.line, number), rest)),
+        LineItem::Memory(number) => Some(((row.line, number), rest)),
         _ => None,
     }
 }
@@ -114,7 +115,7 @@ fn calls_of<'r, 't>(rows: &'r [Row<'t>]) -> Option<((u32, i64), &'r [Row<'t>])>
 {
     let (row, rest) = first_row(rows)?;
     match row.item {
-        Item::Calls(number) => Some(((row.line, number), rest)),
+        LineItem::Calls(number) => Some(((row.line, number), rest)),
         _ => None,
     }
 }
@@ -127,20 +128,22 @@ fn private_of<'r, 't>(rows: &'r [Row<'t>]) -> Option<((u32, i64, i64), &'r [Row<
 {
     let (row, rest) = first_row(rows)?;
     match row.item {
-        Item::Private(a, e) => Some(((row.line, a, e), rest)),
+        LineItem::Private(a, e) => Some(((row.line, a, e), rest)),
         _ => None,
     }
 }
 
 /// Where the codes are entered, and what follows it.
 #[tactic(auto, unfolding(crate::specs::Rows::first))]
-fn entry_of<'r, 't>(rows: &'r [Row<'t>]) -> Option<((u32, Target<'t>, Target<'t>), &'r [Row<'t>])>
+fn entry_of<'r, 't>(
+    rows: &'r [Row<'t>],
+) -> Option<((u32, JumpTarget<'t>, JumpTarget<'t>), &'r [Row<'t>])>
     ensures { Gives (λ x. ((x.0.0, target_seen x.0.1, target_seen x.0.2), rows_seen x.1.now)) result
         (first entry_of (rows_seen rows.entry.now)) }
 {
     let (row, rest) = first_row(rows)?;
     match row.item {
-        Item::Entry(a, e) => Some(((row.line, a, e), rest)),
+        LineItem::Entry(a, e) => Some(((row.line, a, e), rest)),
         _ => None,
     }
 }
@@ -153,7 +156,7 @@ fn a_of<'r, 't>(rows: &'r [Row<'t>]) -> Option<(u32, &'r [Row<'t>])>
 {
     let (row, rest) = first_row(rows)?;
     match row.item {
-        Item::Code(Side::A) => Some((row.line, rest)),
+        LineItem::Code(Side::A) => Some((row.line, rest)),
         _ => None,
     }
 }
@@ -166,7 +169,7 @@ fn e_of<'r, 't>(rows: &'r [Row<'t>]) -> Option<(u32, &'r [Row<'t>])>
 {
     let (row, rest) = first_row(rows)?;
     match row.item {
-        Item::Code(Side::E) => Some((row.line, rest)),
+        LineItem::Code(Side::E) => Some((row.line, rest)),
         _ => None,
     }
 }
@@ -179,7 +182,7 @@ fn data_of<'r, 't>(rows: &'r [Row<'t>]) -> Option<(u32, &'r [Row<'t>])>
 {
     let (row, rest) = first_row(rows)?;
     match row.item {
-        Item::Data => Some((row.line, rest)),
+        LineItem::Data => Some((row.line, rest)),
         _ => None,
     }
 }
@@ -195,12 +198,12 @@ pub fn sheet_of<'r, 't>(rows: &'r [Row<'t>]) -> Option<Sheet<'r, 't>>
     let (private, rest) = private_of(rest)?;
     let (entry, rest) = entry_of(rest)?;
     let (begin_a, rest) = a_of(rest)?;
-    let (code_a, rest) = split_part(Part::Code, rest);
+    let (code_a, rest) = split_part(SheetPart::Code, rest);
     let (begin_e, rest) = e_of(rest)?;
-    let (code_e, rest) = split_part(Part::Code, rest);
+    let (code_e, rest) = split_part(SheetPart::Code, rest);
     let (begin_data, rest) = data_of(rest)?;
-    let (bytes, rest) = split_part(Part::Bytes, rest);
-    let (marks, names) = split_part(Part::Marks, rest);
+    let (bytes, rest) = split_part(SheetPart::Bytes, rest);
+    let (marks, names) = split_part(SheetPart::Marks, rest);
     Some(Sheet {
         budget,
         memory,

@@ -3,21 +3,21 @@ use Rattle.std.proofs.Common.{◌≡◌, ℕ, suc, List, [], ◌∷◌, ◌++◌
 use Rattle.dae_base.specs.declared.Side.TheVariants.{E}
 use Rattle.dae_asm_lines.specs.Names.{operands_of, AreAlike}
 use Rattle.dae_asm_lines.specs.Items as items
-use Rattle.dae_asm_lines.specs.Items.{Item}
+use Rattle.dae_asm_lines.specs.Items.{LineItem}
 use Rattle.dae_asm_lines.specs.Lines as lines
 use Rattle.dae_asm_lines.specs.Lines.{IsLine}
 use Rattle.dae_asm_order.specs.Sheets.{Row, Sheet, AreItems, none, skips, says, rows_of}
 use Rattle.dae_asm_values.specs.Values.{AreFormed}
 
-abbrev IsFormed : Item → Type 0
+abbrev IsFormed : LineItem → Type 0
 IsFormed (items.Instruction i operands) = AreAlike (operands_of i) operands
 IsFormed item = Unit {0}
 
-line_formed : (line : List ℕ) (item : Item) → IsLine line (Some item) → IsFormed item
+line_formed : (line : List ℕ) (item : LineItem) → IsLine line (Some item) → IsFormed item
 line_formed line (items.Instruction i o) (lines.says j ascii s) = s.alike
 line_formed line item l = tt
 
-formed_more : (n : ℕ) (item : Item) (rows : List Row) → IsFormed item → AreFormed rows → AreFormed ((n, item) ∷ rows)
+formed_more : (n : ℕ) (item : LineItem) (rows : List Row) → IsFormed item → AreFormed rows → AreFormed ((n, item) ∷ rows)
 formed_more n (items.Instruction i o) rows h more = (h, more)
 formed_more n item rows h more = more
 

@@ -3,7 +3,7 @@ use Rattle.std.proofs.Common.{◌≡◌, ℕ, ℤ, ◌+◌, ◌<◌, List, [], �
 use Rattle.dae_encode.specs.declared.Inst.{Inst}
 use Rattle.dae_encode.specs.Spelling.{encoded}
 use Rattle.dae_asm_lines.specs.declared.Operands.{Operands}
-use Rattle.dae_asm_lines.specs.Targets.{Target}
+use Rattle.dae_asm_lines.specs.Targets.{JumpTarget}
 use Rattle.dae_asm_lines.specs.Items as items
 use Rattle.dae_asm_order.specs.Sheets.{Row}
 use Rattle.dae_asm_sheet.specs.declared.rows.Row as code
@@ -17,7 +17,7 @@ pub plain_says : (labels : Look) (here n : ℕ) (z : ℤ) (found : Option ℕ) �
 plain_says labels here n z None some none = record { its = Spells z; claim = refl; unmet = none }
 plain_says labels here n z (Some w) some none = record { its = Spells z; claim = refl; meets = some; one = λ rows. refl }
 
-pub instruction_says : (labels : Look) (here n : ℕ) (like : Inst) (o : Operands Target) (found : Option ℕ) → IfSome found (λ w. (i : Inst) × ((w ≡ encoded i) × IsInstruction labels here like o i)) → IfNone found ((i : Inst) → IsInstruction labels here like o i → ⊥) → IsSaid labels here (n, items.Instruction like o) (said_of found)
+pub instruction_says : (labels : Look) (here n : ℕ) (like : Inst) (o : Operands JumpTarget) (found : Option ℕ) → IfSome found (λ w. (i : Inst) × ((w ≡ encoded i) × IsInstruction labels here like o i)) → IfNone found ((i : Inst) → IsInstruction labels here like o i → ⊥) → IsSaid labels here (n, items.Instruction like o) (said_of found)
 instruction_says labels here n like o None some none = record { its = Does labels here like o; claim = refl; unmet = λ w m. none m.0 m.1.1 }
 instruction_says labels here n like o (Some w) some none = record { its = Does labels here like o; claim = refl; meets = some; one = λ rows. refl }
 

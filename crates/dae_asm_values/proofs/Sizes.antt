@@ -5,24 +5,24 @@ use Rattle.dae_encode.specs.declared.Inst.{Inst}
 use Rattle.dae_encode.specs.declared.Inst.TheVariants.{Ecall}
 use Rattle.dae_asm_lines.specs.declared.Operands.{Operands}
 use Rattle.dae_asm_lines.specs.declared.Operands.TheVariants.{Registers, Immediate, Based, Branch, Upper, Jump, Alone}
-use Rattle.dae_asm_lines.specs.Targets.{Target}
+use Rattle.dae_asm_lines.specs.Targets.{JumpTarget}
 use Rattle.dae_asm_lines.specs.Names.{name_of, operands_of, AreAlike}
-use Rattle.dae_asm_lines.specs.Tokens.{Token, Word, Number, Sign, Other, is_blank, is_sign, is_name, number_of, number_or_other, token_of, word_then, tokens_behind, tokens_of, before_comment}
+use Rattle.dae_asm_lines.specs.Tokens.{LineToken, Word, Number, Sign, Other, is_blank, is_sign, is_name, number_of, number_or_other, token_of, word_then, tokens_behind, tokens_of, before_comment}
 use Rattle.dae_asm_lines.specs.Items as items
-use Rattle.dae_asm_lines.specs.Items.{Item, IsRegister, SayOperands, SayInstruction}
+use Rattle.dae_asm_lines.specs.Items.{LineItem, IsRegister, SayOperands, SayInstruction}
 use Rattle.dae_asm_lines.specs.Lines as lines
 use Rattle.dae_asm_lines.specs.Lines.{IsLine, spoken}
 use Rattle.dae_asm_order.specs.Sheets.{Row, Sheet, AreItems, none, skips, says, IsSheet, line_then, lines_behind, lines_of, rows_of}
 use Rattle.dae_asm_labels.specs.Labels.{words}
 use Rattle.dae_asm_values.proofs.Formed.{behind_a, behind_e}
 
-abbrev size : Token → ℕ
+abbrev size : LineToken → ℕ
 size (Word w) = length w
 size (Number z) = 1
 size (Sign b) = 1
 size Other = 1
 
-abbrev total : List Token → ℕ
+abbrev total : List LineToken → ℕ
 total [] = 0
 total (t ∷ ts) = size t + total ts
 
@@ -31,7 +31,7 @@ by_kind w true o h = omega arith
 by_kind w false None h = h
 by_kind w false (Some z) h = h
 
-then_fits : (w : List ℕ) (ts : List Token) → total (word_then w ts) ≤ length w + total ts
+then_fits : (w : List ℕ) (ts : List LineToken) → total (word_then w ts) ≤ length w + total ts
 then_fits [] ts = omega arith
 then_fits (b ∷ bs) ts =
     let some : 1 ≤ length (b ∷ bs) = omega arith in
@@ -73,18 +73,18 @@ unfolding name_of
 name_long Ecall = lit≤ tt
 name_long i = lit≤ tt
 
-alone_long : (i : Inst) → AreAlike {T = Target} (operands_of i) Alone → 4 ≤ length (name_of i)
+alone_long : (i : Inst) → AreAlike {T = JumpTarget} (operands_of i) Alone → 4 ≤ length (name_of i)
 unfolding name_of operands_of
 alone_long Ecall h = lit≤ tt
 alone_long i h = absurd h
 
-register_long : (t : Token) (r : ℤ) → IsRegister t r → 1 ≤ size t
+register_long : (t : LineToken) (r : ℤ) → IsRegister t r → 1 ≤ size t
 register_long t r h = let e = ap size h.whole in omega arith
 
-first_long : (ts : List Token) (x : Token) → 1 ≤ size x → (rest : List Token) → ts ≡ x ∷ Sign 44 ∷ rest → 2 ≤ total ts
+first_long : (ts : List LineToken) (x : LineToken) → 1 ≤ size x → (rest : List LineToken) → ts ≡ x ∷ Sign 44 ∷ rest → 2 ≤ total ts
 first_long ts x h rest e = let f = ap total e in omega arith
 
-operands_long : (ts : List Token) (i : Inst) (o : Operands Target) → AreAlike (operands_of i) o → SayOperands ts o → 4 ≤ length (name_of i) + total ts
+operands_long : (ts : List LineToken) (i : Inst) (o : Operands JumpTarget) → AreAlike (operands_of i) o → SayOperands ts o → 4 ≤ length (name_of i) + total ts
 operands_long ts i (Registers a b c) h s = let n = name_long i in let f : 2 ≤ total ts = first_long ts s.x (register_long s.x a s.one) _ s.whole in omega arith
 operands_long ts i (Immediate a b c) h s = let n = name_long i in let f : 2 ≤ total ts = first_long ts s.x (register_long s.x a s.one) _ s.whole in omega arith
 operands_long ts i (Based a b c) h s = let n = name_long i in let f : 2 ≤ total ts = first_long ts s.x (register_long s.x a s.one) _ s.whole in omega arith
@@ -96,12 +96,12 @@ operands_long ts i Alone h s = let n = alone_long i h in omega arith
 -- ---- lines
 
 -- how many words an item makes
-abbrev weight : Item → ℕ
+abbrev weight : LineItem → ℕ
 weight (items.Instruction i operands) = 1
 weight (items.Plain z) = 1
 weight item = 0
 
-four_each : (line : List ℕ) (item : Item) → IsLine line (Some item) → 4 * weight item ≤ length line
+four_each : (line : List ℕ) (item : LineItem) → IsLine line (Some item) → 4 * weight item ≤ length line
 four_each line (items.Instruction i o) (lines.says j ascii s) =
     let f = operands_long s.rest i o s.alike s.say in
     let e = ap total s.whole in
@@ -113,7 +113,7 @@ four_each line (items.Plain z) (lines.says j ascii s) =
     omega arith
 four_each line item l = omega arith
 
-weigh : (n : ℕ) (item : Item) (rows : List Row) → words ((n, item) ∷ rows) ≡ weight item + words rows
+weigh : (n : ℕ) (item : LineItem) (rows : List Row) → words ((n, item) ∷ rows) ≡ weight item + words rows
 weigh n (items.Instruction i o) rows = omega arith
 weigh n (items.Plain z) rows = omega arith
 weigh n item rows = omega arith

@@ -4,7 +4,7 @@ use Rattle.std.specs.Prelude.{◌≡◌, ℕ, suc, ◌+◌, ℤ, List, [], ◌�
 use Rattle.dae_encode.specs.declared.Inst.{Inst}
 use Rattle.dae_encode.specs.Spelling.{encoded}
 use Rattle.dae_asm_lines.specs.declared.Operands.{Operands}
-use Rattle.dae_asm_lines.specs.Targets.{Target}
+use Rattle.dae_asm_lines.specs.Targets.{JumpTarget}
 use Rattle.dae_asm_lines.specs.Items as items
 use Rattle.dae_asm_order.specs.Sheets.{Row}
 use Rattle.dae_asm_labels.specs.Labels.{Look, words}
@@ -17,7 +17,7 @@ use Rattle.dae_asm_values.specs.declared.code.CodeFault.TheVariants as faults
 -- a line that says a word, or an instruction: with where its labels are, and its address
 pub data Claim : Type 0 where
   Spells : ℤ → Claim
-  Does : Look → ℕ → Inst → Operands Target → Claim
+  Does : Look → ℕ → Inst → Operands JumpTarget → Claim
 
 -- the word that a line says
 abbrev pub Meets : Claim → ℕ → Type 0

@@ -14,8 +14,8 @@ ghost use Rattle.dae_asm_values.specs.declared.code.CodeFault.TheVariants as fau
 ghost use Rattle.dae_asm_values.specs.Values.{IsWord, IsOffset, AreOperands, IsInstruction, AreFormed};
 ghost use Rattle.dae_asm_values.specs.Claims.{code_claims, AreMet, IsSaid, IsCodeFault, said_of};
 
-use dae_asm_labels::{Definition, definition_of};
-use dae_asm_lines::{Item, Operands, Target, instruction_of};
+use dae_asm_labels::{LabelDefinition, definition_of};
+use dae_asm_lines::{JumpTarget, LineItem, Operands, instruction_of};
 use dae_asm_sheet::Row;
 use dae_encode::{Inst, encode};
 use indexmap::IndexMap;
@@ -34,15 +34,19 @@ fn word_of(number: i64) -> Option<u32>
 }
 
 /// The offset of a target from the address of the instruction that goes there.
-fn offset_of(table: &IndexMap<&[u8], Definition>, here: u32, target: Target<'_>) -> Option<i64>
+fn offset_of(
+    table: &IndexMap<&[u8], LabelDefinition>,
+    here: u32,
+    target: JumpTarget<'_>,
+) -> Option<i64>
     ensures some { IfSome result (λ offset.
         IsOffset (looks table.now) here (target_seen target.entry) offset) }
     ensures none { IfNone result ((offset : ℤ)
         → IsOffset (looks table.now) here (target_seen target.entry) offset → ⊥) }
 {
     match target {
-        Target::Number(offset) => Some(offset),
-        Target::Label(label) => match definition_of(table, label) {
+        JumpTarget::Number(offset) => Some(offset),
+        JumpTarget::Label(label) => match definition_of(table, label) {
             Some(there) => Some(i64::from(there.address) - i64::from(here)),
             None => None,
         },
@@ -50,9 +54,9 @@ fn offset_of(table: &IndexMap<&[u8], Definition>, here: u32, target: Target<'_>)
 }
 
 fn operands_at(
-    table: &IndexMap<&[u8], Definition>,
+    table: &IndexMap<&[u8], LabelDefinition>,
     here: u32,
-    operands: Operands<Target<'_>>,
+    operands: Operands<JumpTarget<'_>>,
 ) -> Option<Operands<i64>>
     ensures some { IfSome result (λ o.
         AreOperands (looks table.now) here (operands_seen operands.entry) o) }
@@ -82,10 +86,10 @@ fn operands_at(
 
 /// The word of the instruction at an address.
 fn instruction_at(
-    table: &IndexMap<&[u8], Definition>,
+    table: &IndexMap<&[u8], LabelDefinition>,
     here: u32,
     like: &Inst,
-    operands: Operands<Target<'_>>,
+    operands: Operands<JumpTarget<'_>>,
 ) -> Option<u32>
     requires { AreAlike (operands_of like.now) (operands_seen operands) }
     ensures some { IfSome result (λ w. (i : Inst) × ((w ≡ encoded i)
@@ -121,13 +125,13 @@ fn said_of(found: Option<u32>) -> Said
 }
 
 /// What a row of code at an address says.
-fn read_row(table: &IndexMap<&[u8], Definition>, here: u32, row: &Row<'_>) -> Said
+fn read_row(table: &IndexMap<&[u8], LabelDefinition>, here: u32, row: &Row<'_>) -> Said
     requires { AreFormed (row_seen row.now ∷ []) }
     ensures { IsSaid (looks table.now) here (row_seen row.now) result }
 {
     match row.item {
-        Item::Plain(number) => said_of(word_of(number)),
-        Item::Instruction(like, operands) => {
+        LineItem::Plain(number) => said_of(word_of(number)),
+        LineItem::Instruction(like, operands) => {
             said_of(instruction_at(table, here, &like, operands))
         }
         _ => Said::Nothing,
@@ -140,7 +144,7 @@ fn words_in(row: &Row<'_>) -> u32
         → words (row_seen row.now ∷ rows) ≡ result + words rows }
 {
     match row.item {
-        Item::Instruction(_, _) | Item::Plain(_) => 1,
+        LineItem::Instruction(_, _) | LineItem::Plain(_) => 1,
         _ => 0,
     }
 }
@@ -181,7 +185,7 @@ impl<T: Drop> From<AllocFailed<T>> for CodeFault {
 /// A line has a number that its field does not hold, or memory is wanting.
 pub fn code_of(
     alloc: Global,
-    table: &IndexMap<&[u8], Definition>,
+    table: &IndexMap<&[u8], LabelDefinition>,
     rows: &[Row<'_>],
 ) -> Result<Vec<u32>, CodeFault>
     requires few { words (rows_seen rows.now) ≤ 33554432 }

@@ -7,20 +7,20 @@ ghost use Rattle.dae_image.specs.Ranges.{depth_range, memory_range, calls_range,
 ghost use Rattle.dae_asm_labels.specs.Labels.{looks};
 ghost use Rattle.dae_asm_values.specs.Values.{IsFor, IsWithin, IsBudget, IsAddress, IsEntry};
 
-use dae_asm_labels::{Definition, definition_of};
-use dae_asm_lines::Target;
+use dae_asm_labels::{LabelDefinition, definition_of};
+use dae_asm_lines::JumpTarget;
 use dae_base::Depths;
 use indexmap::IndexMap;
 
 /// The numbers that a field takes: from `least` to `most`, and multiples of `step`.
 #[derive(Clone, Copy)]
-pub struct Span {
+pub struct NumberRange {
     pub least: u32,
     pub most: u32,
     pub step: u32,
 }
 
-fn number_in(span: Span, number: i64) -> Option<u32>
+fn number_in(span: NumberRange, number: i64) -> Option<u32>
     requires { 0 < span.step }
     ensures some { IfSome result (λ n. IsWithin span number n) }
     ensures none { IfNone result ((n : ℕ) → IsWithin span number n → ⊥) }
@@ -40,7 +40,7 @@ fn depth_of(number: i64) -> Option<u16>
     ensures some { IfSome result (λ n. IsFor depth_range number n) }
     ensures none { IfNone result ((n : ℕ) → IsFor depth_range number n → ⊥) }
 {
-    let span = Span {
+    let span = NumberRange {
         least: 0,
         most: 4_096,
         step: 1,
@@ -73,7 +73,7 @@ pub fn memory_of(number: i64) -> Option<u32>
     ensures some { IfSome result (λ n. IsFor memory_range number n) }
     ensures none { IfNone result ((n : ℕ) → IsFor memory_range number n → ⊥) }
 {
-    let span = Span {
+    let span = NumberRange {
         least: 64,
         most: 67_108_864,
         step: 16,
@@ -86,7 +86,7 @@ pub fn calls_of(number: i64) -> Option<u16>
     ensures some { IfSome result (λ n. IsFor calls_range number n) }
     ensures none { IfNone result ((n : ℕ) → IsFor calls_range number n → ⊥) }
 {
-    let span = Span {
+    let span = NumberRange {
         least: 1,
         most: 4_096,
         step: 1,
@@ -102,7 +102,7 @@ pub fn private_of(number: i64) -> Option<u32>
     ensures some { IfSome result (λ n. IsFor private_range number n) }
     ensures none { IfNone result ((n : ℕ) → IsFor private_range number n → ⊥) }
 {
-    let span = Span {
+    let span = NumberRange {
         least: 0,
         most: 1_073_741_824,
         step: 4,
@@ -122,14 +122,14 @@ fn number_address(number: i64) -> Option<u32>
     }
 }
 
-fn address_of(table: &IndexMap<&[u8], Definition>, target: Target<'_>) -> Option<u32>
+fn address_of(table: &IndexMap<&[u8], LabelDefinition>, target: JumpTarget<'_>) -> Option<u32>
     ensures some { IfSome result (λ n. IsAddress (looks table.now) (target_seen target.entry) n) }
     ensures none { IfNone result ((n : ℕ) → n ≤ 1073741824
         → IsAddress (looks table.now) (target_seen target.entry) n → ⊥) }
 {
     match target {
-        Target::Number(number) => number_address(number),
-        Target::Label(label) => match definition_of(table, label) {
+        JumpTarget::Number(number) => number_address(number),
+        JumpTarget::Label(label) => match definition_of(table, label) {
             Some(definition) => Some(definition.address),
             None => None,
         },
@@ -137,7 +137,11 @@ fn address_of(table: &IndexMap<&[u8], Definition>, target: Target<'_>) -> Option
 }
 
 /// Where a code of so many words is entered; one without words has another fault.
-pub fn entry_of(table: &IndexMap<&[u8], Definition>, count: u32, target: Target<'_>) -> Option<u32>
+pub fn entry_of(
+    table: &IndexMap<&[u8], LabelDefinition>,
+    count: u32,
+    target: JumpTarget<'_>,
+) -> Option<u32>
     requires { count ≤ 33554432 }
     ensures some { IfSome result
         (λ n. IsEntry (looks table.now) count (target_seen target.entry) n) }

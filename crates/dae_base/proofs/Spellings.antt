@@ -6,8 +6,8 @@ use Rattle.std.proofs.lemmas.Bool.Decides.{nat_tests}
 use Rattle.dae_base.specs.Words.{signed}
 use Rattle.dae_base.specs.Texts.{spelled, is_nothing}
 use Rattle.dae_base.specs.declared.Signedness.TheVariants.{Signed, Unsigned}
-use Rattle.dae_base.specs.declared.pieces.Spelling.{Spelling}
-use Rattle.dae_base.specs.declared.pieces.Spelling.TheVariants.{Nothing, Byte, Decimal, Hexadecimal}
+use Rattle.dae_base.specs.declared.pieces.PieceSpelling.{PieceSpelling}
+use Rattle.dae_base.specs.declared.pieces.PieceSpelling.TheVariants.{Nothing, Byte, Decimal, Hexadecimal}
 
 if_some : (b : Bool) (xs ys : List ℕ) → 0 < length xs → 0 < length ys → 0 < length (if b then xs else ys)
 if_some true xs ys h k = h
@@ -33,7 +33,7 @@ signed_some (negsuc n) = one_some 45 _
 not_zero : (n : ℕ) → 0 < n → nat_eq n 0 ≡ false
 not_zero n h = grind (arith, nat_tests)
 
-pub none_of_nothing : (s : Spelling) (w : ℕ) → nat_eq (length (spelled s w)) 0 ≡ is_nothing s
+pub none_of_nothing : (s : PieceSpelling) (w : ℕ) → nat_eq (length (spelled s w)) 0 ≡ is_nothing s
 none_of_nothing Nothing w = refl
 none_of_nothing Byte w = refl
 none_of_nothing (Decimal Signed) w = not_zero _ (signed_some (signed w))

@@ -4,8 +4,8 @@ use Rattle.std.specs.Fmt.{decimal, signed_decimal, radix_digits}
 use Rattle.dae_base.specs.Words.{signed}
 use Rattle.dae_base.specs.declared.Signedness.{Signedness}
 use Rattle.dae_base.specs.declared.Signedness.TheVariants.{Signed, Unsigned}
-use Rattle.dae_base.specs.declared.pieces.Spelling.{Spelling}
-use Rattle.dae_base.specs.declared.pieces.Spelling.TheVariants.{Nothing, Byte, Decimal, Hexadecimal}
+use Rattle.dae_base.specs.declared.pieces.PieceSpelling.{PieceSpelling}
+use Rattle.dae_base.specs.declared.pieces.PieceSpelling.TheVariants.{Nothing, Byte, Decimal, Hexadecimal}
 
 -- the low byte of a word
 abbrev pub byte_text : ℕ → List ℕ
@@ -21,13 +21,13 @@ abbrev pub hex_text : ℕ → List ℕ
 hex_text w = radix_digits 16 false w
 
 -- a word as it is spelled
-abbrev pub spelled : Spelling → ℕ → List ℕ
+abbrev pub spelled : PieceSpelling → ℕ → List ℕ
 spelled Nothing w = []
 spelled Byte w = byte_text w
 spelled (Decimal s) w = decimal_text w s
 spelled Hexadecimal w = hex_text w
 
-abbrev pub is_nothing : Spelling → Bool
+abbrev pub is_nothing : PieceSpelling → Bool
 is_nothing Nothing = true
 is_nothing Byte = false
 is_nothing (Decimal s) = false

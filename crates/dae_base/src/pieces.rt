@@ -11,7 +11,7 @@ use std::marker::Model;
 /// How a word is printed: not at all, as its low byte, in decimal as a signed or an unsigned number, or in lower-case
 /// hexadecimal.
 #[derive(Clone, Copy, PartialEq, Eq)]
-pub enum Spelling {
+pub enum PieceSpelling {
     Nothing,
     Byte,
     Decimal(Signedness),
@@ -21,7 +21,7 @@ pub enum Spelling {
 /// What one step prints, as a word and how it is spelled, so that a step moves no text. Clauses see the text.
 #[derive(Drop)]
 pub struct Piece {
-    spelling: Spelling,
+    spelling: PieceSpelling,
     word: u32,
 }
 
@@ -37,7 +37,7 @@ impl Piece {
         ensures { result ≡ [] }
     {
         Piece {
-            spelling: Spelling::Nothing,
+            spelling: PieceSpelling::Nothing,
             word: 0,
         }
     }
@@ -62,7 +62,7 @@ pub fn byte_piece(word: u32) -> Piece
     ensures { result ≡ byte_text word }
 {
     Piece {
-        spelling: Spelling::Byte,
+        spelling: PieceSpelling::Byte,
         word,
     }
 }
@@ -72,7 +72,7 @@ pub fn decimal_piece(word: u32, signedness: Signedness) -> Piece
     ensures { result ≡ decimal_text word signedness }
 {
     Piece {
-        spelling: Spelling::Decimal(signedness),
+        spelling: PieceSpelling::Decimal(signedness),
         word,
     }
 }
@@ -82,15 +82,15 @@ pub fn hex_piece(word: u32) -> Piece
     ensures { result ≡ hex_text word }
 {
     Piece {
-        spelling: Spelling::Hexadecimal,
+        spelling: PieceSpelling::Hexadecimal,
         word,
     }
 }
 
-fn is_nothing(spelling: Spelling) -> bool
+fn is_nothing(spelling: PieceSpelling) -> bool
     ensures { result ≡ is_nothing spelling }
 {
-    matches!(spelling, Spelling::Nothing)
+    matches!(spelling, PieceSpelling::Nothing)
 }
 
 /// At most twelve bytes, beside how many there are. Clauses see them as a list.
@@ -130,15 +130,15 @@ impl ShortText {
     }
 }
 
-fn spelled(spelling: Spelling, word: u32) -> ShortText
+fn spelled(spelling: PieceSpelling, word: u32) -> ShortText
     ensures { result ≡ spelled spelling word }
 {
     match spelling {
-        Spelling::Nothing => ShortText::of_bytes(&[]),
-        Spelling::Byte => ShortText::of_bytes(&[(word % 256) as u8]),
-        Spelling::Decimal(Signedness::Signed) => signed_text(word),
-        Spelling::Decimal(Signedness::Unsigned) => unsigned_text(word),
-        Spelling::Hexadecimal => hex_text(word),
+        PieceSpelling::Nothing => ShortText::of_bytes(&[]),
+        PieceSpelling::Byte => ShortText::of_bytes(&[(word % 256) as u8]),
+        PieceSpelling::Decimal(Signedness::Signed) => signed_text(word),
+        PieceSpelling::Decimal(Signedness::Unsigned) => unsigned_text(word),
+        PieceSpelling::Hexadecimal => hex_text(word),
     }
 }
 

@@ -2,10 +2,10 @@
 use Rattle.std.proofs.Common.{◌≡◌, ℕ, ◌+◌, ◌-◌, ◌<◌, List, [], ◌∷◌, ◌++◌, length, take, get_or, reverse, refl, ap, sym, ◌∙◌}
 use Rattle.std.specs.Prelude.{Option}
 use Rattle.std.proofs.lemmas.List.{append-nil, reverse-append, take_more}
-use Rattle.dae_certificate.specs.declared.Known.{Known}
-use Rattle.dae_certificate.specs.declared.lines.Line.{Line}
+use Rattle.dae_certificate.specs.declared.CertificateNode.{CertificateNode}
+use Rattle.dae_certificate.specs.declared.lines.CertificateLine.{CertificateLine}
 use Rattle.dae_certificate.specs.declared.lines.NamedRange.{NamedRange}
-use Rattle.dae_certificate.specs.declared.lines.Line.TheVariants.{Node, Register}
+use Rattle.dae_certificate.specs.declared.lines.CertificateLine.TheVariants.{Node, Register}
 use Rattle.dae_certificate.specs.Certificates.{with_last, open_node, with_named, nodes_of}
 
 -- a change of the last item
@@ -20,16 +20,16 @@ latest xs i d l = ap reverse (take_more xs i d l) ∙ reverse-append (take i xs)
 
 -- ---- one line more
 
-module _ (lines : List Line) (i : ℕ) (d : Line) (old new : List Known) (within : i < length lines) (made : old ≡ nodes_of (reverse (take i lines))) where
-  line_is : (l : Line) → get_or lines i d ≡ l → reverse (take (i + 1) lines) ≡ l ∷ reverse (take i lines)
+module _ (lines : List CertificateLine) (i : ℕ) (d : CertificateLine) (old new : List CertificateNode) (within : i < length lines) (made : old ≡ nodes_of (reverse (take i lines))) where
+  line_is : (l : CertificateLine) → get_or lines i d ≡ l → reverse (take (i + 1) lines) ≡ l ∷ reverse (take i lines)
   line_is l e = latest lines i d within ∙ ap (λ z. z ∷ reverse (take i lines)) e
 
-  pub node_more : (a e : Option ℕ) (n : Known) → get_or lines i d ≡ Node a e → n ≡ open_node a e → new ≡ old ++ (n ∷ []) → new ≡ nodes_of (reverse (take (i + 1) lines))
+  pub node_more : (a e : Option ℕ) (n : CertificateNode) → get_or lines i d ≡ Node a e → n ≡ open_node a e → new ≡ old ++ (n ∷ []) → new ≡ nodes_of (reverse (take (i + 1) lines))
   node_more a e n is n_is new_is =
       new_is ∙ (ap (λ z. z ++ (n ∷ [])) made
       ∙ (ap (λ z. nodes_of (reverse (take i lines)) ++ (z ∷ [])) n_is ∙ sym (ap nodes_of (line_is (Node a e) is))))
 
-  pub register_more : (named : NamedRange) (rest : List Known) (last changed : Known) → get_or lines i d ≡ Register named → old ≡ rest ++ (last ∷ [])
+  pub register_more : (named : NamedRange) (rest : List CertificateNode) (last changed : CertificateNode) → get_or lines i d ≡ Register named → old ≡ rest ++ (last ∷ [])
       → changed ≡ with_named named last → new ≡ rest ++ (changed ∷ []) → new ≡ nodes_of (reverse (take (i + 1) lines))
   register_more named rest last changed is parts changed_is new_is =
       new_is ∙ (ap (λ z. rest ++ (z ∷ [])) changed_is

@@ -7,9 +7,9 @@ use Rattle.dae_base.proofs.Laws.{lacks_at}
 use Rattle.dae_base.specs.Ones.{IsTheOne}
 use Rattle.dae_ranges.specs.declared.Range.{Range}
 use Rattle.dae_ranges.specs.Ranges.{highest}
-use Rattle.dae_certificate.specs.declared.Known.{Known}
-use Rattle.dae_certificate.specs.declared.lines.Line.{Line}
-use Rattle.dae_certificate.specs.declared.lines.Line.TheVariants.{Node, Register}
+use Rattle.dae_certificate.specs.declared.CertificateNode.{CertificateNode}
+use Rattle.dae_certificate.specs.declared.lines.CertificateLine.{CertificateLine}
+use Rattle.dae_certificate.specs.declared.lines.CertificateLine.TheVariants.{Node, Register}
 use Rattle.dae_certificate.specs.Cuts.{Lacks, IsCut}
 use Rattle.dae_certificate.specs.Lines.{counter_text, side_text, range_words, line_text, spaced, IsCounter, IsRange, IsLine, SpellsWord, SpellsCounter, SpellsCounters, SpellsEnds, SpellsLine, may_follow}
 use Rattle.dae_certificate.specs.Certificates.{AreLines, IsBadLine, Certifies, nodes_of}
@@ -45,7 +45,7 @@ range_is r h =
     (one_range (decimal r.lo) (decimal (highest r)) third (decimal r.step) r.lo (highest r) r.step refl
     (number_is r.lo h.least) (number_is (highest r) h.greatest) (number_is r.step h.step) (omega arith) h.steps k.0))
 
-line_is : (l : Line) → IsLine l → IsTheOne (SpellsLine (line_text l)) (Some l)
+line_is : (l : CertificateLine) → IsLine l → IsTheOne (SpellsLine (line_text l)) (Some l)
 line_is (Node a e) h =
     let behind : List ℕ = spaced (counter_text a ∷ (counter_text e ∷ [])) in
     one_node (line_text (Node a e)) (codes "node") (Some behind) (first_cut (codes "node") (counter_text a ∷ (counter_text e ∷ [])) (lacks_at 32 (codes "node") refl))
@@ -60,7 +60,7 @@ line_is (Register n) h =
     n.register n.range (number_is n.register (omega arith)) (range_is n.range h.range) h.first h.last)
 
 -- lines that are spelled alike are one
-one_line : (l m : Line) → IsLine l → IsLine m → line_text l ≡ line_text m → l ≡ m
+one_line : (l m : CertificateLine) → IsLine l → IsLine m → line_text l ≡ line_text m → l ≡ m
 one_line l m h k e = inside ((line_is l h).only m (e, k))
   where
     inside : Some l ≡ Some m → l ≡ m
@@ -68,20 +68,20 @@ one_line l m h k e = inside ((line_is l h).only m (e, k))
 
 -- ---- lines from the first on
 
-abbrev Runs : List Line → List Line → Type 0
+abbrev Runs : List CertificateLine → List CertificateLine → Type 0
 Runs before [] = Unit {0}
 Runs before (l ∷ ls) = IsLine l × (may_follow before l ≡ true) × Runs (l ∷ before) ls
 
-from_first : (lines rest : List Line) → AreLines lines → Runs lines rest → Runs [] (reverse lines ++ rest)
+from_first : (lines rest : List CertificateLine) → AreLines lines → Runs lines rest → Runs [] (reverse lines ++ rest)
 from_first [] rest are runs = runs
 from_first (l ∷ before) rest are runs =
-    subst (λ (z : List Line). Runs [] (z ++ rest)) (sym (reverse-append (l ∷ []) before))
+    subst (λ (z : List CertificateLine). Runs [] (z ++ rest)) (sym (reverse-append (l ∷ []) before))
     (subst (Runs []) (sym (append_assoc (reverse before) (l ∷ []) rest)) (from_first before (l ∷ rest) are.2 (are.0, are.1, runs)))
 
-runs_of : (lines : List Line) → AreLines lines → Runs [] (reverse lines)
+runs_of : (lines : List CertificateLine) → AreLines lines → Runs [] (reverse lines)
 runs_of lines are = subst (Runs []) (append-nil (reverse lines)) (from_first lines [] are tt)
 
-same_lines : (before xs ys : List Line) → Runs before xs → Runs before ys → map line_text xs ≡ map line_text ys → xs ≡ ys
+same_lines : (before xs ys : List CertificateLine) → Runs before xs → Runs before ys → map line_text xs ≡ map line_text ys → xs ≡ ys
 same_lines before [] [] r s e = refl
 same_lines before [] (y ∷ ys) r s e = absurd cc
 same_lines before (x ∷ xs) [] r s e = absurd cc
@@ -89,19 +89,19 @@ same_lines before (x ∷ xs) (y ∷ ys) r s e =
     let head : line_text x ≡ line_text y = cc in
     let tail : map line_text xs ≡ map line_text ys = cc in
     let same = one_line x y r.0 s.0 head in
-    let rest = same_lines (x ∷ before) xs ys r.2 (subst (λ (z : Line). Runs (z ∷ before) ys) (sym same) s.2) tail in
+    let rest = same_lines (x ∷ before) xs ys r.2 (subst (λ (z : CertificateLine). Runs (z ∷ before) ys) (sym same) s.2) tail in
     rw (same, rest) refl
 
 -- a line that may not stand behind those before it
-abbrev IsBad : List Line → List ℕ → Type 0
-IsBad before line = (l : Line) → SpellsLine line l → may_follow before l ≡ true → ⊥
+abbrev IsBad : List CertificateLine → List ℕ → Type 0
+IsBad before line = (l : CertificateLine) → SpellsLine line l → may_follow before l ≡ true → ⊥
 
-further : (before : List Line) (p : Line) (ps : List Line) (line : List ℕ) → IsBad (reverse (p ∷ ps) ++ before) line → IsBad (reverse ps ++ (p ∷ before)) line
+further : (before : List CertificateLine) (p : CertificateLine) (ps : List CertificateLine) (line : List ℕ) → IsBad (reverse (p ∷ ps) ++ before) line → IsBad (reverse ps ++ (p ∷ before)) line
 further before p ps line bad =
-    subst (λ (z : List Line). IsBad z line) (append_assoc (reverse ps) (p ∷ []) before)
-    (subst (λ (z : List Line). IsBad (z ++ before) line) (reverse-append (p ∷ []) ps) bad)
+    subst (λ (z : List CertificateLine). IsBad z line) (append_assoc (reverse ps) (p ∷ []) before)
+    (subst (λ (z : List CertificateLine). IsBad (z ++ before) line) (reverse-append (p ∷ []) ps) bad)
 
-no_bad : (before pre xs : List Line) (line : List ℕ) (behind : List (List ℕ)) → Runs before pre → Runs before xs → IsBad (reverse pre ++ before) line
+no_bad : (before pre xs : List CertificateLine) (line : List ℕ) (behind : List (List ℕ)) → Runs before pre → Runs before xs → IsBad (reverse pre ++ before) line
     → map line_text pre ++ (line ∷ behind) ≡ map line_text xs → ⊥
 no_bad before [] [] line behind r s bad e = cc
 no_bad before [] (x ∷ xs) line behind r s bad e = let is : line ≡ line_text x = cc in bad x (is, s.0) s.1
@@ -110,9 +110,9 @@ no_bad before (p ∷ ps) (x ∷ xs) line behind r s bad e =
     let head : line_text p ≡ line_text x = cc in
     let tail : map line_text ps ++ (line ∷ behind) ≡ map line_text xs = cc in
     let same = one_line p x r.0 s.0 head in
-    no_bad (p ∷ before) ps xs line behind r.2 (subst (λ (z : Line). Runs (z ∷ before) xs) (sym same) s.2) (further before p ps line bad) tail
+    no_bad (p ∷ before) ps xs line behind r.2 (subst (λ (z : CertificateLine). Runs (z ∷ before) xs) (sym same) s.2) (further before p ps line bad) tail
 
-one_bad : (before pre qre : List Line) (line mine : List ℕ) (behind after : List (List ℕ)) → Runs before pre → Runs before qre
+one_bad : (before pre qre : List CertificateLine) (line mine : List ℕ) (behind after : List (List ℕ)) → Runs before pre → Runs before qre
     → IsBad (reverse pre ++ before) line → IsBad (reverse qre ++ before) mine
     → map line_text pre ++ (line ∷ behind) ≡ map line_text qre ++ (mine ∷ after) → length pre ≡ length qre
 one_bad before [] [] line mine behind after r s bad worse e = refl
@@ -122,15 +122,15 @@ one_bad before (p ∷ ps) (q ∷ qs) line mine behind after r s bad worse e =
     let head : line_text p ≡ line_text q = cc in
     let tail : map line_text ps ++ (line ∷ behind) ≡ map line_text qs ++ (mine ∷ after) = cc in
     let same = one_line p q r.0 s.0 head in
-    let worse' = subst (λ (z : Line). IsBad (reverse qs ++ (z ∷ before)) mine) (sym same) (further before q qs mine worse) in
-    ap suc (one_bad (p ∷ before) ps qs line mine behind after r.2 (subst (λ (z : Line). Runs (z ∷ before) qs) (sym same) s.2) (further before p ps line bad) worse' tail)
+    let worse' = subst (λ (z : CertificateLine). IsBad (reverse qs ++ (z ∷ before)) mine) (sym same) (further before q qs mine worse) in
+    ap suc (one_bad (p ∷ before) ps qs line mine behind after r.2 (subst (λ (z : CertificateLine). Runs (z ∷ before) qs) (sym same) s.2) (further before p ps line bad) worse' tail)
 
 -- ---- texts
 
-turned : (before : List Line) (line : List ℕ) → IsBad before line → IsBad (reverse (reverse before) ++ []) line
-turned before line bad = subst (λ (z : List Line). IsBad z line) (sym (append-nil (reverse (reverse before)) ∙ reverse-reverse before)) bad
+turned : (before : List CertificateLine) (line : List ℕ) → IsBad before line → IsBad (reverse (reverse before) ++ []) line
+turned before line bad = subst (λ (z : List CertificateLine). IsBad z line) (sym (append-nil (reverse (reverse before)) ∙ reverse-reverse before)) bad
 
-pub one_certificate : (text : List ℕ) (ns ms : List Known) → Certifies text ns → Certifies text ms → ns ≡ ms
+pub one_certificate : (text : List ℕ) (ns ms : List CertificateNode) → Certifies text ns → Certifies text ms → ns ≡ ms
 one_certificate text ns ms h k =
     let same = same_lines [] (reverse h.lines) (reverse k.lines) (runs_of h.lines h.spells.are) (runs_of k.lines k.spells.are) (sym h.spells.spelled ∙ k.spells.spelled) in
     h.are_nodes ∙ (ap nodes_of (sym (reverse-reverse h.lines) ∙ (ap reverse same ∙ reverse-reverse k.lines)) ∙ sym k.are_nodes)
@@ -141,6 +141,6 @@ one_bad_line text k j b d =
     (turned b.before b.line b.bad) (turned d.before d.line d.bad) (sym b.spelled ∙ d.spelled) in
     b.count ∙ (ap suc (sym (length-reverse b.before) ∙ (same ∙ length-reverse d.before)) ∙ sym d.count)
 
-pub not_both : (text : List ℕ) (ns : List Known) (k : ℕ) → Certifies text ns → IsBadLine text k → ⊥
+pub not_both : (text : List ℕ) (ns : List CertificateNode) (k : ℕ) → Certifies text ns → IsBadLine text k → ⊥
 not_both text ns k h b =
     no_bad [] (reverse b.before) (reverse h.lines) b.line b.behind (runs_of b.before b.are) (runs_of h.lines h.spells.are) (turned b.before b.line b.bad) (sym b.spelled ∙ h.spells.spelled)

@@ -16,8 +16,8 @@ use Rattle.dae_base.specs.Ones.{IsTheOne}
 use Rattle.dae_ranges.specs.declared.Range.{Range}
 use Rattle.dae_ranges.specs.Ranges.{highest}
 use Rattle.dae_certificate.specs.declared.lines.NamedRange.{NamedRange}
-use Rattle.dae_certificate.specs.declared.lines.Line.{Line}
-use Rattle.dae_certificate.specs.declared.lines.Line.TheVariants.{Node, Register}
+use Rattle.dae_certificate.specs.declared.lines.CertificateLine.{CertificateLine}
+use Rattle.dae_certificate.specs.declared.lines.CertificateLine.TheVariants.{Node, Register}
 use Rattle.dae_certificate.specs.Cuts.{Lacks, IsCut}
 use Rattle.dae_certificate.specs.Lines.{counter_text, side_text, range_words, spaced, IsCounter, IsRange, SpellsWord, SpellsCounter, SpellsCounters, SpellsEnds, SpellsRange, SpellsLine}
 use Rattle.dae_certificate.proofs.Parts.{first_word, words_join}
@@ -294,7 +294,7 @@ module _ (bytes first : List ℕ) (back : Option (List ℕ)) (cut : IsCut 32 byt
   pub nothing_behind : back ≡ None → IsTheOne (SpellsLine bytes) None
   nothing_behind none = record { has = tt; only = by }
     where
-      by : (l : Line) → SpellsLine bytes l → None ≡ Some l
+      by : (l : CertificateLine) → SpellsLine bytes l → None ≡ Some l
       by (Node a e) h = let p = (node_parts a e h).1 in absurd cc
       by (Register n) h = let p = (register_parts n h).1 in absurd cc
 
@@ -305,7 +305,7 @@ module _ (bytes first : List ℕ) (back : Option (List ℕ)) (cut : IsCut 32 byt
       side A e = not_a e
       side E e = not_e e
 
-      by : (l : Line) → SpellsLine bytes l → None ≡ Some l
+      by : (l : CertificateLine) → SpellsLine bytes l → None ≡ Some l
       by (Node a e) h = absurd (not_node (node_parts a e h).0)
       by (Register n) h = absurd (side n.side (register_parts n h).0)
 
@@ -316,7 +316,7 @@ module _ (bytes first : List ℕ) (back : Option (List ℕ)) (cut : IsCut 32 byt
     pub no_node : first ≡ codes "node" → IsTheOne (SpellsCounters behind) None → IsTheOne (SpellsLine bytes) None
     no_node is one = record { has = tt; only = by }
       where
-        by : (l : Line) → SpellsLine bytes l → None ≡ Some l
+        by : (l : CertificateLine) → SpellsLine bytes l → None ≡ Some l
         by (Node a e) h = absurd (cc (one.only (a, e) (counters_at a e h)))
         by (Register n) h = absurd (no_side_node n.side (register_parts n h).0 is)
 
@@ -329,7 +329,7 @@ module _ (bytes first : List ℕ) (back : Option (List ℕ)) (cut : IsCut 32 byt
       only = by;
     }
       where
-        by : (l : Line) → SpellsLine bytes l → Some (Node a e) ≡ Some l
+        by : (l : CertificateLine) → SpellsLine bytes l → Some (Node a e) ≡ Some l
         by (Node b f) h =
             ap (λ (p : Option ℕ × Option ℕ). Some (Node p.0 p.1)) (inside (a, e) (b, f) (one.only (b, f) (counters_at b f h)))
         by (Register n) h = absurd (no_side_node n.side (register_parts n h).0 is)
@@ -343,7 +343,7 @@ module _ (bytes first : List ℕ) (back : Option (List ℕ)) (cut : IsCut 32 byt
     pub no_named : (side : Side) → first ≡ side_text side → IsTheOne (SpellsRange side behind) None → IsTheOne (SpellsLine bytes) None
     no_named side is one = record { has = tt; only = by }
       where
-        by : (l : Line) → SpellsLine bytes l → None ≡ Some l
+        by : (l : CertificateLine) → SpellsLine bytes l → None ≡ Some l
         by (Node a e) h = absurd (no_side_node side is (node_parts a e h).0)
         by (Register n) h = absurd (cc (one.only n (range_at side is n h)))
 
@@ -353,6 +353,6 @@ module _ (bytes first : List ℕ) (back : Option (List ℕ)) (cut : IsCut 32 byt
       only = by;
     }
       where
-        by : (l : Line) → SpellsLine bytes l → Some (Register n) ≡ Some l
+        by : (l : CertificateLine) → SpellsLine bytes l → Some (Register n) ≡ Some l
         by (Node a e) h = absurd (no_side_node side is (node_parts a e h).0)
         by (Register m) h = let same : n ≡ m = cc (one.only m (range_at side is m h)) in rw same refl

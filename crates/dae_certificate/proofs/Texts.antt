@@ -5,7 +5,7 @@ use Rattle.std.specs.Borrow.{Bor}
 use Rattle.std.proofs.lemmas.Bool.Decides.{nat_tests}
 use Rattle.std.proofs.lemmas.List.{append-nil, append_assoc, reverse-append, reverse-reverse, length-reverse}
 use Rattle.dae_base.specs.Ones.{IsTheOne}
-use Rattle.dae_certificate.specs.declared.lines.Line.{Line}
+use Rattle.dae_certificate.specs.declared.lines.CertificateLine.{CertificateLine}
 use Rattle.dae_certificate.specs.Cuts.{Lacks, IsCut, bytes_of}
 use Rattle.dae_certificate.specs.Lines.{line_text, SpellsLine, may_follow}
 use Rattle.dae_certificate.specs.Certificates.{text_lines, AreLines, IsBadLine, Certifies, nodes_of}
@@ -45,18 +45,18 @@ lines_cut rest front None some cut = by front (cut.whole ∙ append-nil front) c
 -- ---- lines that were read
 
 -- these lines, the first one first, and what is left spell the text
-pub record HasRead (text : List ℕ) (lines : List Line) (rest : List ℕ) : Type 0 where
+pub record HasRead (text : List ℕ) (lines : List CertificateLine) (rest : List ℕ) : Type 0 where
   pub are : AreLines (reverse lines)
   pub spelled : text_lines text ≡ map line_text lines ++ text_lines rest
 
-map_more : (lines : List Line) (l : Line) → map line_text (lines ++ (l ∷ [])) ≡ map line_text lines ++ (line_text l ∷ [])
+map_more : (lines : List CertificateLine) (l : CertificateLine) → map line_text (lines ++ (l ∷ [])) ≡ map line_text lines ++ (line_text l ∷ [])
 map_more [] l = refl
 map_more (x ∷ xs) l = ap (λ z. line_text x ∷ z) (map_more xs l)
 
 pub none_read : (text : List ℕ) → HasRead text [] text
 none_read text = record { are = tt; spelled = refl }
 
-pub one_more : (text rest front : List ℕ) (lines : List Line) (l : Line) (back : Option (List ℕ)) → HasRead text lines rest → 0 < length rest → IsCut 10 rest front back
+pub one_more : (text rest front : List ℕ) (lines : List CertificateLine) (l : CertificateLine) (back : Option (List ℕ)) → HasRead text lines rest → 0 < length rest → IsCut 10 rest front back
     → IsTheOne (SpellsLine front) (Some l) → may_follow (reverse lines) l ≡ true → HasRead text (lines ++ (l ∷ [])) (left back)
 one_more text rest front lines l back had some cut one follows = record {
   are = (let e : reverse (lines ++ (l ∷ [])) ≡ l ∷ reverse lines = reverse-append lines (l ∷ []) in rw e (one.has.1, follows, had.are));
@@ -66,8 +66,8 @@ one_more text rest front lines l back had some cut one follows = record {
       ∙ (sym (append_assoc (map line_text lines) (line_text l ∷ []) (text_lines (left back))) ∙ ap (λ z. z ++ text_lines (left back)) (sym (map_more lines l)))));
 }
 
-pub bad_line : (text rest front : List ℕ) (lines : List Line) (back : Option (List ℕ)) (number : ℕ) → HasRead text lines rest → 0 < length rest → IsCut 10 rest front back
-    → number ≡ suc (length lines) → ((l : Line) → SpellsLine front l → may_follow (reverse lines) l ≡ true → ⊥) → IsBadLine text number
+pub bad_line : (text rest front : List ℕ) (lines : List CertificateLine) (back : Option (List ℕ)) (number : ℕ) → HasRead text lines rest → 0 < length rest → IsCut 10 rest front back
+    → number ≡ suc (length lines) → ((l : CertificateLine) → SpellsLine front l → may_follow (reverse lines) l ≡ true → ⊥) → IsBadLine text number
 bad_line text rest front lines back number had some cut count bad = record {
   before = reverse lines;
   line = front;
@@ -78,14 +78,14 @@ bad_line text rest front lines back number had some cut count bad = record {
   bad = bad;
 }
 
-pub not_spelled : (front : List ℕ) (lines : List Line) → IsTheOne (SpellsLine front) None → (l : Line) → SpellsLine front l → may_follow (reverse lines) l ≡ true → ⊥
+pub not_spelled : (front : List ℕ) (lines : List CertificateLine) → IsTheOne (SpellsLine front) None → (l : CertificateLine) → SpellsLine front l → may_follow (reverse lines) l ≡ true → ⊥
 not_spelled front lines one l h m = cc (one.only l h)
 
-pub not_here : (front : List ℕ) (lines : List Line) (line : Line) → IsTheOne (SpellsLine front) (Some line) → may_follow (reverse lines) line ≡ false
-    → (l : Line) → SpellsLine front l → may_follow (reverse lines) l ≡ true → ⊥
+pub not_here : (front : List ℕ) (lines : List CertificateLine) (line : CertificateLine) → IsTheOne (SpellsLine front) (Some line) → may_follow (reverse lines) line ≡ false
+    → (l : CertificateLine) → SpellsLine front l → may_follow (reverse lines) l ≡ true → ⊥
 not_here front lines line one off l h m = let e : line ≡ l = cc (one.only l h) in let f : may_follow (reverse lines) line ≡ true = rw e m in cc
 
-pub all_read : (text rest : List ℕ) (lines : List Line) → HasRead text lines rest → length rest ≡ 0 → Certifies text (nodes_of (reverse lines))
+pub all_read : (text rest : List ℕ) (lines : List CertificateLine) → HasRead text lines rest → length rest ≡ 0 → Certifies text (nodes_of (reverse lines))
 all_read text rest lines had none = record {
   lines = reverse lines;
   spells = record { are = had.are; spelled = had.spelled ∙ (ap (λ z. map line_text lines ++ text_lines z) (empty rest none) ∙ (append-nil (map line_text lines) ∙ ap (map line_text) (sym (reverse-reverse lines)))) };
@@ -109,7 +109,7 @@ left_is None d r e n = ap (λ (b : Bor (List ℕ)). b.now) e ∙ n
 left_is (Some x) d r e n = ap (λ (b : Bor (List ℕ)). b.now) e
 
 -- a turn of the reader
-pub turn : (text rest front : List ℕ) (lines : List Line) (l : Line) (back : Option (List ℕ)) (new : List Line) (onwards : List ℕ)
+pub turn : (text rest front : List ℕ) (lines : List CertificateLine) (l : CertificateLine) (back : Option (List ℕ)) (new : List CertificateLine) (onwards : List ℕ)
     → HasRead text lines rest × (length lines + length rest ≤ length text) → 0 < length rest → IsCut 10 rest front back
     → IsTheOne (SpellsLine front) (Some l) → may_follow (reverse lines) l ≡ true → new ≡ lines ++ (l ∷ []) → onwards ≡ left back
     → HasRead text new onwards × (length new + length onwards ≤ length text)

@@ -5,8 +5,8 @@ use Rattle.dae_base.specs.declared.Side.TheVariants.{A, E}
 use Rattle.dae_ranges.specs.declared.Range.{Range}
 use Rattle.dae_ranges.specs.Ranges.{highest}
 use Rattle.dae_certificate.specs.declared.lines.NamedRange.{NamedRange}
-use Rattle.dae_certificate.specs.declared.lines.Line.{Line}
-use Rattle.dae_certificate.specs.declared.lines.Line.TheVariants.{Node, Register}
+use Rattle.dae_certificate.specs.declared.lines.CertificateLine.{CertificateLine}
+use Rattle.dae_certificate.specs.declared.lines.CertificateLine.TheVariants.{Node, Register}
 
 -- ---- their words
 
@@ -22,7 +22,7 @@ side_text E = codes "e"
 abbrev pub range_words : Range → List (List ℕ)
 range_words r = decimal r.lo ∷ (decimal (highest r) ∷ (decimal r.step ∷ []))
 
-abbrev pub line_words : Line → List (List ℕ)
+abbrev pub line_words : CertificateLine → List (List ℕ)
 line_words (Node a e) = codes "node" ∷ (counter_text a ∷ (counter_text e ∷ []))
 line_words (Register n) = side_text n.side ∷ (decimal n.register ∷ range_words n.range)
 
@@ -32,7 +32,7 @@ spaced [] = []
 spaced (w ∷ []) = w
 spaced (w ∷ (v ∷ ws)) = w ++ (32 ∷ spaced (v ∷ ws))
 
-abbrev pub line_text : Line → List ℕ
+abbrev pub line_text : CertificateLine → List ℕ
 line_text l = spaced (line_words l)
 
 -- ---- their numbers
@@ -54,7 +54,7 @@ pub record IsNamed (n : NamedRange) : Type 0 where
   pub last : n.register ≤ 27
   pub range : IsRange n.range
 
-abbrev pub IsLine : Line → Type 0
+abbrev pub IsLine : CertificateLine → Type 0
 IsLine (Node a e) = IsCounter a × IsCounter e
 IsLine (Register n) = IsNamed n
 
@@ -77,12 +77,12 @@ abbrev pub SpellsRange : Side → List ℕ → NamedRange → Type 0
 SpellsRange side bytes n =
     (n.side ≡ side) × (bytes ≡ spaced (decimal n.register ∷ range_words n.range)) × IsNamed n
 
-abbrev pub SpellsLine : List ℕ → Line → Type 0
+abbrev pub SpellsLine : List ℕ → CertificateLine → Type 0
 SpellsLine bytes l = (bytes ≡ line_text l) × IsLine l
 
 -- ---- which line may stand behind others, of which the last comes first
 
-abbrev pub node_count : List Line → ℕ
+abbrev pub node_count : List CertificateLine → ℕ
 node_count [] = 0
 node_count (Node a e ∷ before) = suc (node_count before)
 node_count (Register n ∷ before) = node_count before
@@ -94,12 +94,12 @@ is_side E A = false
 is_side E E = true
 
 -- there is a node, and no line behind the last one names the register
-abbrev pub is_unnamed : Side → ℕ → List Line → Bool
+abbrev pub is_unnamed : Side → ℕ → List CertificateLine → Bool
 is_unnamed side register [] = false
 is_unnamed side register (Node a e ∷ before) = true
 is_unnamed side register (Register n ∷ before) =
     not (is_side n.side side && nat_eq n.register register) && is_unnamed side register before
 
-abbrev pub may_follow : List Line → Line → Bool
+abbrev pub may_follow : List CertificateLine → CertificateLine → Bool
 may_follow before (Node a e) = nat_lt (node_count before) 64
 may_follow before (Register n) = is_unnamed n.side n.register before

@@ -3,7 +3,7 @@
 #![tactic(auto)]
 
 pub use laws::a_text_has_one_answer;
-pub use lines::{Line, NamedRange};
+pub use lines::{CertificateLine, NamedRange};
 pub use reading::read;
 
 mod laws;
@@ -26,7 +26,7 @@ pub struct SideNode {
 
 /// A node of a certificate, where nothing waits.
 #[derive(Drop)]
-pub struct Known {
+pub struct CertificateNode {
     pub a: SideNode,
     pub e: SideNode,
 }

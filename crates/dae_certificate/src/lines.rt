@@ -16,7 +16,7 @@ pub struct NamedRange {
 
 /// A line.
 #[derive(Clone, Copy)]
-pub enum Line {
+pub enum CertificateLine {
     /// A node begins: the counters of A and of E, None where that side has halted.
     Node(Option<u32>, Option<u32>),
     /// A register of the last node.
@@ -25,17 +25,17 @@ pub enum Line {
 
 /// The line that the bytes spell, without its line feed, or None where they spell none.
 #[tactic(auto, using(crate::proofs::Spellings::nothing_behind, crate::proofs::Spellings::no_named))]
-pub fn line_of(bytes: &[u8]) -> Option<Line>
+pub fn line_of(bytes: &[u8]) -> Option<CertificateLine>
     ensures { IsTheOne (SpellsLine bytes.now) result }
 {
     let (first, rest) = cut(bytes, b' ');
     if first == b"node".as_slice() {
         let (a, e) = counters(rest?)?;
-        Some(Line::Node(a, e))
+        Some(CertificateLine::Node(a, e))
     } else if first == b"a".as_slice() {
-        Some(Line::Register(named_range(Side::A, rest?)?))
+        Some(CertificateLine::Register(named_range(Side::A, rest?)?))
     } else if first == b"e".as_slice() {
-        Some(Line::Register(named_range(Side::E, rest?)?))
+        Some(CertificateLine::Register(named_range(Side::E, rest?)?))
     } else {
         None
     }

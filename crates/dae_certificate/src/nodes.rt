@@ -2,8 +2,8 @@
 ghost use Rattle.std.specs.Prelude.{◌≡◌, IfOk, reverse};
 ghost use Rattle.dae_certificate.specs.Certificates.{open_side, open_node, with_register, with_named, nodes_of};
 
-use crate::lines::{Line, NamedRange};
-use crate::{Known, SideNode};
+use crate::lines::{CertificateLine, NamedRange};
+use crate::{CertificateNode, SideNode};
 use dae_base::{Items, Side};
 use dae_ranges::Range;
 use std::alloc::{AllocError, Global};
@@ -24,10 +24,10 @@ fn open_side(alloc: Global, counter: Option<u32>) -> Result<SideNode, AllocError
 }
 
 /// A node as its line begins it.
-fn open_node(alloc: Global, a: Option<u32>, e: Option<u32>) -> Result<Known, AllocError>
+fn open_node(alloc: Global, a: Option<u32>, e: Option<u32>) -> Result<CertificateNode, AllocError>
     ensures { IfOk result (λ n. n ≡ open_node a e) }
 {
-    Ok(Known {
+    Ok(CertificateNode {
         a: open_side(alloc, a)?,
         e: open_side(alloc, e)?,
     })
@@ -49,16 +49,16 @@ fn with_register(side: SideNode, register: u8, range: Range) -> SideNode
 }
 
 /// The node with a range that a line names.
-fn with_named(node: Known, named: NamedRange) -> Known
+fn with_named(node: CertificateNode, named: NamedRange) -> CertificateNode
     ensures { result ≡ with_named named node }
 {
-    let Known { a, e } = node;
+    let CertificateNode { a, e } = node;
     match named.side {
-        Side::A => Known {
+        Side::A => CertificateNode {
             a: with_register(a, named.register, named.range),
             e,
         },
-        Side::E => Known {
+        Side::E => CertificateNode {
             a,
             e: with_register(e, named.register, named.range),
         },
@@ -66,14 +66,17 @@ fn with_named(node: Known, named: NamedRange) -> Known
 }
 
 /// The nodes of the lines, in their order.
-pub fn nodes_of(alloc: Global, lines: &[Line]) -> Result<Items<Known>, AllocError>
+pub fn nodes_of(
+    alloc: Global,
+    lines: &[CertificateLine],
+) -> Result<Items<CertificateNode>, AllocError>
     ensures { IfOk result (λ nodes. nodes ≡ nodes_of (reverse lines.now)) }
 {
     let mut nodes = Vec::new(alloc);
     for line in lines {
         match line {
-            Line::Node(a, e) => nodes.push(open_node(alloc, *a, *e)?)?,
-            Line::Register(named) => {
+            CertificateLine::Node(a, e) => nodes.push(open_node(alloc, *a, *e)?)?,
+            CertificateLine::Register(named) => {
                 if let Some(last) = nodes.pop() {
                     nodes.push(with_named(last, *named))?;
                 }

@@ -2,7 +2,7 @@
 ghost use Rattle.std.specs.Prelude.{◌≡◌, reverse};
 ghost use Rattle.dae_certificate.specs.Lines.{node_count, is_side, is_unnamed, may_follow};
 
-use crate::lines::Line;
+use crate::lines::CertificateLine;
 use dae_base::Side;
 
 /// The most nodes of a certificate.
@@ -10,38 +10,38 @@ const MOST_NODES: usize = 64;
 
 /// Whether a line may stand behind these: a 65th node may not, nor a register that a line behind the last node has named,
 /// nor one before any node.
-pub fn may_follow(before: &[Line], line: Line) -> bool
+pub fn may_follow(before: &[CertificateLine], line: CertificateLine) -> bool
     ensures { result ≡ may_follow (reverse before.now) line }
 {
     match line {
-        Line::Node(_, _) => node_count(before) < MOST_NODES,
-        Line::Register(named) => is_unnamed(before, named.side, named.register),
+        CertificateLine::Node(_, _) => node_count(before) < MOST_NODES,
+        CertificateLine::Register(named) => is_unnamed(before, named.side, named.register),
     }
 }
 
 /// How many of the lines begin a node.
-fn node_count(lines: &[Line]) -> usize
+fn node_count(lines: &[CertificateLine]) -> usize
     ensures { result ≡ node_count (reverse lines.now) }
 {
     let mut count = 0;
     for line in lines {
         match line {
-            Line::Node(_, _) => count += 1,
-            Line::Register(_) => {}
+            CertificateLine::Node(_, _) => count += 1,
+            CertificateLine::Register(_) => {}
         }
     }
     count
 }
 
 /// Whether there is a node, and no line behind the last one names the register.
-fn is_unnamed(lines: &[Line], side: Side, register: u8) -> bool
+fn is_unnamed(lines: &[CertificateLine], side: Side, register: u8) -> bool
     ensures { result ≡ is_unnamed side register (reverse lines.now) }
 {
     match lines {
         [] => false,
         [before @ .., last] => match last {
-            Line::Node(_, _) => true,
-            Line::Register(named) => {
+            CertificateLine::Node(_, _) => true,
+            CertificateLine::Register(named) => {
                 !(is_side(named.side, side) && named.register == register)
                     && is_unnamed(before, side, register)
             }

@@ -6,7 +6,7 @@ use crate::lines::line_of;
 use crate::nodes::nodes_of;
 use crate::places::may_follow;
 use crate::words::cut;
-use crate::{CertificateError, Known};
+use crate::{CertificateError, CertificateNode};
 use dae_base::Items;
 use std::alloc::Global;
 
@@ -17,7 +17,7 @@ use std::alloc::Global;
 /// The first line, from 1 on, that is not of the form, names a register again for a side of its node, stands before any
 /// node, or is a 65th node; or that memory was wanting.
 #[tactic(auto, using(crate::proofs::Texts::none_read, crate::proofs::Texts::all_read))]
-pub fn read(alloc: Global, text: &[u8]) -> Result<Items<Known>, CertificateError>
+pub fn read(alloc: Global, text: &[u8]) -> Result<Items<CertificateNode>, CertificateError>
     requires short { length text.now ≤ 1048576 }
     ensures nodes { IfOk result (Certifies text.now) }
     ensures bad { IfErr result (IsCause text.now) }

@@ -26,7 +26,7 @@ use Rattle.dae_cli_options.specs.declared.options.RunOptions.{RunOptions}
 use Rattle.dae_cli_drive.specs.Notes.{budget_line, ended_line, end_puts, running_line, show_puts, steps_line, trapped_line}
 use Rattle.dae_cli_drive.specs.Pieces.{pieces}
 use Rattle.dae_cli_drive.specs.Puts.{Answer, answer, Out, Note, Put}
-use Rattle.dae_cli_drive.specs.Turns.{Rested, Turns, puts_of_turns}
+use Rattle.dae_cli_drive.specs.Turns.{Rested, RunsTurns, puts_of_turns}
 use Rattle.dae_cli_drive.specs.Images.{status_of, due_end, DueOfImage, due_opened, due_not_opened, due_depth, due_memory_for_machine, due_budget, due_memory_for_lines}
 use Rattle.dae_cli_drive.proofs.Laws.{none_or_some, pieces_are_printed, steps_counted}
 use Rattle.dae_cli_answers.specs.Promises.{IsRunOf, IsRunToEnd, TellsEnd, TellsSoFar}
@@ -52,7 +52,7 @@ pub neither : {status : ℕ} → status ≢ 0 → status ≢ 1 → (status ≡ 0
 neither zero one (inl h) = zero h
 neither zero one (inr h) = one h
 
-module _ (image : Image) (o : RunOptions) (reach : Reaches o.depths image.budget) (end : State) (turns : Turns (setup_of image o.depths) (opened image) (word_of o.schedule) o.steps end) where
+module _ (image : Image) (o : RunOptions) (reach : Reaches o.depths image.budget) (end : State) (turns : RunsTurns (setup_of image o.depths) (opened image) (word_of o.schedule) o.steps end) where
   abbrev setup : Setup
   setup = setup_of image o.depths
 

@@ -4,7 +4,7 @@ use Rattle.std.specs.Prelude.{Option, Some, None}
 use Rattle.dae_base.specs.declared.Depths.{Depths}
 use Rattle.dae_base.specs.Ones.{IsTheOne}
 use Rattle.dae_image.specs.declared.Image.{Image}
-use Rattle.dae_debug_commands.specs.declared.Command.{Command}
+use Rattle.dae_debug_commands.specs.declared.DebugCommand.{DebugCommand}
 use Rattle.dae_debug_commands.specs.Scripts.{AreRead, lines_of}
 use Rattle.dae_debug.specs.Sessions.{HeldSession, opened_session}
 use Rattle.dae_debug.proofs.LawsOfSessions.{one_script}
@@ -20,19 +20,19 @@ one_found None None x y = refl
 one_found None (Some v) x y = x.only v y.has
 one_found (Some v) other x y = sym (y.only v x.has)
 
-same_read : (lines : List (List ℕ)) (commands others : List (Option Command)) → AreRead lines commands → AreRead lines others → commands ≡ others
+same_read : (lines : List (List ℕ)) (commands others : List (Option DebugCommand)) → AreRead lines commands → AreRead lines others → commands ≡ others
 same_read [] [] [] x y = refl
 same_read [] [] (d ∷ ds) x y = absurd y
 same_read [] (c ∷ cs) others x y = absurd x
 same_read (l ∷ ls) [] others x y = absurd x
 same_read (l ∷ ls) (c ∷ cs) [] x y = absurd y
 same_read (l ∷ ls) (c ∷ cs) (d ∷ ds) x y =
-    ap (λ (z : Option Command). z ∷ cs) (one_found c d x.0 y.0) ∙ ap (λ (zs : List (Option Command)). d ∷ zs) (same_read ls cs ds x.1 y.1)
+    ap (λ (z : Option DebugCommand). z ∷ cs) (one_found c d x.0 y.0) ∙ ap (λ (zs : List (Option DebugCommand)). d ∷ zs) (same_read ls cs ds x.1 y.1)
 
 abbrev replied_answer : List (List ℕ) → HeldSession → Driven → Answer
 replied_answer texts end how = answer (status_of how) (map Out texts ++ (let m = end.machine in end_puts how m.setup m.state None))
 
-single_commands : (start : HeldSession) (commands : List (Option Command)) → IsSingle (DueOfCommands start commands)
+single_commands : (start : HeldSession) (commands : List (Option DebugCommand)) → IsSingle (DueOfCommands start commands)
 single_commands start commands a b (due_replies texts end how replied stands) (due_replies texts' end' how' replied' stands') n n' =
     let same = one_script start end end' commands texts texts' replied replied' in
     let there : Stands how end' = subst (λ (s : HeldSession). Stands how s) same.1 stands in
@@ -42,7 +42,7 @@ single_commands start commands a b (due_replies texts end how replied stands) (d
 single_script : (image : Image) (d : Depths) (script : List ℕ) → IsSingle (DueOfScript image d script)
 single_script image d script a b (due_script commands read x) (due_script commands' read' y) n n' =
     let same = same_read (lines_of script) commands commands' read read' in
-    single_commands (opened_session image d) commands' a b (subst (λ (cs : List (Option Command)). DueOfCommands (opened_session image d) cs a) same x) y n n'
+    single_commands (opened_session image d) commands' a b (subst (λ (cs : List (Option DebugCommand)). DueOfCommands (opened_session image d) cs a) same x) y n n'
 
 pub single_debugging : (image : Image) (d : Depths) (script : List ℕ) → IsSingle (DueOfDebugging image d script)
 single_debugging image d script = single_budgeted image _ (single_opened image d _ (single_script image d script))

@@ -3,7 +3,7 @@ use Rattle.std.specs.Prelude.{◌≡◌, ℕ, List, ◌++◌, map, Option, None,
 use Rattle.dae_base.specs.declared.Depths.{Depths}
 use Rattle.dae_io.specs.Sinks.{SinkState}
 use Rattle.dae_image.specs.declared.Image.{Image}
-use Rattle.dae_debug_commands.specs.declared.Command.{Command}
+use Rattle.dae_debug_commands.specs.declared.DebugCommand.{DebugCommand}
 use Rattle.dae_debug_commands.specs.Scripts.{AreRead, lines_of}
 use Rattle.dae_debug.specs.Scripts.{Replies}
 use Rattle.dae_debug.specs.Sessions.{Answers, HeldSession, opened_session}
@@ -25,7 +25,7 @@ abbrev pub Stands : Driven → HeldSession → Type 0
 Stands how s = Rested how s.machine.state.steps s.machine.setup s.machine.state
 
 -- what is due for a session by these commands: a put for each reply, and then the lines on how its machine stands
-pub data DueOfCommands (start : HeldSession) (commands : List (Option Command))
+pub data DueOfCommands (start : HeldSession) (commands : List (Option DebugCommand))
     : Answer → Type 0 where
   due_replies : (texts : List (List ℕ)) (end : HeldSession) (how : Driven)
       → Replies start commands texts end → Stands how end
@@ -34,7 +34,7 @@ pub data DueOfCommands (start : HeldSession) (commands : List (Option Command))
 
 -- what is due for a session on an image by a script: for the commands of its lines
 pub data DueOfScript (image : Image) (d : Depths) (script : List ℕ) : Answer → Type 0 where
-  due_script : {a : Answer} (commands : List (Option Command))
+  due_script : {a : Answer} (commands : List (Option DebugCommand))
       → AreRead (lines_of script) commands
       → DueOfCommands (opened_session image d) commands a → DueOfScript image d script a
 
@@ -50,12 +50,12 @@ abbrev pub IsOpened : HeldSession → Type 0
 IsOpened s = (image : Image) × (d : Depths) × (s ≡ opened_session image d)
 
 -- the reply to a line, by the command that it spells, if it spells one
-abbrev pub RepliesTo : Option Command → HeldSession → List ℕ → HeldSession → Type 0
+abbrev pub RepliesTo : Option DebugCommand → HeldSession → List ℕ → HeldSession → Type 0
 RepliesTo None s text t = (text ≡ codes "bad command\n") × (t ≡ s)
 RepliesTo (Some command) s text t = Answers command s text t
 
 -- all replies were put, and the machine stands so
-pub record ServesAll (how : Driven) (commands : List (Option Command)) (start now : HeldSession)
+pub record ServesAll (how : Driven) (commands : List (Option DebugCommand)) (start now : HeldSession)
     (out out_now : SinkState) : Type 0 where
   pub texts : List (List ℕ)
   pub replied : Replies start commands texts now
@@ -63,7 +63,7 @@ pub record ServesAll (how : Driven) (commands : List (Option Command)) (start no
   pub stands : Stands how now
 
 -- the replies were put up to one whose put failed
-pub record ServesInPart (commands : List (Option Command)) (start : HeldSession)
+pub record ServesInPart (commands : List (Option DebugCommand)) (start : HeldSession)
     (out out_now : SinkState) : Type 0 where
   pub texts : List (List ℕ)
   pub end : HeldSession

@@ -7,7 +7,7 @@ ghost use Rattle.dae_cli_debug_job.specs.Debugging.{DueOfCommands, DueOfDebuggin
 
 use crate::opening::{Opened, open_session};
 use crate::serving::serve;
-use dae_cli_drive::{Line, image_and_text, put_budget, tell_end, tell_refusal};
+use dae_cli_drive::{NoteLine, image_and_text, put_budget, tell_end, tell_refusal};
 use dae_cli_options::DepthOptions;
 use dae_image::Image;
 use dae_io::{Shelf, Sink};
@@ -81,7 +81,7 @@ fn debug_image<O: Sink, N: Sink>(
 // Does what the commands say, and notes how the machine stands then. It takes no memory.
 fn serve_opened<O: Sink, N: Sink>(
     opened: &mut Opened,
-    line: &mut Line,
+    line: &mut NoteLine,
     out: &mut O,
     note: &mut N,
 ) -> u8

@@ -8,7 +8,7 @@ ghost use Rattle.dae_debug.specs.Sessions.{opened_session};
 
 use dae_base::Depths;
 use dae_debug::{Reply, Session};
-use dae_debug_commands::{Command, read_script};
+use dae_debug_commands::{DebugCommand, read_script};
 use dae_image::Image;
 use dae_machine::OpenError;
 use std::alloc::{AllocError, Global};
@@ -18,7 +18,7 @@ use std::alloc::{AllocError, Global};
 pub struct Opened {
     pub session: Session,
     pub reply: Reply,
-    pub commands: Vec<Option<Command>>,
+    pub commands: Vec<Option<DebugCommand>>,
 }
 
 /// A session on an image, with queues of these depths, and the commands of a script.
@@ -49,7 +49,7 @@ pub fn open_session(
 fn reply_and_commands(
     alloc: Global,
     script: &[u8],
-) -> Result<(Reply, Vec<Option<Command>>), AllocError>
+) -> Result<(Reply, Vec<Option<DebugCommand>>), AllocError>
     ensures { IfOk result (λ both. AreRead (lines_of script.now) both.1.items) }
 {
     let reply = Reply::with_room(alloc)?;

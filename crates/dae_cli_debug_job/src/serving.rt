@@ -1,12 +1,12 @@
 // The loop of a session: command by command, with a put for each reply.
 ghost use Rattle.std.specs.Prelude.{◌≡◌, ◌≢◌, IfOk, MatchBool, OnErr, Some};
-ghost use Rattle.dae_debug_commands.specs.declared.Command.TheVariants as commands;
+ghost use Rattle.dae_debug_commands.specs.declared.DebugCommand.TheVariants as commands;
 ghost use Rattle.dae_cli_drive.specs.Turns.{Rested};
 ghost use Rattle.dae_cli_debug_job.specs.Debugging.{IsOpened, RepliesTo, ServesAll, ServesInPart};
 
 use dae_cli_drive::Driven;
 use dae_debug::{Reply, Session};
-use dae_debug_commands::Command;
+use dae_debug_commands::DebugCommand;
 use dae_io::{Sink, SinkFailed};
 use dae_machine::{Machine, Rest};
 
@@ -15,7 +15,7 @@ use dae_machine::{Machine, Rest};
 pub fn serve<O: Sink>(
     session: &mut Session,
     reply: &mut Reply,
-    commands: &[Option<Command>],
+    commands: &[Option<DebugCommand>],
     out: &mut O,
 ) -> Result<Driven, SinkFailed>
     requires { IsOpened session.old }
@@ -35,15 +35,15 @@ pub fn serve<O: Sink>(
 }
 
 // Whether a command ends the session.
-fn is_quit(command: &Option<Command>) -> bool
+fn is_quit(command: &Option<DebugCommand>) -> bool
     ensures { MatchBool result
         (command.now ≡ Some commands.Quit) (command.now ≢ Some commands.Quit) }
 {
-    matches!(command, Some(Command::Quit))
+    matches!(command, Some(DebugCommand::Quit))
 }
 
 // Does what a line says, and makes the reply to it.
-fn reply_to(session: &mut Session, reply: &mut Reply, command: Option<Command>)
+fn reply_to(session: &mut Session, reply: &mut Reply, command: Option<DebugCommand>)
     requires { command ≢ Some commands.Quit }
     ensures { RepliesTo command session.old reply.new session.new }
 {

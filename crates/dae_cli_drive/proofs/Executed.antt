@@ -12,7 +12,7 @@ use Rattle.dae_cli_options.specs.declared.options.RunOptions.{RunOptions}
 use Rattle.dae_cli_options.specs.declared.options.Shown.{Shown}
 use Rattle.dae_machine.specs.declared.End.TheVariants.{Ended, Trapped}
 use Rattle.dae_cli_drive.specs.Notes.{end_puts}
-use Rattle.dae_cli_drive.specs.Turns.{DrivesOn, StopsAt, Turns, puts_of_turns}
+use Rattle.dae_cli_drive.specs.Turns.{DrivesOn, StopsAt, RunsTurns, puts_of_turns}
 use Rattle.dae_cli_drive.specs.Pieces.{pieces, unprinted}
 use Rattle.dae_cli_drive.specs.Puts.{answer, Put, Out, sinks, AreMade, AreCut, Gives, gives_part, GivesDue}
 use Rattle.dae_cli_drive.specs.Images.{DueOfRun, due_end, status_of}
@@ -30,7 +30,7 @@ same_lines Spent setup s show = refl
 same_lines SinkFailed setup s show = refl
 
 module _ (setup : Setup) (s now : State) (o : RunOptions) (words words_now : Standing) (out out_now : SinkState) (begun : s.steps ≡ 0) (coming_is : (i : ℕ) → coming words i ≡ word_of o.schedule i) where
-  turns_is : (turns k : ℕ) (t : State) → k ≡ turns → Turns setup s (coming words) k t → Turns setup s (word_of o.schedule) turns t
+  turns_is : (turns k : ℕ) (t : State) → k ≡ turns → RunsTurns setup s (coming words) k t → RunsTurns setup s (word_of o.schedule) turns t
   turns_is turns k t e run = rw (← e, ← same_turns setup s (coming words) (word_of o.schedule) k coming_is) run
 
   puts_are : (turns k : ℕ) → k ≡ turns → puts_of_turns setup s (coming words) k ≡ puts_of_turns setup s (word_of o.schedule) turns

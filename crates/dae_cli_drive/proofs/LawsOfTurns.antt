@@ -13,12 +13,12 @@ use Rattle.dae_machine.specs.Turns.{pick_of}
 use Rattle.dae_machine.proofs.LawsOfRuns.{final_behind, pick_behind, step_behind, stuck_behind}
 use Rattle.dae_cli_drive.specs.declared.driving.Driven.{Driven}
 use Rattle.dae_cli_drive.specs.declared.driving.Driven.TheVariants.{Final, Stuck, Spent, SinkFailed}
-use Rattle.dae_cli_drive.specs.Turns.{Rested, Turns}
+use Rattle.dae_cli_drive.specs.Turns.{Rested, RunsTurns}
 use Rattle.dae_cli_drive.specs.Pieces.{unprinted}
 
 -- so many turns were made, each of them a step
 pub record Made (setup : Setup) (s : State) (words : ℕ → ℕ) (turns : ℕ) (t : State) : Type 0 where
-  pub run : Turns setup s words turns t
+  pub run : RunsTurns setup s words turns t
   pub all : length (scheduled setup s words turns) ≡ turns
 
 -- a turn is the step of its pick

@@ -9,7 +9,7 @@ use Rattle.dae_base.proofs.Laws.{is_true}
 use Rattle.dae_image.specs.declared.Image.{Image}
 use Rattle.dae_image.specs.declared.LineMark.{LineMark}
 use Rattle.dae_image.specs.declared.fault.ImageError.{ImageError}
-use Rattle.dae_image.specs.Contents.{Contents, Fits, header, is_name}
+use Rattle.dae_image.specs.Contents.{ImageContents, Fits, header, is_name}
 use Rattle.dae_image.specs.Images.{contents}
 use Rattle.dae_image.specs.Ranges.{is_in, name_range}
 use Rattle.dae_image.specs.Spelling.{Spells, body, head_1, head_2, line, name, number, numbers}
@@ -28,7 +28,7 @@ names_size (n ∷ ns) good =
     let short = IsIn-from_test name_range (length n) (and_parts (is_in name_range (length n)) (is_utf8 n) parts.0).0 in
     omega (arith, short.1, length-append (number (length n)) n, length-append (name n) (flat_map name ns), names_size ns parts.1)
 
-body_size : (c : Contents) → Fits c → length (body c) ≤ 400000000
+body_size : (c : ImageContents) → Fits c → length (body c) ≤ 400000000
 body_size c fits =
     let a = length-numbers c.code_a in
     let e = length-numbers c.code_e in
@@ -52,7 +52,7 @@ body_size c fits =
       length-append (flat_map line c.lines) (flat_map name c.names),
     )
 
-head_size : (c : Contents) (bytes : List ℕ) → Spells bytes c → length bytes ≤ 80 + length (body c)
+head_size : (c : ImageContents) (bytes : List ℕ) → Spells bytes c → length bytes ≤ 80 + length (body c)
 head_size c bytes (inl e) = omega (arith, ap length e, length-append (numbers (head_2 (header c))) (body c), length-numbers (head_2 (header c)))
 head_size c bytes (inr e) = omega (arith, ap length e.1, length-append (numbers (head_1 (header c))) (body c), length-numbers (head_1 (header c)))
 

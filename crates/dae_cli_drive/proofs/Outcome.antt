@@ -19,7 +19,7 @@ use Rattle.dae_machine.proofs.LawsOfRuns.{is_turned}
 use Rattle.dae_machine.proofs.LawsOfRuns.{picked_goes, quiet_where_none}
 use Rattle.dae_cli_drive.specs.declared.driving.Driven.{Driven}
 use Rattle.dae_cli_drive.specs.declared.driving.Driven.TheVariants.{Final, Stuck, Spent}
-use Rattle.dae_cli_drive.specs.Turns.{Rested, Turns}
+use Rattle.dae_cli_drive.specs.Turns.{Rested, RunsTurns}
 
 -- what every state of a run from a good one is
 pub record Good (s : State) : Type 0 where
@@ -70,7 +70,7 @@ spent_or_rested setup s (Some p) e good =
 -- the turns of a schedule lead to a state, and that state comes out somehow
 pub record Outcome (setup : Setup) (s : State) (words : ℕ → ℕ) (turns : ℕ) : Type 0 where
   pub last : State
-  pub made : Turns setup s words turns last
+  pub made : RunsTurns setup s words turns last
   pub how : Driven
   pub rested : Rested how (s.steps + turns) setup last
 

@@ -11,7 +11,7 @@ use Rattle.dae_machine.specs.declared.End.TheVariants.{Ended, Trapped}
 use Rattle.dae_cli_drive.specs.declared.driving.Driven.{Driven}
 use Rattle.dae_cli_drive.specs.declared.driving.Driven.TheVariants.{Final, Stuck, Spent, SinkFailed}
 use Rattle.dae_cli_options.specs.declared.options.RunOptions.{RunOptions}
-use Rattle.dae_cli_drive.specs.Turns.{Rested, Turns, puts_of_turns}
+use Rattle.dae_cli_drive.specs.Turns.{Rested, RunsTurns, puts_of_turns}
 use Rattle.dae_cli_drive.specs.Lines.{memory_line}
 use Rattle.dae_cli_drive.specs.Notes.{budget_line, depth_line, end_puts}
 use Rattle.dae_io.specs.Sinks.{IsPutFailed, SinkState}
@@ -28,7 +28,7 @@ status_of SinkFailed = 6
 -- what is due for a machine that makes the turns of its schedule up to the stated number of steps: a put for each piece
 -- that it prints, and then the lines on how it came out
 pub data DueOfRun (setup : Setup) (start : State) (o : RunOptions) : Answer → Type 0 where
-  due_end : (end : State) (how : Driven) → Turns setup start (word_of o.schedule) o.steps end → Rested how o.steps setup end →
+  due_end : (end : State) (how : Driven) → RunsTurns setup start (word_of o.schedule) o.steps end → Rested how o.steps setup end →
       DueOfRun setup start o (answer (status_of how) (puts_of_turns setup start (word_of o.schedule) o.steps ++ end_puts how setup end o.show))
 
 -- what is due behind the line with a budget where no machine is opened: a depth is below the budget, the first of which is told;

@@ -11,8 +11,8 @@ use Rattle.dae_cli_drive.specs.Pieces.{pieces, unprinted}
 use Rattle.dae_cli_drive.specs.Puts.{Put, Out, sinks, AreMade}
 
 -- so many turns by these words lead to this state, or fewer where no pick is enabled any more
-abbrev pub Turns : Setup → State → (ℕ → ℕ) → ℕ → State → Type 0
-Turns setup s words k t = Runs setup s (scheduled setup s words k) t
+abbrev pub RunsTurns : Setup → State → (ℕ → ℕ) → ℕ → State → Type 0
+RunsTurns setup s words k t = Runs setup s (scheduled setup s words k) t
 
 -- what the steps of so many turns print, each piece in a put of its own
 abbrev pub puts_of_turns : Setup → State → (ℕ → ℕ) → ℕ → List Put
@@ -41,7 +41,7 @@ words_taken picks turns = min (suc (length picks)) turns
 -- all turns up to the stated number of steps were made, and all that they printed was put out, a put for each piece
 pub record DrivesOn (result : Driven) (steps : ℕ) (setup : Setup) (s now : State) (words words_now : Standing) (out out_now : SinkState) : Type 0 where
   pub last : State
-  pub made : Turns setup s (coming words) (steps - s.steps) last
+  pub made : RunsTurns setup s (coming words) (steps - s.steps) last
   pub kept : now ≡ unprinted last
   pub rested : Rested result steps setup last
   pub put : AreOut (puts_of_turns setup s (coming words) (steps - s.steps)) out out_now
@@ -52,7 +52,7 @@ pub record StopsAt (steps : ℕ) (setup : Setup) (s now : State) (words words_no
   pub last : State
   pub turns : ℕ
   pub few : suc turns ≤ steps - s.steps
-  pub made : Turns setup s (coming words) (suc turns) last
+  pub made : RunsTurns setup s (coming words) (suc turns) last
   pub all : length (scheduled setup s (coming words) (suc turns)) ≡ suc turns
   pub kept : now ≡ unprinted last
   pub piece : List ℕ

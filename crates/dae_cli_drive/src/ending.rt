@@ -6,7 +6,7 @@ ghost use Rattle.dae_cli_drive.specs.Images.{status_of};
 ghost use Rattle.dae_cli_drive.specs.Puts.{AreNoted, AreNotedInPart, GivesNotes, answer};
 
 use crate::driving::Driven;
-use crate::line::Line;
+use crate::line::NoteLine;
 use crate::notes;
 use dae_cli_options::Shown;
 use dae_io::{Sink, SinkFailed};
@@ -17,7 +17,7 @@ pub fn tell_end<N: Sink>(
     machine: &Machine,
     driven: Driven,
     show: Option<Shown>,
-    line: &mut Line,
+    line: &mut NoteLine,
     note: &mut N,
 ) -> u8
     requires whole { driven ≢ Driven.SinkFailed }
@@ -53,7 +53,7 @@ pub fn note_end<N: Sink>(
     machine: &Machine,
     driven: Driven,
     show: Option<Shown>,
-    line: &mut Line,
+    line: &mut NoteLine,
     note: &mut N,
 ) -> Result<(), SinkFailed>
     requires whole { driven ≢ Driven.SinkFailed }

@@ -11,7 +11,7 @@ ghost use Rattle.dae_cli_drive.specs.Puts.{AreNoted, GivesDue, GivesNotesDue, No
 
 use crate::driving::{Driven, drive};
 use crate::ending::tell_end;
-use crate::line::Line;
+use crate::line::NoteLine;
 use crate::notes;
 use crate::stop::{Stop, noted};
 use dae_cli_options::RunOptions;
@@ -49,7 +49,7 @@ pub fn run_image<O: Sink, N: Sink>(
 /// # Errors
 ///
 /// The status with which the job ends, where memory was wanting, which is told, or the put failed.
-pub fn put_budget<N: Sink>(alloc: Global, image: &Image, note: &mut N) -> Result<Line, u8>
+pub fn put_budget<N: Sink>(alloc: Global, image: &Image, note: &mut N) -> Result<NoteLine, u8>
     ensures ok { OnOk result (AreNoted (Note (budget_line image.now.budget) ∷ [])
         (N.seen note.old) (N.seen note.new)) }
     ensures err { IfErr result (λ status.
@@ -65,16 +65,16 @@ pub fn put_budget<N: Sink>(alloc: Global, image: &Image, note: &mut N) -> Result
 }
 
 // The line with the budget, and room for the lines after it.
-fn lines(alloc: Global, image: &Image) -> Result<(String, Line), AllocError>
+fn lines(alloc: Global, image: &Image) -> Result<(String, NoteLine), AllocError>
     ensures { IfOk result (λ lines. string_bytes lines.0 ≡ budget_line image.now.budget) }
 {
     let budget = notes::budget_line(alloc, &image.budget)?;
-    let line = Line::with_room(alloc)?;
+    let line = NoteLine::with_room(alloc)?;
     Ok((budget, line))
 }
 
 /// Tells why no machine was opened, and answers with the status.
-pub fn tell_refusal<N: Sink>(error: OpenError, line: &mut Line, note: &mut N) -> u8
+pub fn tell_refusal<N: Sink>(error: OpenError, line: &mut NoteLine, note: &mut N) -> u8
     ensures { (image : Image) (d : Depths) → Refuses error image.budget d
         → GivesNotesDue (DueOfNoMachine image d) result (N.seen note.old) (N.seen note.new) }
 {
@@ -90,7 +90,7 @@ pub fn tell_refusal<N: Sink>(error: OpenError, line: &mut Line, note: &mut N) ->
 // Lets an opened machine run as the options say, and notes how it came out. It takes no memory.
 fn run_opened<O: Sink, N: Sink>(
     machine: &mut Machine,
-    line: &mut Line,
+    line: &mut NoteLine,
     options: &RunOptions,
     out: &mut O,
     note: &mut N,

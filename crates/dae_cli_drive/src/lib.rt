@@ -13,7 +13,7 @@ pub use fetch::fetched;
 pub use image::{put_budget, run_image, tell_refusal};
 pub use images::{image_of, image_of_file};
 pub use keeping::{keep_bytes, kept_line};
-pub use line::Line;
+pub use line::NoteLine;
 pub use notes::{budget_line, depth_line, ended_line, image_line, steps_line, trapped_line};
 pub use stop::{Stop, noted};
 pub use texts::text_of_file;

@@ -6,11 +6,11 @@ use std::marker::Model;
 
 /// A line that is made in room for 256 bytes. The room is taken before a run, so that its notes take no memory.
 #[derive(Drop)]
-pub struct Line {
+pub struct NoteLine {
     bytes: Vec<u8>,
 }
 
-impl Model for Line {
+impl Model for NoteLine {
     ghost use Rattle.std.specs.Prelude.{ℕ, ◌≤◌, List};
     ghost use Rattle.std.specs.Vec.{vec_capacity};
 
@@ -21,12 +21,12 @@ impl Model for Line {
     ghost invariant = { λ line. 256 ≤ vec_capacity line.bytes };
 }
 
-impl Line {
+impl NoteLine {
     /// The empty line.
-    pub fn with_room(alloc: Global) -> Result<Line, AllocError>
+    pub fn with_room(alloc: Global) -> Result<NoteLine, AllocError>
         ensures { IfOk result (λ line. line ≡ []) }
     {
-        Ok(Line {
+        Ok(NoteLine {
             bytes: Vec::with_capacity(alloc, 256)?,
         })
     }

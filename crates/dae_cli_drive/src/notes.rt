@@ -8,7 +8,7 @@ ghost use Rattle.dae_cli_drive.specs.Lines.{read_line};
 ghost use Rattle.dae_cli_drive.specs.Notes.{budget_line, depth_line, ended_line, fault_name, image_line, outcome_line, queue_name, shown_byte, shown_line, steps_line, stuck_line, trapped_line, why_text};
 
 use crate::driving::Driven;
-use crate::line::Line;
+use crate::line::NoteLine;
 use dae_base::{Depths, Queue, Side, Signedness, decimal_piece};
 use dae_cli_options::Shown;
 use dae_core::{CoreAnswer, Fault};
@@ -50,7 +50,7 @@ pub fn image_line(alloc: Global, error: ImageError) -> Result<String, AllocError
 }
 
 /// The line that tells which queue is less deep than the program needs, with both numbers.
-pub fn depth_line(line: &mut Line, queue: Queue, needs: u16, has: u16)
+pub fn depth_line(line: &mut NoteLine, queue: Queue, needs: u16, has: u16)
     ensures { line.new ≡ depth_line queue needs has }
 {
     line.begin(b"depth ");
@@ -78,7 +78,7 @@ fn queue_name(queue: Queue) -> &'static str
 }
 
 /// The line that tells how a machine came out.
-pub fn outcome_line(line: &mut Line, driven: Driven, machine: &Machine)
+pub fn outcome_line(line: &mut NoteLine, driven: Driven, machine: &Machine)
     requires { driven ≢ Driven.SinkFailed }
     ensures { line.new ≡ outcome_line driven machine.now.setup machine.now.state }
 {
@@ -95,7 +95,7 @@ pub fn outcome_line(line: &mut Line, driven: Driven, machine: &Machine)
 }
 
 /// The line that tells with which status a program ended.
-pub fn ended_line(line: &mut Line, status: u32)
+pub fn ended_line(line: &mut NoteLine, status: u32)
     ensures { line.new ≡ ended_line status }
 {
     line.begin(b"ended ");
@@ -104,7 +104,7 @@ pub fn ended_line(line: &mut Line, status: u32)
 }
 
 /// The line that tells with which code a program trapped.
-pub fn trapped_line(line: &mut Line, code: u32)
+pub fn trapped_line(line: &mut NoteLine, code: u32)
     ensures { line.new ≡ trapped_line code }
 {
     line.begin(b"trapped ");
@@ -112,7 +112,7 @@ pub fn trapped_line(line: &mut Line, code: u32)
     line.push(b"\n");
 }
 
-fn stuck_line(line: &mut Line, a: &CoreAnswer, e: &CoreAnswer)
+fn stuck_line(line: &mut NoteLine, a: &CoreAnswer, e: &CoreAnswer)
     ensures { line.new ≡ stuck_line a.now e.now }
 {
     line.begin(b"stuck A ");
@@ -123,7 +123,7 @@ fn stuck_line(line: &mut Line, a: &CoreAnswer, e: &CoreAnswer)
 }
 
 // Appends what keeps a processor from a step.
-fn push_why(line: &mut Line, answer: &CoreAnswer)
+fn push_why(line: &mut NoteLine, answer: &CoreAnswer)
     requires { length line.old ≤ 64 }
     ensures text { line.new ≡ line.old ++ why_text answer.now }
     ensures short { length line.new ≤ length line.old + 13 }
@@ -156,7 +156,7 @@ fn fault_name(fault: Fault) -> &'static str
 }
 
 /// The line with the number of steps.
-pub fn steps_line(line: &mut Line, steps: u64)
+pub fn steps_line(line: &mut NoteLine, steps: u64)
     ensures { line.new ≡ steps_line steps }
 {
     line.begin(b"steps ");
@@ -165,7 +165,7 @@ pub fn steps_line(line: &mut Line, steps: u64)
 }
 
 /// The line that shows bytes of memory. Those past its end are left out.
-pub fn shown_line(line: &mut Line, shown: Shown, memory: &[u8])
+pub fn shown_line(line: &mut NoteLine, shown: Shown, memory: &[u8])
     ensures { line.new ≡ shown_line shown memory.now }
 {
     line.begin(b"memory ");
@@ -176,7 +176,7 @@ pub fn shown_line(line: &mut Line, shown: Shown, memory: &[u8])
 }
 
 // Appends a blank and two hexadecimal digits for each byte.
-fn push_bytes(line: &mut Line, bytes: &[u8])
+fn push_bytes(line: &mut NoteLine, bytes: &[u8])
     requires few { length bytes.now ≤ 64 }
     requires short { length line.old ≤ 48 }
     ensures text { line.new ≡ line.old ++ flat_map shown_byte bytes.now }

@@ -5,7 +5,7 @@ ghost use Rattle.dae_cli_drive.specs.Shelves.{KeepsNothing, shelf_seen};
 ghost use Rattle.dae_cli_drive.specs.TextFiles.{DueOfImageAndText};
 ghost use Rattle.dae_cli_guard_job.specs.Guarding.{DueOfGuard, answer_of, long_line, most_certificate, refused_line};
 
-use dae_cli_drive::{Line, Stop, depth_line, image_and_text, noted};
+use dae_cli_drive::{NoteLine, Stop, depth_line, image_and_text, noted};
 use dae_cli_options::DepthOptions;
 use dae_guard_walk::GuardAnswer;
 use dae_image::Image;
@@ -57,7 +57,7 @@ fn guard_text<N: Sink>(
     ensures { GivesNotesDue (DueOfGuard image.now depths.now text.now) result
         (N.seen note.old) (N.seen note.new) }
 {
-    let Ok(mut line) = Line::with_room(alloc) else {
+    let Ok(mut line) = NoteLine::with_room(alloc) else {
         return Stop::Memory.tell(note);
     };
     let answer = dae_guard_walk::guard(alloc, image, depths.depths(), text);
@@ -65,7 +65,7 @@ fn guard_text<N: Sink>(
 }
 
 // Notes what the guard says.
-fn tell_answer<N: Sink>(answer: GuardAnswer, line: &mut Line, note: &mut N) -> u8
+fn tell_answer<N: Sink>(answer: GuardAnswer, line: &mut NoteLine, note: &mut N) -> u8
     ensures { GivesNotes (answer_of answer) result (N.seen note.old) (N.seen note.new) }
 {
     let status = answer_line(answer, line);
@@ -73,7 +73,7 @@ fn tell_answer<N: Sink>(answer: GuardAnswer, line: &mut Line, note: &mut N) -> u
 }
 
 // Writes the line for what the guard says, and gives the status.
-fn answer_line(answer: GuardAnswer, line: &mut Line) -> u8
+fn answer_line(answer: GuardAnswer, line: &mut NoteLine) -> u8
     ensures { told result line.new ≡ answer_of answer }
 {
     match answer {
@@ -105,7 +105,7 @@ fn answer_line(answer: GuardAnswer, line: &mut Line) -> u8
 }
 
 // A rule of certificates that is broken, at a line or a start of this number.
-fn refused_line(line: &mut Line, rule: &[u8], number: u32)
+fn refused_line(line: &mut NoteLine, rule: &[u8], number: u32)
     requires { length rule.now ≤ 5 }
     ensures { line.new ≡ refused_line rule.now number }
 {

@@ -10,7 +10,7 @@ use Rattle.std.specs.Borrow.{Bor}
 use Rattle.std.specs.Str.Pattern.{FindsTextPrefix, StripsPrefix}
 use Rattle.std.proofs.lemmas.Str.Pattern.{IsSplitOnceResult, split_parts}
 use Rattle.clap.specs.Lexer.{has_byte, long_of_rest, strip_byte}
-use Rattle.dae_cli_settings.specs.Settings.{AreSettings, Setting, is_among, is_name, is_new_setting, name_in, sets, sets_name, text_of}
+use Rattle.dae_cli_settings.specs.Settings.{AreSettings, OptionSetting, is_among, is_name, is_new_setting, name_in, sets, sets_name, text_of}
 use Rattle.dae_cli_settings.proofs.Words.{parts_of}
 use Rattle.dae_cli_settings.proofs.Walking.{named}
 
@@ -74,18 +74,18 @@ is_set (x ∷ rest) n h = by_first (x == 45) refl h where
 
 -- ---- the test
 
-own_name : (names : List (List ℕ)) (s : Setting) → list_all is_name names ≡ true → is_among names s.name ≡ true → name_in (text_of s) ≡ Some s.name
+own_name : (names : List (List ℕ)) (s : OptionSetting) → list_all is_name names ≡ true → is_among names s.name ≡ true → name_in (text_of s) ≡ Some s.name
 own_name names s ok among =
     let parts = and_parts (not (bytes_eq s.name [])) _ (named names s.name ok among) in
     name_of s.name s.value (not-true (has_byte 61 s.name) (and_parts (not (has_byte 61 s.name)) _ parts.1).0)
 
-some_set : (names : List (List ℕ)) (ss : List Setting) (n : List ℕ) → list_all is_name names ≡ true → AreSettings names ss → list_any (λ w. sets_name w n) (map text_of ss) ≡ sets ss n
+some_set : (names : List (List ℕ)) (ss : List OptionSetting) (n : List ℕ) → list_all is_name names ≡ true → AreSettings names ss → list_any (λ w. sets_name w n) (map text_of ss) ≡ sets ss n
 some_set names [] n ok h = refl
 some_set names (s ∷ ss) n ok h =
     let rest = some_set names ss n ok h.2 in
     rw (own_name names s ok h.0, rest) refl
 
-pub passes : (names : List (List ℕ)) (ss : List Setting) → list_all is_name names ≡ true → AreSettings names ss → test names (map text_of ss) ≡ true
+pub passes : (names : List (List ℕ)) (ss : List OptionSetting) → list_all is_name names ≡ true → AreSettings names ss → test names (map text_of ss) ≡ true
 passes names [] ok h = refl
 passes names (s ∷ ss) ok h =
     let rest = passes names ss ok h.2 in
@@ -93,7 +93,7 @@ passes names (s ∷ ss) ok h =
     rw (own_name names s ok h.0, h.0, new) rest
 
 abbrev pub IsSettings : List (List ℕ) → List (List ℕ) → Type 0
-IsSettings names words = (ss : List Setting) × (words ≡ map text_of ss) × AreSettings names ss
+IsSettings names words = (ss : List OptionSetting) × (words ≡ map text_of ss) × AreSettings names ss
 
 pub set_by : (names words : List (List ℕ)) → list_all is_name names ≡ true → test names words ≡ true → IsSettings names words
 set_by names [] ok h = ([], refl, tt)
@@ -111,7 +111,7 @@ set_by names (w ∷ ws) ok h = by_name (name_in w) refl parts.0 (set_by names ws
       (record { name = n; value = set.0 } ∷ rest.0, ap₂ (λ (v : List ℕ) (vs : List (List ℕ)). v ∷ vs) set.1 rest.1, (own.0, new, rest.2))
 
 -- words that fail the test are no settings
-pub none_set : (names words : List (List ℕ)) → list_all is_name names ≡ true → false ≡ test names words → (ss : List Setting) → words ≡ map text_of ss → ¬ (AreSettings names ss)
+pub none_set : (names words : List (List ℕ)) → list_all is_name names ≡ true → false ≡ test names words → (ss : List OptionSetting) → words ≡ map text_of ss → ¬ (AreSettings names ss)
 none_set names words ok h ss e k = true≢false (sym (ap (test names) e ∙ passes names ss ok k) ∙ sym h)
 
 -- ---- loops over words

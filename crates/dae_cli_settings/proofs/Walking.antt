@@ -11,7 +11,7 @@ use Rattle.clap.specs.Simple.{App, Shape, entered, matches_of, names_of}
 use Rattle.clap.specs.Takes.{built_takes, default_passes, entered_passes, is_given, is_valid, level_passes, settle_passes, takes, values_pass, turn_passes, walk_passes}
 use Rattle.clap.specs.declared.parser.matches.ValueSource.TheVariants.{CommandLine}
 use Rattle.clap.specs.declared.builder.value_parser.Reading.TheVariants.{AsWritten}
-use Rattle.dae_cli_settings.specs.Settings.{AreSettings, Setting, files_id, given, is_among, is_name, is_plain, sets, text_of}
+use Rattle.dae_cli_settings.specs.Settings.{AreSettings, OptionSetting, files_id, given, is_among, is_name, is_plain, sets, text_of}
 use Rattle.dae_cli_settings.specs.Commands.{app_of_names}
 use Rattle.dae_cli_settings.proofs.Words.{IsOther, is_other, long_is, no_end}
 use Rattle.dae_cli_settings.proofs.Rules.{all_free, app_built, defaults_pass, none_required, built_shape, built_files, built_is, built_option, found_files, found_first, found_long, no_defaults, rules_for, simple_app}
@@ -21,7 +21,7 @@ use Rattle.dae_cli_settings.proofs.Rules.{all_free, app_built, defaults_pass, no
 abbrev pub row_with : Text → List Text → Row
 row_with id values = record { id = id; values = values; count = None; source = Some CommandLine; reading = AsWritten }
 
-abbrev pub row_for : Setting → Row
+abbrev pub row_for : OptionSetting → Row
 row_for s = row_with s.name (s.value ∷ [])
 
 abbrev pub rows_with : List Row → Held
@@ -68,11 +68,11 @@ one_more id (x ∷ xs) r h e = by_first (bytes_eq x.id id) h (one_more id xs r) 
   by_first false k more = more k e
 
 -- no row has the name of a setting
-abbrev pub AreFresh : List Row → List Setting → Type 0
+abbrev pub AreFresh : List Row → List OptionSetting → Type 0
 AreFresh rows [] = Unit {0}
 AreFresh rows (s ∷ ss) = (has_row s.name rows ≡ false) × AreFresh rows ss
 
-fresh_still : (rows : List Row) (s : Setting) (ss : List Setting) → sets ss s.name ≡ false → AreFresh rows ss → AreFresh (rows ++ row_for s ∷ []) ss
+fresh_still : (rows : List Row) (s : OptionSetting) (ss : List OptionSetting) → sets ss s.name ≡ false → AreFresh rows ss → AreFresh (rows ++ row_for s ∷ []) ss
 fresh_still rows s [] new h = tt
 fresh_still rows s (t ∷ ts) new h = by_first (bytes_eq t.name s.name) refl new (λ k. fresh_still rows s ts k h.1) where
   by_first : (b : Bool) → bytes_eq t.name s.name ≡ b → (b || sets ts s.name) ≡ false → (sets ts s.name ≡ false → AreFresh (rows ++ row_for s ∷ []) ts)
@@ -80,7 +80,7 @@ fresh_still rows s (t ∷ ts) new h = by_first (bytes_eq t.name s.name) refl new
   by_first true e k more = absurd (cc)
   by_first false e k more = (one_more t.name rows (row_for s) h.0 (other_way t.name s.name e), more k)
 
-pub fresh_at_first : (ss : List Setting) → AreFresh [] ss
+pub fresh_at_first : (ss : List OptionSetting) → AreFresh [] ss
 fresh_at_first [] = tt
 fresh_at_first (s ∷ ss) = (refl, fresh_at_first ss)
 
@@ -99,19 +99,19 @@ named (n ∷ ns) name h k = by_first (bytes_eq n name) refl k (named ns name) wh
   by_first true e k rest = subst (λ (m : Text). is_name m ≡ true) ((bytes_eq-Decides n name).0 e) parts.0
   by_first false e k rest = rest parts.1 k
 
-used_once : (s : Setting) (rows : List Row) → has_row s.name rows ≡ false → used (built_option s.name) (s.value ∷ []) rows ≡ rows ++ row_for s ∷ []
+used_once : (s : OptionSetting) (rows : List Row) → has_row s.name rows ≡ false → used (built_option s.name) (s.value ∷ []) rows ≡ rows ++ row_for s ∷ []
 used_once s rows new = rw (without_none s.name rows new) (added s.name (more_values CommandLine (s.value ∷ [])) (row_for s ∷ []) rows new)
 
-step_is : (names : List Text) (s : Setting) (rows : List Row) → is_name s.name ≡ true → is_among names s.name ≡ true
+step_is : (names : List Text) (s : OptionSetting) (rows : List Row) → is_name s.name ≡ true → is_among names s.name ≡ true
     → walked (rules_for names) [] (at (rows_with rows) idle) (text_of s) ≡ at (reacted (rules_for names) (built_option s.name) (s.value ∷ []) (rows_with rows)) idle
 unfolding walked
 step_is names s rows named among = rw (no_end s named, long_is s named, found_long names s.name among) refl
 
-setting_walked : (names : List Text) (s : Setting) (rows : List Row) → is_name s.name ≡ true → is_among names s.name ≡ true → has_row s.name rows ≡ false
+setting_walked : (names : List Text) (s : OptionSetting) (rows : List Row) → is_name s.name ≡ true → is_among names s.name ≡ true → has_row s.name rows ≡ false
     → walked (rules_for names) [] (at (rows_with rows) idle) (text_of s) ≡ at (rows_with (rows ++ row_for s ∷ [])) idle
 setting_walked names s rows named among new = step_is names s rows named among ∙ ap (λ rs. at (rows_with rs) idle) (used_once s rows new)
 
-setting_passes : (name : Text) (names : List Text) (s : Setting) (rows : List Row) → is_name s.name ≡ true → is_among names s.name ≡ true → has_row s.name rows ≡ false
+setting_passes : (name : Text) (names : List Text) (s : OptionSetting) (rows : List Row) → is_name s.name ≡ true → is_among names s.name ≡ true → has_row s.name rows ≡ false
     → turn_passes (built_shape name names) [] (at (rows_with rows) idle) (text_of s) ≡ true
 setting_passes name names s rows named among new = rw (no_end s named, long_is s named, found_long names s.name among, new) refl
 
@@ -140,7 +140,7 @@ more_passes name names rows files word other = rw (other.no_end, other.no_long, 
 append_one : (rows : List Row) (r : Row) (rs : List Row) → (rows ++ r ∷ []) ++ rs ≡ rows ++ r ∷ rs
 append_one rows r rs = append_assoc rows (r ∷ []) rs
 
-settings_walked : (names : List Text) (ss : List Setting) (rows : List Row) (rest : List Text) → list_all is_name names ≡ true → AreSettings names ss → AreFresh rows ss
+settings_walked : (names : List Text) (ss : List OptionSetting) (rows : List Row) (rest : List Text) → list_all is_name names ≡ true → AreSettings names ss → AreFresh rows ss
     → fold (walked (rules_for names) []) (at (rows_with rows) idle) (map text_of ss ++ rest) ≡ fold (walked (rules_for names) []) (at (rows_with (rows ++ map row_for ss)) idle) rest
 settings_walked names [] rows rest ok h new = ap (λ rs. fold (walked (rules_for names) []) (at (rows_with rs) idle) rest) (sym (append-nil rows))
 settings_walked names (s ∷ ss) rows rest ok h new =
@@ -152,7 +152,7 @@ passes_next : (s : Shape) (w v : Walk) (word : Text) (rest : List Text) → turn
 unfolding walk_passes
 passes_next s w v word rest h e k = rw (h, e) k
 
-settings_pass : (name : Text) (names : List Text) (ss : List Setting) (rows : List Row) (rest : List Text) → list_all is_name names ≡ true → AreSettings names ss → AreFresh rows ss
+settings_pass : (name : Text) (names : List Text) (ss : List OptionSetting) (rows : List Row) (rest : List Text) → list_all is_name names ≡ true → AreSettings names ss → AreFresh rows ss
     → walk_passes (built_shape name names) [] (at (rows_with (rows ++ map row_for ss)) idle) rest ≡ true → walk_passes (built_shape name names) [] (at (rows_with rows) idle) (map text_of ss ++ rest) ≡ true
 settings_pass name names [] rows rest ok h new k = subst (λ rs. walk_passes (built_shape name names) [] (at (rows_with rs) idle) rest ≡ true) (append-nil rows) k
 settings_pass name names (s ∷ ss) rows rest ok h new k =
@@ -197,7 +197,7 @@ files_pass name names rows file files h =
 
 -- ---- the whole
 
-no_files_row : (ss : List Setting) (names : List Text) → list_all is_name names ≡ true → AreSettings names ss → has_row files_id (map row_for ss) ≡ false
+no_files_row : (ss : List OptionSetting) (names : List Text) → list_all is_name names ≡ true → AreSettings names ss → has_row files_id (map row_for ss) ≡ false
 no_files_row [] names ok h = refl
 no_files_row (s ∷ ss) names ok h =
     let rest = no_files_row ss names ok h.2 in
@@ -208,7 +208,7 @@ accepted : (files : List Text) → values_pass built_files files ≡ true
 accepted [] = refl
 accepted (f ∷ fs) = accepted fs
 
-module _ (name : Text) (names : List Text) (ss : List Setting) (file : Text) (files : List Text) (ok : list_all is_name names ≡ true) (h : AreSettings names ss) (plain : list_all is_plain (file ∷ files) ≡ true) (few : length (file ∷ files) ≤ usize_max) where
+module _ (name : Text) (names : List Text) (ss : List OptionSetting) (file : Text) (files : List Text) (ok : list_all is_name names ≡ true) (h : AreSettings names ss) (plain : list_all is_plain (file ∷ files) ≡ true) (few : length (file ∷ files) ≤ usize_max) where
   whole_walk : walk (rules_for names) [] nothing_held (map text_of ss ++ file ∷ files) ≡ at (with_files (map row_for ss) (file ∷ files)) positional
   whole_walk = settings_walked names ss [] (file ∷ files) ok h (fresh_at_first ss) ∙ files_walked names (map row_for ss) file files plain
 
@@ -260,16 +260,16 @@ first_else name (x ∷ xs) r h = by_first (bytes_eq x.id name) (first_else name 
   by_first true e = refl
   by_first false e = e
 
-first_given : (name : Text) (ss : List Setting) → first_of name (map row_for ss) ≡ given ss name
+first_given : (name : Text) (ss : List OptionSetting) → first_of name (map row_for ss) ≡ given ss name
 first_given name [] = refl
 first_given name (s ∷ ss) = by_first (bytes_eq s.name name) (first_given name ss) where
   by_first : (b : Bool) → first_of name (map row_for ss) ≡ given ss name
       → option_and_then (λ (y : Row). slice_get y.values 0) (cond b (Some (row_for s)) (find (λ y. bytes_eq y.id name) (map row_for ss)))
-      ≡ option_map (λ (y : Setting). y.value) (cond b (Some s) (find (λ y. bytes_eq y.name name) ss))
+      ≡ option_map (λ (y : OptionSetting). y.value) (cond b (Some s) (find (λ y. bytes_eq y.name name) ss))
   by_first true e = refl
   by_first false e = e
 
-pub first_in : (name : Text) (ss : List Setting) (files : List Text) → bytes_eq files_id name ≡ false → first_of name (map row_for ss ++ row_with files_id files ∷ []) ≡ given ss name
+pub first_in : (name : Text) (ss : List OptionSetting) (files : List Text) → bytes_eq files_id name ≡ false → first_of name (map row_for ss ++ row_with files_id files ∷ []) ≡ given ss name
 first_in name ss files other = first_else name (map row_for ss) (row_with files_id files) other ∙ first_given name ss
 
 files_else : (name : Text) (rows : List Row) (r : Row) → has_row name rows ≡ false → all_of name (rows ++ r ∷ []) ≡ all_of name (r ∷ [])
@@ -281,7 +281,7 @@ files_else name (x ∷ xs) r h = by_first (bytes_eq x.id name) h (files_else nam
   by_first false e more = more e
 
 -- no setting has the name of the files
-pub none_given : (names : List Text) (ss : List Setting) → list_all is_name names ≡ true → AreSettings names ss → given ss files_id ≡ None
+pub none_given : (names : List Text) (ss : List OptionSetting) → list_all is_name names ≡ true → AreSettings names ss → given ss files_id ≡ None
 none_given names [] ok h = refl
 none_given names (s ∷ ss) ok h =
     let rest = none_given names ss ok h.2 in

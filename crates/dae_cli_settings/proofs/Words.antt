@@ -6,7 +6,7 @@ use Rattle.std.specs.Str.{bytes_eq}
 use Rattle.std.proofs.Math.Seq.{take-append_seam}
 use Rattle.std.proofs.lemmas.Bool.{and_parts, not-true}
 use Rattle.clap.specs.Lexer.{has_byte, long_of, name_and_value, short_of}
-use Rattle.dae_cli_settings.specs.Settings.{Setting, files_id, is_name, is_plain, text_of}
+use Rattle.dae_cli_settings.specs.Settings.{OptionSetting, files_id, is_name, is_plain, text_of}
 
 at_equals : (xs ys : List ℕ) → has_byte 61 xs ≡ false → position_or_len (λ x. x == 61) (xs ++ 61 ∷ ys) ≡ length xs
 at_equals [] ys h = refl
@@ -35,7 +35,7 @@ parts_of name value lacks =
     let after : after_first (λ x. x == 61) (name ++ 61 ∷ value) ≡ value = ap (λ (n : ℕ). drop (n + 1) (name ++ 61 ∷ value)) at ∙ (ap (λ (n : ℕ). drop n (name ++ 61 ∷ value)) more ∙ behind 61 name value) in
     rw (has_equals name value) (ap₂ (λ (a b : List ℕ). (a, Some b)) before after)
 
-pub long_is : (s : Setting) → is_name s.name ≡ true → long_of (text_of s) ≡ Some (s.name, Some s.value)
+pub long_is : (s : OptionSetting) → is_name s.name ≡ true → long_of (text_of s) ≡ Some (s.name, Some s.value)
 long_is s h = by_name s.name h where
   by_name : (name : List ℕ) → is_name name ≡ true → long_of (45 ∷ 45 ∷ (name ++ 61 ∷ s.value)) ≡ Some (name, Some s.value)
   by_name [] k = absurd (cc)
@@ -44,7 +44,7 @@ long_is s h = by_name s.name h where
       let first = and_parts (not (has_byte 61 (x ∷ xs))) (not (bytes_eq (x ∷ xs) files_id)) lacks.1 in
       ap Some (parts_of (x ∷ xs) s.value (not-true (has_byte 61 (x ∷ xs)) first.0))
 
-pub no_end : (s : Setting) → is_name s.name ≡ true → bytes_eq (text_of s) (45 ∷ 45 ∷ []) ≡ false
+pub no_end : (s : OptionSetting) → is_name s.name ≡ true → bytes_eq (text_of s) (45 ∷ 45 ∷ []) ≡ false
 no_end s h = by_name s.name h where
   by_name : (name : List ℕ) → is_name name ≡ true → bytes_eq (45 ∷ 45 ∷ (name ++ 61 ∷ s.value)) (45 ∷ 45 ∷ []) ≡ false
   by_name [] k = absurd (cc)

@@ -8,26 +8,26 @@ use Rattle.clap.specs.Matches.{first_value, found_of}
 use Rattle.clap.specs.declared.parser.matches.ArgMatches.{ArgMatches}
 
 -- an option's name, and the text of the value that it is given
-pub record Setting : Type 0 where
+pub record OptionSetting : Type 0 where
   pub name : List ℕ
   pub value : List ℕ
 
 -- the one word of a setting, as in `--ld=2`
-abbrev pub text_of : Setting → List ℕ
+abbrev pub text_of : OptionSetting → List ℕ
 text_of s = 45 ∷ 45 ∷ (s.name ++ 61 ∷ s.value)
 
 -- the value that is given to an option, where it is set
-abbrev pub given : List Setting → List ℕ → Option (List ℕ)
+abbrev pub given : List OptionSetting → List ℕ → Option (List ℕ)
 given settings name = option_map (λ s. s.value) (find (λ s. bytes_eq s.name name) settings)
 
-abbrev pub sets : List Setting → List ℕ → Bool
+abbrev pub sets : List OptionSetting → List ℕ → Bool
 sets settings name = list_any (λ s. bytes_eq s.name name) settings
 
 abbrev pub is_among : List (List ℕ) → List ℕ → Bool
 is_among names name = list_any (λ n. bytes_eq n name) names
 
 -- each sets an option of these names, and none sets one that a later one sets
-abbrev pub AreSettings : (names : List (List ℕ)) → List Setting → Type 0
+abbrev pub AreSettings : (names : List (List ℕ)) → List OptionSetting → Type 0
 AreSettings names [] = Unit {0}
 AreSettings names (s ∷ ss) = (is_among names s.name ≡ true) × (sets ss s.name ≡ false) × AreSettings names ss
 
@@ -36,7 +36,7 @@ abbrev pub is_plain : List ℕ → Bool
 is_plain word = not (is_some (strip_byte 45 word))
 
 -- the words are settings of options with these names, and then files, of which there are one at least and as many as can be counted
-pub record AreParts (names words : List (List ℕ)) (settings : List Setting) (files : List (List ℕ)) : Type 0 where
+pub record AreParts (names words : List (List ℕ)) (settings : List OptionSetting) (files : List (List ℕ)) : Type 0 where
   pub words_are : words ≡ map text_of settings ++ files
   pub are_settings : AreSettings names settings
   pub some : 1 ≤ length files

@@ -5,7 +5,7 @@ ghost use Rattle.clap.specs.Simple.{app_of};
 ghost use Rattle.clap.specs.Values.{kind_of};
 ghost use Rattle.clap.specs.declared.error.kind.ErrorKind.TheVariants.{OutOfMemory};
 ghost use Rattle.dae_cli_settings.specs.Commands.{app_of_names};
-ghost use Rattle.dae_cli_settings.specs.Settings.{AreParts, Setting, given, is_name, option_in};
+ghost use Rattle.dae_cli_settings.specs.Settings.{AreParts, OptionSetting, given, is_name, option_in};
 
 use clap::{Arg, ArgMatches, Command, Error};
 use std::alloc::{AllocError, Global};
@@ -21,9 +21,9 @@ pub fn matches_of<'w>(
     words: &'w [String],
 ) -> Result<ArgMatches<'w>, Error>
     requires names { list_all is_name (map (λ n. n.now) names.now) ≡ true }
-    requires parts { (ss : List Setting) × (files : List (List ℕ))
+    requires parts { (ss : List OptionSetting) × (files : List (List ℕ))
         × AreParts (map (λ n. n.now) names.now) (map string_bytes words.now) ss files }
-    ensures options { IfOk result (λ m. (ss : List Setting) (files : List (List ℕ))
+    ensures options { IfOk result (λ m. (ss : List OptionSetting) (files : List (List ℕ))
         → AreParts (map (λ n. n.now) names.entry.now) (map string_bytes words.entry.now) ss files
         → option_in m ≡ given ss) }
     ensures err { IfErr result (λ e. kind_of e ≡ OutOfMemory) }

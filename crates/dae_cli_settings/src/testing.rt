@@ -1,15 +1,15 @@
 // Whether words set options.
 ghost use Rattle.std.specs.Prelude.{◌≡◌, List, map, MatchBool, option_map, string_bytes, true};
 ghost use Rattle.std.specs.List.{list_all, list_any};
-ghost use Rattle.dae_cli_settings.specs.Settings.{AreSettings, Setting, is_among, is_name, is_new_setting, name_in, sets_name, text_of};
+ghost use Rattle.dae_cli_settings.specs.Settings.{AreSettings, OptionSetting, is_among, is_name, is_new_setting, name_in, sets_name, text_of};
 
 /// Whether each of the words sets an option of these names, as in `--ld=2`, and none sets one that another sets.
 pub fn are_settings(names: &[&str], words: &[String]) -> bool
     requires { list_all is_name (map (λ n. n.now) names.now) ≡ true }
     ensures { MatchBool result
-        ((ss : List Setting) × (map string_bytes words.now ≡ map text_of ss)
+        ((ss : List OptionSetting) × (map string_bytes words.now ≡ map text_of ss)
         × AreSettings (map (λ n. n.now) names.entry.now) ss)
-        ((ss : List Setting) → map string_bytes words.now ≡ map text_of ss
+        ((ss : List OptionSetting) → map string_bytes words.now ≡ map text_of ss
         → ¬ (AreSettings (map (λ n. n.now) names.entry.now) ss)) }
 {
     for i in 0..words.len() {

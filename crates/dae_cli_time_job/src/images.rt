@@ -12,7 +12,7 @@ use crate::driving::drive_ticks;
 use crate::lines;
 use crate::options::TimeOptions;
 use dae_base::Side;
-use dae_cli_drive::{Driven, Line, note_end, put_budget, status_of, tell_refusal};
+use dae_cli_drive::{Driven, NoteLine, note_end, put_budget, status_of, tell_refusal};
 use dae_cli_options::Shown;
 use dae_image::Image;
 use dae_io::{Sink, SinkFailed};
@@ -46,7 +46,7 @@ pub fn time_image<O: Sink, N: Sink>(
 // Lets an opened machine make its ticks, and notes how it came out. It takes no memory.
 fn run_timed<O: Sink, N: Sink>(
     timed: &mut Timed,
-    line: &mut Line,
+    line: &mut NoteLine,
     options: &TimeOptions,
     out: &mut O,
     note: &mut N,
@@ -71,7 +71,7 @@ fn tell_times<N: Sink>(
     timed: &Timed,
     driven: Driven,
     show: Option<Shown>,
-    line: &mut Line,
+    line: &mut NoteLine,
     note: &mut N,
 ) -> u8
     requires whole { driven ≢ Driven.SinkFailed }
@@ -91,7 +91,7 @@ fn note_times<N: Sink>(
     timed: &Timed,
     driven: Driven,
     show: Option<Shown>,
-    line: &mut Line,
+    line: &mut NoteLine,
     note: &mut N,
 ) -> Result<(), SinkFailed>
     requires whole { driven ≢ Driven.SinkFailed }
@@ -107,7 +107,7 @@ fn note_times<N: Sink>(
 }
 
 // Puts the lines that tell of the ticks and the waits, one put each.
-fn note_clock<N: Sink>(timed: &Timed, line: &mut Line, note: &mut N) -> Result<(), SinkFailed>
+fn note_clock<N: Sink>(timed: &Timed, line: &mut NoteLine, note: &mut N) -> Result<(), SinkFailed>
     ensures made { OnOk result
         (AreNoted (time_puts timed.now.clock) (N.seen note.old) (N.seen note.new)) }
     ensures cut { OnErr result

@@ -4,12 +4,12 @@ ghost use Rattle.dae_timing.specs.Clocks.{waits_for, waits_of};
 ghost use Rattle.dae_cli_time_job.specs.Lines.{awaited, ticks_line, wait_front, wait_text, waits_front, waits_line};
 
 use dae_base::{Queue, Side};
-use dae_cli_drive::Line;
+use dae_cli_drive::NoteLine;
 use dae_timing::Timed;
 use itoa::Buffer;
 
 /// The line with the number of ticks.
-pub fn ticks_line(line: &mut Line, ticks: u64)
+pub fn ticks_line(line: &mut NoteLine, ticks: u64)
     ensures { line.new ≡ ticks_line ticks }
 {
     line.begin(b"ticks ");
@@ -18,7 +18,7 @@ pub fn ticks_line(line: &mut Line, ticks: u64)
 }
 
 /// The line that tells in how many ticks a processor waited for each queue.
-pub fn waits_line(line: &mut Line, timed: &Timed, side: Side)
+pub fn waits_line(line: &mut NoteLine, timed: &Timed, side: Side)
     ensures { line.new ≡ waits_line side (waits_of side timed.now.clock) }
 {
     line.begin(waits_front(side).as_bytes());
@@ -29,7 +29,7 @@ pub fn waits_line(line: &mut Line, timed: &Timed, side: Side)
 }
 
 // Appends a queue, and in how many ticks it was waited for.
-fn push_wait(line: &mut Line, timed: &Timed, side: Side, queue: Queue)
+fn push_wait(line: &mut NoteLine, timed: &Timed, side: Side, queue: Queue)
     requires { length line.old ≤ 200 }
     ensures text { line.new ≡ line.old ++ wait_text (waits_of side timed.now.clock) queue }
     ensures short { length line.new ≤ length line.old + 24 }

@@ -17,7 +17,7 @@ use Rattle.dae_cli_drive.specs.declared.driving.Driven.{Driven}
 use Rattle.dae_cli_drive.specs.declared.driving.Driven.TheVariants.{Final, Stuck, Spent, SinkFailed}
 use Rattle.dae_cli_drive.specs.Images.{status_of}
 use Rattle.dae_cli_drive.specs.Notes.{end_puts}
-use Rattle.dae_cli_drive.specs.Turns.{AreOut, Rested, Turns}
+use Rattle.dae_cli_drive.specs.Turns.{AreOut, Rested, RunsTurns}
 use Rattle.dae_cli_drive.specs.Puts.{AreCut, AreMade, Gives, GivesDue, Out, Put, answer, gives_part, sinks}
 use Rattle.dae_cli_drive.proofs.Laws.{Good, comes_out, cut_after, cut_here, cut_more, gives_same, gives_then, made_then, same_lines}
 use Rattle.dae_cli_drive.proofs.LawsOfTurns.{Made, kept, no_more, nothing_made, one_more, picks_later, picks_more, printing, rested_behind, turn_is}
@@ -174,7 +174,7 @@ module _ (setup : Setup) (s now : State) (o : RunOptions) (out out_now : SinkSta
       let notes : end_puts how setup now None ≡ end_puts how setup t.last None = ap (λ (v : State). end_puts how setup v None) t.kept ∙ same_lines how setup t.last None in
       let put : AreMade all_puts (sinks out n) (sinks out_now n) = subst (λ (k : ℕ). AreMade (puts_of_lines setup s (word_of o.schedule) k) (sinks out n) (sinks out_now n)) all_turns (t.put n) in (
         answer (status_of how) (all_puts ++ end_puts how setup t.last None),
-        due_traced t.last how (subst (λ (k : ℕ). Turns setup s (word_of o.schedule) k t.last) all_turns t.made) t.rested,
+        due_traced t.last how (subst (λ (k : ℕ). RunsTurns setup s (word_of o.schedule) k t.last) all_turns t.made) t.rested,
         gives_then all_puts (end_puts how setup t.last None) (status_of how) status (sinks out n) (sinks out_now n) (sinks out_now n') put
             (gives_same (ap (answer (status_of how)) notes) given),
       )

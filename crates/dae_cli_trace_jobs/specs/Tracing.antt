@@ -13,7 +13,7 @@ use Rattle.dae_cli_drive.specs.Images.{BehindBudget, WhenOpened, status_of}
 use Rattle.dae_cli_drive.specs.Notes.{end_puts}
 use Rattle.dae_cli_drive.specs.Pieces.{unprinted}
 use Rattle.dae_cli_drive.specs.Puts.{Answer, Out, Put, answer}
-use Rattle.dae_cli_drive.specs.Turns.{AreOut, Rested, Turns}
+use Rattle.dae_cli_drive.specs.Turns.{AreOut, Rested, RunsTurns}
 
 -- the lines of so many turns by these words, each in a put of its own
 abbrev pub puts_of_lines : Setup → State → (ℕ → ℕ) → ℕ → List Put
@@ -22,7 +22,7 @@ puts_of_lines setup s words k = map Out (lines setup s (scheduled setup s words 
 -- what is due for a machine whose turns are traced up to the stated number of steps: a put for each step's line, and then the
 -- lines on how it came out
 pub data DueOfLines (setup : Setup) (start : State) (o : RunOptions) : Answer → Type 0 where
-  due_traced : (end : State) (how : Driven) → Turns setup start (word_of o.schedule) o.steps end
+  due_traced : (end : State) (how : Driven) → RunsTurns setup start (word_of o.schedule) o.steps end
       → Rested how o.steps setup end
       → DueOfLines setup start o (answer (status_of how)
       (puts_of_lines setup start (word_of o.schedule) o.steps ++ end_puts how setup end None))
@@ -39,7 +39,7 @@ DueOfTracing image o =
 pub record TracesAll (how : Driven) (setup : Setup) (s now : State) (o : RunOptions)
     (out out_now : SinkState) : Type 0 where
   pub last : State
-  pub made : Turns setup s (word_of o.schedule) (o.steps - s.steps) last
+  pub made : RunsTurns setup s (word_of o.schedule) (o.steps - s.steps) last
   pub kept : now ≡ unprinted last
   pub rested : Rested how o.steps setup last
   pub put : AreOut (puts_of_lines setup s (word_of o.schedule) (o.steps - s.steps)) out out_now
@@ -50,7 +50,7 @@ pub record TracesInPart (setup : Setup) (s : State) (o : RunOptions) (out out_no
   pub last : State
   pub turns : ℕ
   pub few : suc turns ≤ o.steps - s.steps
-  pub made : Turns setup s (word_of o.schedule) (suc turns) last
+  pub made : RunsTurns setup s (word_of o.schedule) (suc turns) last
   pub all : length (scheduled setup s (word_of o.schedule) (suc turns)) ≡ suc turns
   pub text : List ℕ
   pub lines_are : puts_of_lines setup s (word_of o.schedule) (suc turns)

@@ -6,7 +6,7 @@ ghost use Rattle.dae_cli_drive.specs.TextFiles.{DueOfImageAndText};
 ghost use Rattle.dae_cli_trace_jobs.specs.Checking.{DueOfChecking, answer_of, long_line, most_trace, not_a_run_line};
 
 use dae_cli_drive::{
-    Line, depth_line, ended_line, image_and_text, noted, put_budget, trapped_line,
+    NoteLine, depth_line, ended_line, image_and_text, noted, put_budget, trapped_line,
 };
 use dae_cli_options::DepthOptions;
 use dae_image::Image;
@@ -68,7 +68,7 @@ fn check_text<N: Sink>(
 }
 
 // Notes what a text is as a trace.
-fn tell_answer<N: Sink>(answer: TraceAnswer, line: &mut Line, note: &mut N) -> u8
+fn tell_answer<N: Sink>(answer: TraceAnswer, line: &mut NoteLine, note: &mut N) -> u8
     ensures { GivesNotes (answer_of answer) result (N.seen note.old) (N.seen note.new) }
 {
     let status = answer_line(answer, line);
@@ -76,7 +76,7 @@ fn tell_answer<N: Sink>(answer: TraceAnswer, line: &mut Line, note: &mut N) -> u
 }
 
 // Writes the line for what a text is as a trace, and gives the status.
-fn answer_line(answer: TraceAnswer, line: &mut Line) -> u8
+fn answer_line(answer: TraceAnswer, line: &mut NoteLine) -> u8
     ensures { told result line.new ≡ answer_of answer }
 {
     match answer {
@@ -112,7 +112,7 @@ fn answer_line(answer: TraceAnswer, line: &mut Line) -> u8
 }
 
 // The number of the first line that isn't that of an enabled pick.
-fn not_a_run_line(line: &mut Line, number: u32)
+fn not_a_run_line(line: &mut NoteLine, number: u32)
     ensures { line.new ≡ not_a_run_line number }
 {
     line.begin(b"not-a-run ");

@@ -10,7 +10,7 @@ ghost use Rattle.dae_cli_drive.specs.ImageFiles.{DueOfImageFile};
 ghost use Rattle.dae_cli_drive.specs.Shelves.{KeepsNothing, shelf_seen};
 ghost use Rattle.dae_cli_trace_jobs.specs.Tracing.{DueOfLines, DueOfTracing, TracesTo};
 
-use dae_cli_drive::{Driven, Line, image_of_file, put_budget, tell_end, tell_refusal};
+use dae_cli_drive::{Driven, NoteLine, image_of_file, put_budget, tell_end, tell_refusal};
 use dae_cli_options::RunOptions;
 use dae_image::Image;
 use dae_io::{Shelf, Sink, SinkFailed};
@@ -66,7 +66,7 @@ fn trace_image<O: Sink, N: Sink>(
 // Traces an opened machine, and notes how it came out. It takes no memory.
 fn trace_opened<O: Sink, N: Sink>(
     machine: &mut Machine,
-    line: &mut Line,
+    line: &mut NoteLine,
     options: &RunOptions,
     out: &mut O,
     note: &mut N,

@@ -5,7 +5,7 @@ use Rattle.std.specs.List.{list_all}
 use Rattle.std.proofs.lemmas.Bool.{and_from, and_parts}
 use Rattle.dae_base.proofs.Laws.{is_true}
 use Rattle.dae_cli_options.specs.Names.{AreFiles, is_file_name}
-use Rattle.dae_cli_settings.specs.Settings.{AreParts, AreSettings, Setting, given, is_plain, text_of}
+use Rattle.dae_cli_settings.specs.Settings.{AreParts, AreSettings, OptionSetting, given, is_plain, text_of}
 use Rattle.dae_cli_words.specs.declared.command.Command.{Command}
 use Rattle.dae_cli_words.specs.declared.values.Chosen.{Chosen}
 use Rattle.dae_cli_words.specs.Asked.{Asked}
@@ -18,7 +18,7 @@ use Rattle.dae_cli_words.proofs.Fronts.{files_plain, same_middle}
 pub ask : (command d : Command) (found : List ℕ → Option (List ℕ)) (files : List (List ℕ)) (job : Asked) (chosen : Chosen) → command ≡ d → AreChosen found chosen → AsksFor d found chosen files job → AskFor command found files job
 ask command d found files job chosen is are asks = record { chosen = chosen; are_chosen = are; asks = subst (λ (x : Command). AsksFor x found chosen files job) (sym is) asks }
 
-pub with_names : (ns ms rest : List (List ℕ)) (ss : List Setting) (fs : List (List ℕ)) → ns ≡ ms → AreParts ns rest ss fs → AreParts ms rest ss fs
+pub with_names : (ns ms rest : List (List ℕ)) (ss : List OptionSetting) (fs : List (List ℕ)) → ns ≡ ms → AreParts ns rest ss fs → AreParts ms rest ss fs
 with_names ns ms rest ss fs e h = subst (λ (names : List (List ℕ)). AreParts names rest ss fs) e h
 
 -- words of a command, with words in the middle that begin with dashes, and words behind them
@@ -37,7 +37,7 @@ module _ (words : List (List ℕ)) (word : List ℕ) (rest middle files : List (
   settings_in : (job : Asked) (h : SpellsJob words job) → (middle ≡ map text_of h.settings) × AreSettings (names_of c) h.settings
   settings_in job h = let s = same job h in (sym s.1, subst (λ (d : Command). AreSettings (names_of d) h.settings) s.0 h.are_settings)
 
-  pub no_settings : ((ss : List Setting) → middle ≡ map text_of ss → ¬ (AreSettings (names_of c) ss)) → (job : Asked) → ¬ (SpellsJob words job)
+  pub no_settings : ((ss : List OptionSetting) → middle ≡ map text_of ss → ¬ (AreSettings (names_of c) ss)) → (job : Asked) → ¬ (SpellsJob words job)
   no_settings none job h = let s = settings_in job h in none h.settings s.0 s.1
 
   ask_in : (job : Asked) (h : SpellsJob words job) → AskFor c (given h.settings) files job
@@ -56,7 +56,7 @@ module _ (words : List (List ℕ)) (word : List ℕ) (rest middle files : List (
   all_plain [] h = refl
   all_plain (n ∷ ns) h = let parts = and_parts (is_file_name n) (list_all is_file_name ns) h in and_from _ _ (file_plain n parts.0) (all_plain ns parts.1)
 
-  pub are_parts : (ss : List Setting) → middle ≡ map text_of ss → AreSettings (names_of c) ss → AreFiles files → AreParts (names_of c) rest ss files
+  pub are_parts : (ss : List OptionSetting) → middle ≡ map text_of ss → AreSettings (names_of c) ss → AreFiles files → AreParts (names_of c) rest ss files
   are_parts ss e h f =
       let few = f.few in
       record {
@@ -68,14 +68,14 @@ module _ (words : List (List ℕ)) (word : List ℕ) (rest middle files : List (
       }
 
   -- what is found for the options is what the settings give
-  module _ (found : List ℕ → Option (List ℕ)) (reads : (ss : List Setting) (fs : List (List ℕ)) → AreParts (names_of c) rest ss fs → found ≡ given ss) (f : AreFiles files) where
+  module _ (found : List ℕ → Option (List ℕ)) (reads : (ss : List OptionSetting) (fs : List (List ℕ)) → AreParts (names_of c) rest ss fs → found ≡ given ss) (f : AreFiles files) where
     pub no_ask : ((job : Asked) → ¬ (AskFor c found files job)) → (job : Asked) → ¬ (SpellsJob words job)
     no_ask none job h =
         let s = settings_in job h in
         let same_found = reads h.settings files (are_parts h.settings s.0 s.1 f) in
         none job (subst (λ g. AskFor c g files job) (sym same_found) (ask_in job h))
 
-    pub asks_job : (ss : List Setting) → middle ≡ map text_of ss → AreSettings (names_of c) ss → (job : Asked) → AskFor c found files job → SpellsJob words job
+    pub asks_job : (ss : List OptionSetting) → middle ≡ map text_of ss → AreSettings (names_of c) ss → (job : Asked) → AskFor c found files job → SpellsJob words job
     asks_job ss e h job asks = record {
       command = c;
       settings = ss;
@@ -86,7 +86,7 @@ module _ (words : List (List ℕ)) (word : List ℕ) (rest middle files : List (
       asks = subst (λ g. AskFor c g files job) (reads ss files (are_parts ss e h f)) asks;
     }
 
-    pub answer : {J : Type 0} (plain_job : J → Asked) (ss : List Setting) → middle ≡ map text_of ss → AreSettings (names_of c) ss → (o : Option J)
+    pub answer : {J : Type 0} (plain_job : J → Asked) (ss : List OptionSetting) → middle ≡ map text_of ss → AreSettings (names_of c) ss → (o : Option J)
         → MatchOption o ((job : Asked) → ¬ (AskFor c found files job)) (λ j. AskFor c found files (plain_job j))
         → MatchOption o ((job : Asked) → ¬ (SpellsJob words job)) (λ j. SpellsJob words (plain_job j))
     answer {J} plain_job ss e h None asks = no_ask asks

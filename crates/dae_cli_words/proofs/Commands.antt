@@ -3,7 +3,7 @@ use Rattle.std.proofs.Common.{◌≡◌, ℕ, true, if◌then◌else◌, List, [
 use Rattle.std.specs.Prelude.{codes}
 use Rattle.std.specs.List.{list_all}
 use Rattle.std.specs.Str.{bytes_eq}
-use Rattle.dae_cli_settings.specs.Settings.{Setting, is_name, text_of}
+use Rattle.dae_cli_settings.specs.Settings.{OptionSetting, is_name, text_of}
 use Rattle.dae_cli_words.specs.declared.command.Command.{Command}
 use Rattle.dae_cli_words.specs.declared.command.Command.TheVariants.{Run, Big, Compile, Report, Exec, Trace, Time, Check, Debug, Guard, Asm, Dis}
 use Rattle.dae_cli_words.specs.Parts.{AreDashed}
@@ -55,6 +55,6 @@ names_ok Guard = refl
 names_ok Asm = refl
 names_ok Dis = refl
 
-pub settings_dashed : (ss : List Setting) → AreDashed (map text_of ss)
+pub settings_dashed : (ss : List OptionSetting) → AreDashed (map text_of ss)
 settings_dashed [] = tt
 settings_dashed (s ∷ ss) = (refl, settings_dashed ss)

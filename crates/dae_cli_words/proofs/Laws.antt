@@ -14,7 +14,7 @@ use Rattle.dae_cli_options.specs.declared.options.Options.{Options}
 use Rattle.dae_cli_options.specs.declared.options.RunOptions.{RunOptions}
 use Rattle.dae_cli_options.specs.declared.options.Shown.{Shown}
 use Rattle.dae_cli_options.specs.Spelling.{SpellsNumber}
-use Rattle.dae_cli_settings.specs.Settings.{AreSettings, Setting, given, text_of}
+use Rattle.dae_cli_settings.specs.Settings.{AreSettings, OptionSetting, given, text_of}
 use Rattle.dae_cli_settings.proofs.Laws.{same_settings}
 use Rattle.dae_cli_words.specs.declared.command.Command.{Command}
 use Rattle.dae_cli_words.specs.declared.command.Command.TheVariants as cmd
@@ -229,5 +229,5 @@ one_job {words} {job} {other} h k =
     let set = subst (λ (c : Command). AreSettings (names_of c) h.settings) command h.are_settings in
     let settings = same_settings (names_of k.command) h.settings k.settings (names_ok k.command) set k.are_settings parts.0 in
     let asks = subst (λ (c : Command). AskFor c (given h.settings) h.files job) command h.asks in
-    let asks' = subst (λ (ss : List Setting). AskFor k.command (given ss) h.files job) settings asks in
+    let asks' = subst (λ (ss : List OptionSetting). AskFor k.command (given ss) h.files job) settings asks in
     one_ask k.command (given k.settings) k.files job other (subst (λ (fs : List (List ℕ)). AskFor k.command (given k.settings) fs job) parts.1 asks') k.asks

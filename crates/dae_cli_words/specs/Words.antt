@@ -2,7 +2,7 @@
 use Rattle.std.specs.Prelude.{◌≡◌, ℕ, List, [], ◌∷◌, ◌++◌, map, codes, Option, Some}
 use Rattle.dae_cli_options.specs.Names.{AreFiles, IsFileName}
 use Rattle.dae_cli_options.specs.Spelling.{SpellsNumber}
-use Rattle.dae_cli_settings.specs.Settings.{AreSettings, Setting, given, text_of}
+use Rattle.dae_cli_settings.specs.Settings.{AreSettings, OptionSetting, given, text_of}
 use Rattle.dae_cli_words.specs.declared.command.Command.{Command}
 use Rattle.dae_cli_words.specs.declared.command.Command.TheVariants as cmd
 use Rattle.dae_cli_words.specs.declared.values.Chosen.{Chosen}
@@ -92,7 +92,7 @@ pub record AskFor (command : Command) (found : List ℕ → Option (List ℕ)) (
 -- the words spell this job
 pub record SpellsJob (words : List (List ℕ)) (job : Asked) : Type 0 where
   pub command : Command
-  pub settings : List Setting
+  pub settings : List OptionSetting
   pub files : List (List ℕ)
   pub words_are : words ≡ word_of command ∷ (map text_of settings ++ files)
   pub are_settings : AreSettings (names_of command) settings

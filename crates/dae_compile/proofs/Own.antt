@@ -27,7 +27,7 @@ use Rattle.dae_ir.specs.declared.stream.Action.{Action}
 use Rattle.dae_ir.specs.declared.stream.Action.TheVariants.{Set as Compute, Issue, Own, Receive, Address, Datum, Offer, Accept, Emit, Probe, Tell, Hear, Stop, Break, Continue, Call, Return}
 use Rattle.dae_ir.specs.declared.stream.Branch.{Branch}
 use Rattle.dae_ir.specs.declared.stream.Branch.TheVariants.{Silent, Tells, Hears}
-use Rattle.dae_select_walks.specs.Live.{Ways, ways, behind, none, in_operand, in_option, in_test, in_value, in_check, in_arguments, reads, sets, is, decided, after, live, lives, turn, body_ways, step_ways, nowhere, parameters_of, function_lives}
+use Rattle.dae_select_walks.specs.Live.{LiveWays, ways, behind, none, in_operand, in_option, in_test, in_value, in_check, in_arguments, reads, sets, is, decided, after, live, lives, turn, body_ways, step_ways, nowhere, parameters_of, function_lives}
 use Rattle.dae_regalloc.specs.Seen.{AreBelow}
 use Rattle.dae_link.specs.Settled.{HasAtMost}
 use Rattle.dae_compile.proofs.Names.{ProbeIn, OptionIn, ResultIn, ArgumentsIn, ActionIn, BranchIn, AreIn, stream_in}
@@ -125,12 +125,12 @@ module _ (n : ℕ) where
 
   -- ---- what is live
 
-  record WaysBelow (x : Ways) : Type 0 where
+  record WaysBelow (x : LiveWays) : Type 0 where
     next : AreBelow n x.next
     leaves : AreBelow n x.leaves
     skips : AreBelow n x.skips
 
-  after_below : (a : Action) (k : VariableSet) (x : Ways) → AreBelow n k → WaysBelow x → AreBelow n (after a k x)
+  after_below : (a : Action) (k : VariableSet) (x : LiveWays) → AreBelow n k → WaysBelow x → AreBelow n (after a k x)
   after_below (Compute v y) k x h w = h
   after_below (Issue kind y) k x h w = h
   after_below (Own v kind y) k x h w = h
@@ -155,7 +155,7 @@ module _ (n : ℕ) where
   ways_below : (next leaves skips : VariableSet) → AreBelow n next → AreBelow n leaves → AreBelow n skips → WaysBelow (ways next leaves skips)
   ways_below next leaves skips h i j = record { next = h; leaves = i; skips = j }
 
-  live_below : (code : Actions) (x : Ways) → AreIn n code → WaysBelow x → AreBelow n (live code x)
+  live_below : (code : Actions) (x : LiveWays) → AreIn n code → WaysBelow x → AreBelow n (live code x)
   live_below Done x h w = w.next
   live_below (Do m a k) x h w =
       let k' = live_below k x h.1 w in
@@ -181,7 +181,7 @@ module _ (n : ℕ) where
   all_append [] qs h i = i
   all_append (p ∷ ps) qs h i = (h.0, all_append ps qs h.1 i)
 
-  lives_below : (code : Actions) (x : Ways) → AreIn n code → WaysBelow x → AllByRecursion (AreBelow n) (lives code x)
+  lives_below : (code : Actions) (x : LiveWays) → AreIn n code → WaysBelow x → AllByRecursion (AreBelow n) (lives code x)
   lives_below Done x h w = tt
   lives_below (Do m a k) x h w = (both_below (live (Do m a k) x) (sets a) (live_below (Do m a k) x h w) (sets_below a h.0), lives_below k x h.1 w)
   lives_below (If m b p q k) x h w =

@@ -6,7 +6,7 @@ use Rattle.std.specs.List.{AllByRecursion, list_all}
 use Rattle.dae_base.specs.declared.Place.{Place}
 use Rattle.dae_image.specs.declared.Image.{Image}
 use Rattle.dae_tree.specs.Depth.{greatest_length}
-use Rattle.dae_tree.specs.Files.{Contents}
+use Rattle.dae_tree.specs.Files.{FileContents}
 use Rattle.dae_program.specs.declared.program.Function.{Function}
 use Rattle.dae_program.specs.declared.program.Program.{Program}
 use Rattle.dae_program.specs.Lawful.{is_lawful, is_lawful_in, is_lawful_memory, is_main, is_ready, is_well_placed, spares}
@@ -34,7 +34,7 @@ words_weigh [] (g ∷ gs) is = absurd is
 words_weigh (f ∷ fs) [] is = absurd is
 words_weigh (f ∷ fs) (g ∷ gs) is = let h = is.0 in let one = h.words in let k = words_weigh fs gs is.1 in omega (arith, one, k)
 
-words_within : FormsAreWithin → (files : List Contents) (first ir : Ir) → AreSmallBy first.functions ir.functions → IsForm files first → words_of_form ir ≤ words_beside files
+words_within : FormsAreWithin → (files : List FileContents) (first ir : Ir) → AreSmallBy first.functions ir.functions → IsForm files first → words_of_form ir ≤ words_beside files
 words_within within files first ir of is =
     let h = words_weigh first.functions ir.functions of in
     let g = within files first is in omega (arith, h, g)
@@ -158,7 +158,7 @@ all_long : (done : List Function) (k : ℕ) (ts : List FileParts) → length (fu
 all_long done k [] = omega arith
 all_long done k (t ∷ ts) = let h = all_long (functions_in done k t.functions) (suc k) ts in let l = functions_long done k t.functions in omega (arith, h, l)
 
-planned : (cs : List Contents) (ts : List FileParts) → AreTypedAs cs ts → ArePlanned cs ts
+planned : (cs : List FileContents) (ts : List FileParts) → AreTypedAs cs ts → ArePlanned cs ts
 planned [] [] h = tt
 planned [] (t ∷ ts) h = absurd h
 planned (c ∷ cs) [] h = absurd h

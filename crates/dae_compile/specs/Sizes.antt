@@ -6,7 +6,7 @@ use Rattle.dae_ir.specs.Sizes.{form_size}
 use Rattle.dae_ir.specs.declared.form.Function.{Function}
 use Rattle.dae_lower_formed.specs.Code.{loaded_burden, loads_in}
 use Rattle.dae_compile.specs.Generated.{calls_of_form}
-use Rattle.dae_tree.specs.Files.{Contents}
+use Rattle.dae_tree.specs.Files.{FileContents}
 use Rattle.dae_accept.specs.Read.{AreRead}
 use Rattle.dae_sizes.specs.Sources.{AreUpTo, tokens_in, bytes_in}
 
@@ -26,7 +26,7 @@ AreSmallBy (f ∷ fs) [] = ⊥
 AreSmallBy (f ∷ fs) (g ∷ gs) = IsSmallBy f g × AreSmallBy fs gs
 
 -- 224 words for each token of the files, 112 for each byte of their literals, and 8
-abbrev pub words_beside : List Contents → ℕ
+abbrev pub words_beside : List FileContents → ℕ
 words_beside files = 224 * tokens_in files + 112 * bytes_in files + 8
 
 -- in bytes, 8 words for each of n tokens in each of so many calls
@@ -36,7 +36,7 @@ private_beside calls n = 4 * (calls * (8 * n))
 -- The texts are read as files; neither code has more words than that for these files, and neither private memory more
 -- bytes than that where no definition in them has more than n tokens.
 pub record IsSmallBeside (texts : List (List ℕ)) (calls : ℕ) (image : Image) : Type 0 where
-  pub files : List Contents
+  pub files : List FileContents
   pub read : AreRead texts files
   pub code_a : length image.code_a ≤ words_beside files
   pub code_e : length image.code_e ≤ words_beside files

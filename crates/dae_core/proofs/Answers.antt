@@ -3,7 +3,7 @@ use Rattle.std.proofs.Common.{◌≡◌, ℕ, Bool, true, false, cond, List, [],
 use Rattle.std.specs.Prelude.{Option, Some, None, option_map}
 use Rattle.dae_base.specs.declared.Side.{Side}
 use Rattle.dae_base.specs.declared.Queue.{Queue}
-use Rattle.dae_encode.specs.declared.Form.TheVariants.{Computes}
+use Rattle.dae_encode.specs.declared.InstructionForm.TheVariants.{Computes}
 use Rattle.dae_encode.specs.declared.QueueUse.{QueueUse}
 use Rattle.dae_encode.specs.declared.QueueUse.TheVariants.{Nothing, Take, Push, Load, StoreAddress}
 use Rattle.dae_encode.specs.declared.Request.{Request}

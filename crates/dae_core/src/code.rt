@@ -4,14 +4,14 @@ ghost use Rattle.std.specs.Prelude.{◌≡◌, map, IfOk};
 ghost use Rattle.dae_core.specs.Codes.{legal_word};
 
 use dae_base::Side;
-use dae_encode::{Form, Inst, QueueUse, decode, form_of, queue_use};
+use dae_encode::{Inst, InstructionForm, QueueUse, decode, form_of, queue_use};
 use std::alloc::{AllocError, Global};
 
 /// An instruction that is legal on a side, with its registers and its one access.
 #[derive(Clone, Copy)]
 pub struct Legal {
     pub inst: Inst,
-    pub form: Form,
+    pub form: InstructionForm,
     pub access: QueueUse,
 }
 

@@ -6,7 +6,7 @@ ghost use Rattle.dae_encode.specs.Instructions.{form};
 ghost use Rattle.dae_encode.specs.Processor.{held, operand, address, is_good_private, is_shared, bad_address, early_fault, put_word, decoded, with_result, called, finish, halts, prints, request};
 ghost use Rattle.dae_core.specs.Codes.{asked, legal_word};
 ghost use Rattle.dae_core.specs.Held.{IsSame, asked_next, came_to, fresh, granted_to, said_nothing};
-ghost use Rattle.dae_encode.specs.declared.Form.TheVariants.{Calls, Computes};
+ghost use Rattle.dae_encode.specs.declared.InstructionForm.TheVariants.{Calls, Computes};
 ghost use Rattle.dae_encode.specs.declared.QueueUse.TheVariants.{Nothing};
 ghost use Rattle.dae_encode.specs.declared.Request.TheVariants.{Faulty};
 ghost use Rattle.dae_core.specs.Moves.{after_load, after_store, answered_by, unprinted, Came, Tells};
@@ -16,7 +16,9 @@ use crate::memory::{load, store};
 use crate::ports::waits;
 use crate::{CoreAnswer, Ports};
 use dae_base::{LoadKind, Piece, Side, Signedness, Width, byte_piece, decimal_piece, hex_piece};
-use dae_encode::{Fault, Form, Halt, Inst, QueueUse, bad_call, is_shared, is_within, next, value};
+use dae_encode::{
+    Fault, Halt, Inst, InstructionForm, QueueUse, bad_call, is_shared, is_within, next, value,
+};
 use std::alloc::{AllocError, Global};
 use std::marker::Model;
 
@@ -166,12 +168,12 @@ impl Core {
 
     #[tactic(auto, unfolding(dae_encode::specs::Processor::early_fault))]
     #[inline(always)]
-    fn early_fault(&self, memory: u32, access: QueueUse, form: &Form) -> Option<Fault>
+    fn early_fault(&self, memory: u32, access: QueueUse, form: &InstructionForm) -> Option<Fault>
         ensures { result ≡ early_fault self.now.side memory self.now.processor access form.now }
     {
         match *form {
-            Form::Computes(_, _, _) => None,
-            Form::Loads(kind, _, base, offset) => {
+            InstructionForm::Computes(_, _, _) => None,
+            InstructionForm::Loads(kind, _, base, offset) => {
                 self.bad_address(
                     memory,
                     access,
@@ -180,10 +182,10 @@ impl Core {
                     self.address(0, base, offset),
                 )
             }
-            Form::Stores(width, base, _, offset) => {
+            InstructionForm::Stores(width, base, _, offset) => {
                 self.bad_address(memory, access, width, base, self.address(0, base, offset))
             }
-            Form::Calls => bad_call(self.side, self.registers[17]),
+            InstructionForm::Calls => bad_call(self.side, self.registers[17]),
         }
     }
 
@@ -319,7 +321,13 @@ impl Core {
     /// where the access gives 0, or None where a private address is bad, and then nothing changes.
     #[tactic(auto, unfolding(dae_encode::specs::Processor::finish, dae_encode::specs::Processor::put_word))]
     #[inline(always)]
-    fn finish(&mut self, access: QueueUse, inst: &Inst, form: &Form, given: u32) -> Option<u32>
+    fn finish(
+        &mut self,
+        access: QueueUse,
+        inst: &Inst,
+        form: &InstructionForm,
+        given: u32,
+    ) -> Option<u32>
         requires { form.now ≢ Calls }
         ensures held { IsSame self.old self.new }
         ensures came { finish self.old.side self.old.processor access inst.now form.now given
@@ -329,17 +337,17 @@ impl Core {
         ensures none { result ≡ None → self.new ≡ self.old }
     {
         match *form {
-            Form::Computes(rd, x, y) => Some(self.compute(inst, rd, x, y, given)),
-            Form::Loads(kind, rd, base, offset) => {
+            InstructionForm::Computes(rd, x, y) => Some(self.compute(inst, rd, x, y, given)),
+            InstructionForm::Loads(kind, rd, base, offset) => {
                 let addr = self.address(given, base, offset);
                 self.finish_load(access, kind, rd, addr)
             }
-            Form::Stores(width, base, source, offset) => {
+            InstructionForm::Stores(width, base, source, offset) => {
                 let addr = self.address(given, base, offset);
                 let datum = self.read(given, source);
                 self.finish_store(access, width, addr, datum)
             }
-            Form::Calls => unreachable!(),
+            InstructionForm::Calls => unreachable!(),
         }
     }
 
@@ -387,18 +395,18 @@ impl Core {
 
     /// Whether an instruction whose access gives this word has a good private address, or none.
     #[tactic(auto, unfolding(dae_encode::specs::Processor::finish))]
-    fn can_finish(&self, access: QueueUse, inst: &Inst, form: &Form, given: u32) -> bool
+    fn can_finish(&self, access: QueueUse, inst: &Inst, form: &InstructionForm, given: u32) -> bool
         ensures { result
             ≡ is_some (finish self.now.side self.now.processor access inst.now form.now given) }
     {
         match *form {
-            Form::Loads(kind, _, base, offset) => {
+            InstructionForm::Loads(kind, _, base, offset) => {
                 is_shared(access) || self.holds(kind.width(), self.address(given, base, offset))
             }
-            Form::Stores(width, base, _, offset) => {
+            InstructionForm::Stores(width, base, _, offset) => {
                 is_shared(access) || self.holds(width, self.address(given, base, offset))
             }
-            Form::Computes(_, _, _) | Form::Calls => true,
+            InstructionForm::Computes(_, _, _) | InstructionForm::Calls => true,
         }
     }
 
@@ -451,17 +459,17 @@ impl Core {
             self.new.processor ports.new }
     {
         match (legal.access, legal.form) {
-            (QueueUse::Nothing, Form::Computes(rd, x, y)) => {
+            (QueueUse::Nothing, InstructionForm::Computes(rd, x, y)) => {
                 let _ = self.compute(&legal.inst, rd, x, y, 0);
                 Some(Piece::empty())
             }
-            (QueueUse::Take(queue), Form::Computes(rd, x, y)) => {
+            (QueueUse::Take(queue), InstructionForm::Computes(rd, x, y)) => {
                 let given = ports.offer(QueueUse::Take(queue))?;
                 let _ = self.compute(&legal.inst, rd, x, y, given);
                 ports.commit(QueueUse::Take(queue), 0);
                 Some(Piece::empty())
             }
-            (QueueUse::Push(queue), Form::Computes(rd, x, y)) => {
+            (QueueUse::Push(queue), InstructionForm::Computes(rd, x, y)) => {
                 let given = ports.offer(QueueUse::Push(queue))?;
                 let word = self.compute(&legal.inst, rd, x, y, given);
                 ports.commit(QueueUse::Push(queue), word);
@@ -487,7 +495,7 @@ impl Core {
             return None;
         }
         let given = ports.offer(access)?;
-        if let Form::Calls = legal.form {
+        if let InstructionForm::Calls = legal.form {
             let piece = self.call();
             ports.commit(access, 0);
             return Some(piece);

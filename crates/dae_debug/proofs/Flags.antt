@@ -9,7 +9,7 @@ use Rattle.dae_base.specs.declared.Side.{Side}
 use Rattle.dae_base.specs.declared.Side.TheVariants.{A, E}
 use Rattle.dae_image.specs.declared.Image.{Image}
 use Rattle.dae_image.specs.declared.LineMark.{LineMark}
-use Rattle.dae_image.specs.declared.header.Header.{Header}
+use Rattle.dae_image.specs.declared.header.ImageHeader.{ImageHeader}
 use Rattle.dae_image.specs.Contents.{are_lines, code_length, follows, header, is_line}
 use Rattle.dae_image.specs.Images.{contents}
 use Rattle.dae_debug_commands.specs.declared.Breakpoint.{Breakpoint}
@@ -60,7 +60,7 @@ inside_still marks a e b f p q inside k d lt =
     subst (λ (n : ℕ). m.word < n) (sym (long_by m.side marks a e b f p q)) (inside k d lt)
 
 -- the marks of an image are
-lines_inside : (h : Header) (last : Option LineMark) (marks : List LineMark) → are_lines h last marks ≡ true → All (λ mark. mark.word < code_length h mark.side) marks
+lines_inside : (h : ImageHeader) (last : Option LineMark) (marks : List LineMark) → are_lines h last marks ≡ true → All (λ mark. mark.word < code_length h mark.side) marks
 lines_inside h last [] e k d lt = absurd (omega arith)
 lines_inside h last (m ∷ ms) e zero d lt =
     let x = and_parts (is_line h last m) (are_lines h (Some m) ms) e in
@@ -71,7 +71,7 @@ lines_inside h last (m ∷ ms) e (suc k) d lt =
     let x = and_parts (is_line h last m) (are_lines h (Some m) ms) e in
     lines_inside h (Some m) ms x.1 k d (omega arith)
 
-words_long : (image : Image) (a e : List Bool) (side : Side) (h : Header) → length a ≡ h.words_a → length e ≡ h.words_e → code_length h side ≡ length (words_of side (seen image.lines a e))
+words_long : (image : Image) (a e : List Bool) (side : Side) (h : ImageHeader) → length a ≡ h.words_a → length e ≡ h.words_e → code_length h side ≡ length (words_of side (seen image.lines a e))
 words_long image a e A h p q = sym p
 words_long image a e E h p q = sym q
 

@@ -10,8 +10,8 @@ use Rattle.dae_machine.specs.Machine.{State, IsQuiet, step}
 use Rattle.dae_machine.specs.Tries.{Stepped}
 use Rattle.dae_cli_drive.proofs.Laws.{none_or_some, some_same}
 use Rattle.dae_debug_commands.specs.declared.Breakpoint.{Breakpoint}
-use Rattle.dae_debug_commands.specs.declared.Command.{Command}
-use Rattle.dae_debug_commands.specs.declared.Command.TheVariants.{Step, Go, Break, Registers, Queues, Stores, Memory, Quit}
+use Rattle.dae_debug_commands.specs.declared.DebugCommand.{DebugCommand}
+use Rattle.dae_debug_commands.specs.declared.DebugCommand.TheVariants.{Step, Go, Break, Registers, Queues, Stores, Memory, Quit}
 use Rattle.dae_debug.specs.Breaks.{AddsBreak, HeldBreaks, other, words_of}
 use Rattle.dae_debug.specs.Scripts.{Replies, no_command, no_line, quits, replies}
 use Rattle.dae_debug.specs.Sessions.{Answers, GoesOn, GoesTo, HeldSession, StepsTo, TakesTurn, Went, goes, most_steps, no_step_left, no_turn, no_turn_left, one_turn, reached, reaches_break, rested, session, steps, steps_not, took_all, took_most}
@@ -188,7 +188,7 @@ go_one s x y t u turns (goes few went) (no_turn_left most) = absurd (omega (arit
 go_one s x y t u turns (no_turn_left most) (goes few went) = absurd (omega (arith, few, most))
 go_one s x y t u turns (no_turn_left most) (no_turn_left most') = (refl, refl)
 
-answers_one : (s : HeldSession) (x y : List ℕ) (t u : HeldSession) (command : Command) → Answers command s x t → Answers command s y u → (x ≡ y) × (t ≡ u)
+answers_one : (s : HeldSession) (x y : List ℕ) (t u : HeldSession) (command : DebugCommand) → Answers command s x t → Answers command s y u → (x ≡ y) × (t ≡ u)
 answers_one s x y t u (Step pick) a b = step_one s x y t u pick a b
 answers_one s x y t u (Go turns) a b = go_one s x y t u turns a b
 answers_one s x y t u (Break place) a b =
@@ -203,7 +203,7 @@ answers_one s x y t u Quit a b = absurd a
 
 -- ---- a script
 
-pub one_script : (s t u : HeldSession) (commands : List (Option Command)) (xs ys : List (List ℕ)) → Replies s commands xs t → Replies s commands ys u → (xs ≡ ys) × (t ≡ u)
+pub one_script : (s t u : HeldSession) (commands : List (Option DebugCommand)) (xs ys : List (List ℕ)) → Replies s commands xs t → Replies s commands ys u → (xs ≡ ys) × (t ≡ u)
 one_script s t u [] xs ys no_line no_line = (refl, refl)
 one_script s t u (None ∷ later) xs ys (no_command {texts = ts} r) (no_command {texts = us} q) =
     let same = one_script s t u later ts us r q in

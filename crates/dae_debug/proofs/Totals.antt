@@ -21,8 +21,8 @@ use Rattle.dae_trace.specs.Lines.{line}
 use Rattle.dae_cli_drive.specs.Notes.{shown_line}
 use Rattle.dae_cli_drive.proofs.Laws.{Good, run_keeps}
 use Rattle.dae_debug_commands.specs.declared.Breakpoint.{Breakpoint}
-use Rattle.dae_debug_commands.specs.declared.Command.{Command}
-use Rattle.dae_debug_commands.specs.declared.Command.TheVariants.{Step, Go, Break, Registers, Queues, Stores, Memory, Quit}
+use Rattle.dae_debug_commands.specs.declared.DebugCommand.{DebugCommand}
+use Rattle.dae_debug_commands.specs.declared.DebugCommand.TheVariants.{Step, Go, Break, Registers, Queues, Stores, Memory, Quit}
 use Rattle.dae_debug.specs.Breaks.{AddsBreak, AreInside, HeldBreaks, is_mark_at, is_mark_of, no_breaks, other, seen, words_of}
 use Rattle.dae_debug.specs.Scripts.{Replies, no_command, no_line, quits, replies}
 use Rattle.dae_debug.specs.Sessions.{Answers, GoesOn, HeldSession, TakesTurn, Went, goes, most_steps, no_step_left, no_turn, no_turn_left, one_turn, reached, reaches_break, rested, session, spent_text, steps, steps_not, took_all, took_most}
@@ -59,7 +59,7 @@ less_or (suc m) (suc n) = by_less (less_or m n) where
   by_less (inr h) = inr (omega arith)
 
 -- a reply, and the session after it
-record Answered (s : HeldSession) (command : Command) : Type 0 where
+record Answered (s : HeldSession) (command : DebugCommand) : Type 0 where
   text : List ℕ
   next : HeldSession
   answers : Answers command s text next
@@ -212,7 +212,7 @@ some_break place breaks inside = by_side place.side refl where
 
 -- ---- each command, and a script
 
-some_answer : (s : HeldSession) (command : Command) → command ≢ Quit → Fit s → Answered s command
+some_answer : (s : HeldSession) (command : DebugCommand) → command ≢ Quit → Fit s → Answered s command
 some_answer s (Step pick) other fit = some_step s pick fit
 some_answer s (Go turns) other fit = some_go s turns fit
 some_answer s (Break place) other fit =
@@ -225,18 +225,18 @@ some_answer s (Memory shown) other fit = record { text = shown_line shown (let m
 some_answer s Quit other fit = absurd (other refl)
 
 -- the replies to a script, and the session after them
-pub record Scripted (s : HeldSession) (commands : List (Option Command)) : Type 0 where
+pub record Scripted (s : HeldSession) (commands : List (Option DebugCommand)) : Type 0 where
   pub texts : List (List ℕ)
   pub end : HeldSession
   pub replied : Replies s commands texts end
   pub fit : Fit end
 
-behind_answer : (s : HeldSession) (command : Command) (later : List (Option Command)) → Answered s command → ((t : HeldSession) → Fit t → Scripted t later) → Scripted s (Some command ∷ later)
+behind_answer : (s : HeldSession) (command : DebugCommand) (later : List (Option DebugCommand)) → Answered s command → ((t : HeldSession) → Fit t → Scripted t later) → Scripted s (Some command ∷ later)
 behind_answer s command later a go =
     let r = go a.next a.fit in
     record { texts = a.text ∷ r.texts; end = r.end; replied = replies a.answers r.replied; fit = r.fit }
 
-pub some_replies : (s : HeldSession) (commands : List (Option Command)) → Fit s → Scripted s commands
+pub some_replies : (s : HeldSession) (commands : List (Option DebugCommand)) → Fit s → Scripted s commands
 some_replies s [] fit = record { texts = []; end = s; replied = no_line; fit = fit }
 some_replies s (None ∷ later) fit =
     let r = some_replies s later fit in
@@ -285,7 +285,7 @@ added_inside place before after adds inside =
 same_fit : (s t : HeldSession) → t ≡ s → Fit s → Fit t
 same_fit s t e fit = subst Fit (sym e) fit
 
-pub answers_fit : (command : Command) (s t : HeldSession) (text : List ℕ) → Answers command s text t → Fit s → Fit t
+pub answers_fit : (command : DebugCommand) (s t : HeldSession) (text : List ℕ) → Answers command s text t → Fit s → Fit t
 answers_fit (Step pick) s t text (steps {piece = piece} {n = n} few to) fit = record { good = stepped_good s.machine n pick piece fit.good to; inside = fit.inside }
 answers_fit (Step pick) s t text (steps_not few none) fit = fit
 answers_fit (Step pick) s t text (no_step_left most) fit = fit

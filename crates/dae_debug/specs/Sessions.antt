@@ -17,8 +17,8 @@ use Rattle.dae_machine.specs.Tries.{Stepped}
 use Rattle.dae_machine.specs.Turns.{pick_of}
 use Rattle.dae_trace.specs.Lines.{line}
 use Rattle.dae_cli_drive.specs.Notes.{shown_line}
-use Rattle.dae_debug_commands.specs.declared.Command.{Command}
-use Rattle.dae_debug_commands.specs.declared.Command.TheVariants.{Step, Go, Break, Registers, Queues, Stores, Memory, Quit}
+use Rattle.dae_debug_commands.specs.declared.DebugCommand.{DebugCommand}
+use Rattle.dae_debug_commands.specs.declared.DebugCommand.TheVariants.{Step, Go, Break, Registers, Queues, Stores, Memory, Quit}
 use Rattle.dae_debug.specs.Breaks.{HeldBreaks, AddsBreak, has_break, no_breaks}
 use Rattle.dae_debug.specs.Texts.{queues_text, registers_text, stores_text, taken_text}
 
@@ -111,7 +111,7 @@ pub data GoesTo (s : HeldSession) (turns : ℕ) : List ℕ → HeldSession → T
   no_turn_left : most_steps ≤ s.machine.state.steps → GoesTo s turns spent_text s
 
 -- the text is the reply to a command, and the second session is the first one after it. There is none to the end of a script
-abbrev pub Answers : Command → HeldSession → List ℕ → HeldSession → Type 0
+abbrev pub Answers : DebugCommand → HeldSession → List ℕ → HeldSession → Type 0
 Answers (Step pick) s text t = StepsTo s pick text t
 Answers (Go turns) s text t = GoesTo s turns text t
 Answers (Break place) s text t =

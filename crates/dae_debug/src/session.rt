@@ -3,7 +3,7 @@ ghost use Rattle.std.specs.Prelude.{◌≡◌, ◌≢◌, IfErr, IfOk};
 ghost use Rattle.dae_base.specs.Budgets.{Reaches};
 ghost use Rattle.dae_core.specs.Held.{CanHold};
 ghost use Rattle.dae_machine.specs.Answers.{Refuses};
-ghost use Rattle.dae_debug_commands.specs.declared.Command.TheVariants as commands;
+ghost use Rattle.dae_debug_commands.specs.declared.DebugCommand.TheVariants as commands;
 ghost use Rattle.dae_debug.specs.Sessions.{Answers, GoesTo, StepsTo, opened_session};
 
 use crate::breaks::Breaks;
@@ -11,7 +11,7 @@ use crate::going::{MOST_STEPS, go_on};
 use crate::reply::Reply;
 use crate::texts;
 use dae_base::Depths;
-use dae_debug_commands::Command;
+use dae_debug_commands::DebugCommand;
 use dae_image::Image;
 use dae_machine::{Machine, OpenError, Pick};
 use dae_trace::line;
@@ -57,22 +57,22 @@ impl Session {
     }
 
     /// Does what a command says, and makes the reply to it. It takes no memory.
-    pub fn answer(&mut self, command: Command, reply: &mut Reply)
+    pub fn answer(&mut self, command: DebugCommand, reply: &mut Reply)
         requires { command ≢ commands.Quit }
         ensures { Answers command self.old reply.new self.new }
     {
         match command {
-            Command::Step(pick) => self.step(pick, reply),
-            Command::Go(turns) => self.go(turns, reply),
-            Command::Break(place) => {
+            DebugCommand::Step(pick) => self.step(pick, reply),
+            DebugCommand::Go(turns) => self.go(turns, reply),
+            DebugCommand::Break(place) => {
                 self.breaks.set(place);
                 reply.begin(b"ok\n");
             }
-            Command::Registers(side) => texts::registers_text(reply, &self.machine, side),
-            Command::Queues => texts::queues_text(reply, &self.machine),
-            Command::Stores => texts::stores_text(reply, &self.machine),
-            Command::Memory(shown) => texts::shown_line(reply, shown, self.machine.memory()),
-            Command::Quit => unreachable!(),
+            DebugCommand::Registers(side) => texts::registers_text(reply, &self.machine, side),
+            DebugCommand::Queues => texts::queues_text(reply, &self.machine),
+            DebugCommand::Stores => texts::stores_text(reply, &self.machine),
+            DebugCommand::Memory(shown) => texts::shown_line(reply, shown, self.machine.memory()),
+            DebugCommand::Quit => unreachable!(),
         }
     }
 

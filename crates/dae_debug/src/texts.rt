@@ -12,7 +12,7 @@ use crate::reply::Reply;
 use dae_base::{Queue, Side, Width};
 use dae_cli_options::Shown;
 use dae_machine::Machine;
-use dae_trace::Line;
+use dae_trace::TraceLine;
 use itoa::Buffer;
 
 /// The queues, in the order in which they are shown.
@@ -47,20 +47,20 @@ pub fn registers_text(reply: &mut Reply, machine: &Machine, side: Side)
     }
 }
 
-fn counter_line(counter: u32) -> Line
+fn counter_line(counter: u32) -> TraceLine
     ensures { result ≡ counter_line counter }
 {
-    let mut line = Line::empty();
+    let mut line = TraceLine::empty();
     line.push(b"pc ");
     line.push_word(counter);
     line.push(b"\n");
     line
 }
 
-fn register_line(number: u8, value: u32) -> Line
+fn register_line(number: u8, value: u32) -> TraceLine
     ensures { result ≡ register_line number value }
 {
-    let mut line = Line::empty();
+    let mut line = TraceLine::empty();
     line.push(b"x");
     line.push(Buffer::new().format(number).as_bytes());
     line.push(b" ");
@@ -85,10 +85,10 @@ fn queues() -> &'static [Queue]
     &QUEUES
 }
 
-fn queue_line(machine: &Machine, queue: Queue) -> Line
+fn queue_line(machine: &Machine, queue: Queue) -> TraceLine
     ensures { result ≡ queue_line machine.now.state.queues queue }
 {
-    let mut line = Line::empty();
+    let mut line = TraceLine::empty();
     line.push(queue_name(queue).as_bytes());
     line.push(b" ");
     line.push(Buffer::new().format(machine.len(queue)).as_bytes());
@@ -124,11 +124,11 @@ pub fn stores_text(reply: &mut Reply, machine: &Machine)
     }
 }
 
-fn store_line(addr: u32, width: Width) -> Line
+fn store_line(addr: u32, width: Width) -> TraceLine
     ensures line { result ≡ store_line addr width }
     ensures short { length result ≤ 11 }
 {
-    let mut line = Line::empty();
+    let mut line = TraceLine::empty();
     line.push_word(addr);
     line.push(b" ");
     line.push(width_text(width).as_bytes());

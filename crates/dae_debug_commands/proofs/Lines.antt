@@ -2,7 +2,7 @@
 use Rattle.std.proofs.Common.{◌≡◌, ◌≢◌, ℕ, zero, suc, ◌+◌, ◌<◌, Bool, true, false, nat_eq, List, ◌∷◌, ◌++◌, length, take, drop, get_or, refl, ap, ◌∙◌, subst, append-nil, arith, []}
 use Rattle.std.specs.Prelude.{if◌then◌else◌, Option}
 use Rattle.std.proofs.lemmas.Bool.Decides.{nat_tests}
-use Rattle.dae_debug_commands.specs.declared.Command.{Command}
+use Rattle.dae_debug_commands.specs.declared.DebugCommand.{DebugCommand}
 use Rattle.dae_debug_commands.specs.Scripts.{AreRead, in_front, lines_of}
 
 no_feed : (byte : ℕ) → byte ≢ 10 → nat_eq byte 10 ≡ false
@@ -32,11 +32,11 @@ line_whole (byte ∷ (next ∷ bytes)) some none =
 
 -- ---- the commands so far: what is read of the lines that are left is behind them
 
-abbrev pub ReadSoFar : (script rest : List ℕ) → List (Option Command) → Type 0
+abbrev pub ReadSoFar : (script rest : List ℕ) → List (Option DebugCommand) → Type 0
 ReadSoFar script rest done =
-    (more : List (Option Command)) → AreRead (lines_of rest) more → AreRead (lines_of script) (done ++ more)
+    (more : List (Option DebugCommand)) → AreRead (lines_of rest) more → AreRead (lines_of script) (done ++ more)
 
-pub read_all : (script rest : List ℕ) (done : List (Option Command)) → ReadSoFar script rest done → rest ≡ [] → AreRead (lines_of script) done
+pub read_all : (script rest : List ℕ) (done : List (Option DebugCommand)) → ReadSoFar script rest done → rest ≡ [] → AreRead (lines_of script) done
 read_all script rest done way none =
     let nothing : AreRead (lines_of rest) [] = rw none tt in
-    subst (λ (l : List (Option Command)). AreRead (lines_of script) l) (append-nil done) (way [] nothing)
+    subst (λ (l : List (Option DebugCommand)). AreRead (lines_of script) l) (append-nil done) (way [] nothing)

@@ -7,8 +7,8 @@ use Rattle.dae_trace.specs.Lines.{side_text}
 use Rattle.dae_cli_options.specs.Ranges.{IsFromTo}
 use Rattle.dae_cli_options.specs.declared.options.Shown.{Shown}
 use Rattle.dae_debug_commands.specs.declared.Breakpoint.{Breakpoint}
-use Rattle.dae_debug_commands.specs.declared.Command.{Command}
-use Rattle.dae_debug_commands.specs.declared.Command.TheVariants.{Step, Go, Break, Registers, Queues, Stores, Memory, Quit}
+use Rattle.dae_debug_commands.specs.declared.DebugCommand.{DebugCommand}
+use Rattle.dae_debug_commands.specs.declared.DebugCommand.TheVariants.{Step, Go, Break, Registers, Queues, Stores, Memory, Quit}
 
 -- ---- texts: words and decimal numbers, with one blank between them
 
@@ -22,7 +22,7 @@ pick_text Drain = codes "D"
 abbrev pub pair_text : ℕ → ℕ → List ℕ
 pair_text first second = decimal first ++ (codes " " ++ decimal second)
 
-abbrev pub command_text : Command → List ℕ
+abbrev pub command_text : DebugCommand → List ℕ
 command_text (Step pick) = codes "step " ++ pick_text pick
 command_text (Go turns) = codes "go " ++ decimal turns
 command_text (Break at) = codes "break " ++ (side_text at.side ++ (codes " " ++ pair_text at.file at.line))
@@ -40,7 +40,7 @@ IsPick (Fill side number) = number < 2 ^ 40
 IsPick _ = Unit {0}
 
 -- 1 to 1,000,000 turns, 1 to 64 bytes, and every other number is below 2^32
-abbrev pub IsInRange : Command → Type 0
+abbrev pub IsInRange : DebugCommand → Type 0
 IsInRange (Step pick) = IsPick pick
 IsInRange (Go turns) = IsFromTo 1 1000000 turns
 IsInRange (Break at) = (at.file < 2 ^ 32) × (at.line < 2 ^ 32)
@@ -48,7 +48,7 @@ IsInRange (Memory shown) = (shown.address < 2 ^ 32) × IsFromTo 1 64 shown.count
 IsInRange _ = Unit {0}
 
 -- the line is the spelling of this command
-pub record SpellsCommand (line : List ℕ) (command : Command) : Type 0 where
+pub record SpellsCommand (line : List ℕ) (command : DebugCommand) : Type 0 where
   pub text_is : line ≡ command_text command
   pub in_range : IsInRange command
 

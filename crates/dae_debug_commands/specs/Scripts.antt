@@ -2,7 +2,7 @@
 use Rattle.std.specs.Prelude.{ℕ, ◌==◌, if◌then◌else◌, List, [], ◌∷◌, Option}
 use Rattle.std.specs.List.{AllZip}
 use Rattle.dae_base.specs.Ones.{IsTheOne}
-use Rattle.dae_debug_commands.specs.declared.Command.{Command}
+use Rattle.dae_debug_commands.specs.declared.DebugCommand.{DebugCommand}
 use Rattle.dae_debug_commands.specs.Commands.{SpellsCommand}
 
 -- a byte in front of the first line
@@ -16,5 +16,5 @@ lines_of [] = []
 lines_of (byte ∷ bytes) = if byte == 10 then [] ∷ lines_of bytes else in_front byte (lines_of bytes)
 
 -- for each line the command that it spells, or None where it spells none
-abbrev pub AreRead : (lines : List (List ℕ)) → List (Option Command) → Type 0
+abbrev pub AreRead : (lines : List (List ℕ)) → List (Option DebugCommand) → Type 0
 AreRead lines commands = AllZip (λ line found. IsTheOne (SpellsCommand line) found) lines commands

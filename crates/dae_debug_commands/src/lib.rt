@@ -23,7 +23,7 @@ pub struct Breakpoint {
 /// registers of a processor, the lengths of the queues, the addresses of the stores that wait, or bytes of the common memory; or
 /// to end.
 #[derive(Clone, Copy, PartialEq, Eq)]
-pub enum Command {
+pub enum DebugCommand {
     Step(Pick),
     Go(u32),
     Break(Breakpoint),

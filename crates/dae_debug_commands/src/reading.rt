@@ -5,36 +5,36 @@ ghost use Rattle.dae_base.specs.Ones.{IsTheOne};
 ghost use Rattle.dae_debug_commands.specs.Commands.{SpellsBreak, SpellsBreakOn, SpellsCommand, SpellsPick, SpellsShown};
 
 use crate::numbers::{number, pair};
-use crate::{Breakpoint, Command};
+use crate::{Breakpoint, DebugCommand};
 use dae_base::Side;
 use dae_cli_options::Shown;
 use dae_machine::Pick;
 
 /// The command that the bytes of a line spell, without its line feed, or None where they spell none.
-pub fn read_command(line: &[u8]) -> Option<Command>
+pub fn read_command(line: &[u8]) -> Option<DebugCommand>
     ensures { IsTheOne (SpellsCommand line.now) result }
 {
     if let Some(pick) = line.strip_prefix(b"step ") {
-        return Some(Command::Step(read_pick(pick)?));
+        return Some(DebugCommand::Step(read_pick(pick)?));
     }
     if let Some(turns) = line.strip_prefix(b"go ") {
-        return Some(Command::Go(number(turns, 1, 1_000_000)? as u32));
+        return Some(DebugCommand::Go(number(turns, 1, 1_000_000)? as u32));
     }
     if let Some(at) = line.strip_prefix(b"break ") {
-        return Some(Command::Break(read_break(at)?));
+        return Some(DebugCommand::Break(read_break(at)?));
     }
     if let Some(side) = line.strip_prefix(b"regs ") {
-        return Some(Command::Registers(read_side(side)?));
+        return Some(DebugCommand::Registers(read_side(side)?));
     }
     if let Some(shown) = line.strip_prefix(b"memory ") {
-        return Some(Command::Memory(read_shown(shown)?));
+        return Some(DebugCommand::Memory(read_shown(shown)?));
     }
     if line == b"queues".as_slice() {
-        Some(Command::Queues)
+        Some(DebugCommand::Queues)
     } else if line == b"stores".as_slice() {
-        Some(Command::Stores)
+        Some(DebugCommand::Stores)
     } else if line == b"quit".as_slice() {
-        Some(Command::Quit)
+        Some(DebugCommand::Quit)
     } else {
         None
     }

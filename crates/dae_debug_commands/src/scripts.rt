@@ -2,12 +2,12 @@
 ghost use Rattle.std.specs.Prelude.{◌≡◌, ◌≢◌, ◌<◌, [], ◌∷◌, length, IfOk};
 ghost use Rattle.dae_debug_commands.specs.Scripts.{AreRead, lines_of};
 
-use crate::Command;
+use crate::DebugCommand;
 use crate::reading::read_command;
 use std::alloc::{AllocError, Global};
 
 /// For each line of a script the command that it spells, or None where it spells none. The last line may lack its line feed.
-pub fn read_script(alloc: Global, script: &[u8]) -> Result<Vec<Option<Command>>, AllocError>
+pub fn read_script(alloc: Global, script: &[u8]) -> Result<Vec<Option<DebugCommand>>, AllocError>
     ensures { IfOk result (λ commands. AreRead (lines_of script.now) commands.items) }
 {
     let mut commands = Vec::new(alloc);

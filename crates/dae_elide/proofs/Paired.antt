@@ -16,36 +16,36 @@ use Rattle.dae_ir.specs.declared.stream.Mark.{Mark}
 use Rattle.dae_ir.specs.declared.stream.Step.{Step}
 use Rattle.dae_ir.specs.declared.stream.Step.TheVariants as step
 use Rattle.dae_ir.proofs.Laws.{before_if, before_loop, onto_if, onto_loop}
-use Rattle.dae_elide.specs.LikeSteps.{first_of, second_of, rest_of, BeginsAlike}
+use Rattle.dae_elide.specs.LikeSteps.{first_list, second_list, code_after, BeginsAlike}
 use Rattle.dae_elide.specs.Elided.{as_actions}
 
 -- ---- the lists of a step
 
-pub first_in_if : (s : Step) (m : Mark) (b : Branch) (p q : Vec Step Global) → s ≡ step.If m b p q → actions_of p.items ≡ first_of (step_onto s Done)
-first_in_if s m b p q is = sym (ap (λ (z : Step). first_of (step_onto z Done)) is ∙ ap first_of (onto_if m b p q Done))
+pub first_in_if : (s : Step) (m : Mark) (b : Branch) (p q : Vec Step Global) → s ≡ step.If m b p q → actions_of p.items ≡ first_list (step_onto s Done)
+first_in_if s m b p q is = sym (ap (λ (z : Step). first_list (step_onto z Done)) is ∙ ap first_list (onto_if m b p q Done))
 
-pub first_in_loop : (s : Step) (m : Mark) (p q : Vec Step Global) → s ≡ step.Loop m p q → actions_of p.items ≡ first_of (step_onto s Done)
-first_in_loop s m p q is = sym (ap (λ (z : Step). first_of (step_onto z Done)) is ∙ ap first_of (onto_loop m p q Done))
+pub first_in_loop : (s : Step) (m : Mark) (p q : Vec Step Global) → s ≡ step.Loop m p q → actions_of p.items ≡ first_list (step_onto s Done)
+first_in_loop s m p q is = sym (ap (λ (z : Step). first_list (step_onto z Done)) is ∙ ap first_list (onto_loop m p q Done))
 
-pub first_in_act : (s : Step) (m : Mark) (a : Action) → s ≡ step.Act m a → Done ≡ first_of (step_onto s Done)
-first_in_act s m a is = sym (ap (λ (z : Step). first_of (step_onto z Done)) is)
+pub first_in_act : (s : Step) (m : Mark) (a : Action) → s ≡ step.Act m a → Done ≡ first_list (step_onto s Done)
+first_in_act s m a is = sym (ap (λ (z : Step). first_list (step_onto z Done)) is)
 
-pub second_in_if : (s : Step) (m : Mark) (b : Branch) (p q : Vec Step Global) → s ≡ step.If m b p q → actions_of q.items ≡ second_of (step_onto s Done)
-second_in_if s m b p q is = sym (ap (λ (z : Step). second_of (step_onto z Done)) is ∙ ap second_of (onto_if m b p q Done))
+pub second_in_if : (s : Step) (m : Mark) (b : Branch) (p q : Vec Step Global) → s ≡ step.If m b p q → actions_of q.items ≡ second_list (step_onto s Done)
+second_in_if s m b p q is = sym (ap (λ (z : Step). second_list (step_onto z Done)) is ∙ ap second_list (onto_if m b p q Done))
 
-pub second_in_loop : (s : Step) (m : Mark) (p q : Vec Step Global) → s ≡ step.Loop m p q → actions_of q.items ≡ second_of (step_onto s Done)
-second_in_loop s m p q is = sym (ap (λ (z : Step). second_of (step_onto z Done)) is ∙ ap second_of (onto_loop m p q Done))
+pub second_in_loop : (s : Step) (m : Mark) (p q : Vec Step Global) → s ≡ step.Loop m p q → actions_of q.items ≡ second_list (step_onto s Done)
+second_in_loop s m p q is = sym (ap (λ (z : Step). second_list (step_onto z Done)) is ∙ ap second_list (onto_loop m p q Done))
 
-pub second_in_act : (s : Step) (m : Mark) (a : Action) → s ≡ step.Act m a → Done ≡ second_of (step_onto s Done)
-second_in_act s m a is = sym (ap (λ (z : Step). second_of (step_onto z Done)) is)
+pub second_in_act : (s : Step) (m : Mark) (a : Action) → s ≡ step.Act m a → Done ≡ second_list (step_onto s Done)
+second_in_act s m a is = sym (ap (λ (z : Step). second_list (step_onto z Done)) is)
 
 -- whatever comes behind it
-first_stays : (s : Step) (k : Actions) → first_of (step_onto s Done) ≡ first_of (step_onto s k)
+first_stays : (s : Step) (k : Actions) → first_list (step_onto s Done) ≡ first_list (step_onto s k)
 first_stays (step.Act m a) k = refl
 first_stays (step.If' m b i p j q) k = refl
 first_stays (step.Loop' m i p j q) k = refl
 
-second_stays : (s : Step) (k : Actions) → second_of (step_onto s Done) ≡ second_of (step_onto s k)
+second_stays : (s : Step) (k : Actions) → second_list (step_onto s Done) ≡ second_list (step_onto s k)
 second_stays (step.Act m a) k = refl
 second_stays (step.If' m b i p j q) k = refl
 second_stays (step.Loop' m i p j q) k = refl
@@ -53,30 +53,30 @@ second_stays (step.Loop' m i p j q) k = refl
 -- ---- are like the lists of the statement
 
 module _ (s : Statement) (s' : Step) (h : BeginsAlike s s') where
-  pub first_like_if : (place : Place) (t : Test) (p q : Vec Statement Global) → s ≡ statement.If place t p q → first_of (step_onto s' Done) ≡ as_actions (form_of p.items)
+  pub first_like_if : (place : Place) (t : Test) (p q : Vec Statement Global) → s ≡ statement.If place t p q → first_list (step_onto s' Done) ≡ as_actions (form_of p.items)
   first_like_if place t p q is =
-      first_stays s' h.actions ∙ ap first_of (h.alike ∙ ap (λ (x : Statement). as_actions (before x h.form)) is ∙ ap as_actions (before_if place t p q h.form))
+      first_stays s' h.actions ∙ ap first_list (h.alike ∙ ap (λ (x : Statement). as_actions (before x h.form)) is ∙ ap as_actions (before_if place t p q h.form))
 
-  pub second_like_if : (place : Place) (t : Test) (p q : Vec Statement Global) → s ≡ statement.If place t p q → second_of (step_onto s' Done) ≡ as_actions (form_of q.items)
+  pub second_like_if : (place : Place) (t : Test) (p q : Vec Statement Global) → s ≡ statement.If place t p q → second_list (step_onto s' Done) ≡ as_actions (form_of q.items)
   second_like_if place t p q is =
-      second_stays s' h.actions ∙ ap second_of (h.alike ∙ ap (λ (x : Statement). as_actions (before x h.form)) is ∙ ap as_actions (before_if place t p q h.form))
+      second_stays s' h.actions ∙ ap second_list (h.alike ∙ ap (λ (x : Statement). as_actions (before x h.form)) is ∙ ap as_actions (before_if place t p q h.form))
 
-  pub first_like_loop : (place : Place) (p q : Vec Statement Global) → s ≡ statement.Loop place p q → first_of (step_onto s' Done) ≡ as_actions (form_of p.items)
+  pub first_like_loop : (place : Place) (p q : Vec Statement Global) → s ≡ statement.Loop place p q → first_list (step_onto s' Done) ≡ as_actions (form_of p.items)
   first_like_loop place p q is =
-      first_stays s' h.actions ∙ ap first_of (h.alike ∙ ap (λ (x : Statement). as_actions (before x h.form)) is ∙ ap as_actions (before_loop place p q h.form))
+      first_stays s' h.actions ∙ ap first_list (h.alike ∙ ap (λ (x : Statement). as_actions (before x h.form)) is ∙ ap as_actions (before_loop place p q h.form))
 
-  pub second_like_loop : (place : Place) (p q : Vec Statement Global) → s ≡ statement.Loop place p q → second_of (step_onto s' Done) ≡ as_actions (form_of q.items)
+  pub second_like_loop : (place : Place) (p q : Vec Statement Global) → s ≡ statement.Loop place p q → second_list (step_onto s' Done) ≡ as_actions (form_of q.items)
   second_like_loop place p q is =
-      second_stays s' h.actions ∙ ap second_of (h.alike ∙ ap (λ (x : Statement). as_actions (before x h.form)) is ∙ ap as_actions (before_loop place p q h.form))
+      second_stays s' h.actions ∙ ap second_list (h.alike ∙ ap (λ (x : Statement). as_actions (before x h.form)) is ∙ ap as_actions (before_loop place p q h.form))
 
 -- ---- lists of statements and of steps
 
-rest_of_step : (s : Step) (k : Actions) → rest_of (step_onto s k) ≡ k
+rest_of_step : (s : Step) (k : Actions) → code_after (step_onto s k) ≡ k
 rest_of_step (step.Act m a) k = refl
 rest_of_step (step.If' m b i p j q) k = refl
 rest_of_step (step.Loop' m i p j q) k = refl
 
-rest_of_statement : (s : Statement) (k : Form) → rest_of (as_actions (before s k)) ≡ as_actions k
+rest_of_statement : (s : Statement) (k : Form) → code_after (as_actions (before s k)) ≡ as_actions k
 rest_of_statement (Simple place item) k = refl
 rest_of_statement (If' place t i p j q) k = refl
 rest_of_statement (Loop' place i p j q) k = refl
@@ -93,7 +93,7 @@ statement_not_done (Loop' place i p j q) k e = absurd cc
 
 rests_alike : (s : Statement) (ss : List Statement) (s' : Step) (steps : List Step) → actions_of (s' ∷ steps) ≡ as_actions (form_of (s ∷ ss)) → actions_of steps ≡ as_actions (form_of ss)
 rests_alike s ss s' steps e =
-    sym (rest_of_step s' (actions_of steps)) ∙ ap rest_of e ∙ rest_of_statement s (form_of ss)
+    sym (rest_of_step s' (actions_of steps)) ∙ ap code_after e ∙ rest_of_statement s (form_of ss)
 
 pub as_long : (ss : List Statement) (steps : List Step) → actions_of steps ≡ as_actions (form_of ss) → length steps ≡ length ss
 as_long [] [] e = refl

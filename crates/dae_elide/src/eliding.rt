@@ -12,8 +12,8 @@ use crate::likes::{action_like, first_list, second_list};
 use dae_base::Width;
 use dae_ir::{Branch, Check, Class, Item, Operand, Statement, Step, Value};
 use dae_select_facts::{
-    Known, bounds_in, facts_at_turn, facts_behind, facts_behind_turn, facts_in_list, facts_past_if,
-    facts_past_loop, is_aligned, is_good,
+    KnownFacts, bounds_in, facts_at_turn, facts_behind, facts_behind_turn, facts_in_list,
+    facts_past_if, facts_past_loop, is_aligned, is_good,
 };
 use dae_select_walks::Edge;
 use std::alloc::{AllocError, Global};
@@ -29,7 +29,7 @@ fn is_chosen(classes: &[Class], variable: u32) -> bool
 }
 
 /// Whether each word that the variable may hold is a good address of an access of the width.
-fn is_known(memory: u32, classes: &[Class], known: &Known, width: Width, variable: u32) -> bool
+fn is_known(memory: u32, classes: &[Class], known: &KnownFacts, width: Width, variable: u32) -> bool
     ensures { result
         ≡ is_known memory (chosen_by classes.now) (facts_by known.now) width variable }
 {
@@ -39,7 +39,7 @@ fn is_known(memory: u32, classes: &[Class], known: &Known, width: Width, variabl
 }
 
 /// The width that is left of a check: where the variable is known to hold multiples of the width, the first byte does.
-fn kept_width(memory: u32, known: &Known, width: Width, variable: u32) -> Width
+fn kept_width(memory: u32, known: &KnownFacts, width: Width, variable: u32) -> Width
     ensures { result ≡ kept_width memory (facts_by known.now) width variable }
 {
     if is_aligned(width, bounds_in(known, variable)) && memory % 4 == 0 {
@@ -49,7 +49,7 @@ fn kept_width(memory: u32, known: &Known, width: Width, variable: u32) -> Width
     }
 }
 
-fn elide_check(memory: u32, classes: &[Class], known: &Known, check: Check) -> Item
+fn elide_check(memory: u32, classes: &[Class], known: &KnownFacts, check: Check) -> Item
     ensures { result ≡ elided_check memory (chosen_by classes.now) (facts_by known.now) check }
 {
     match check {
@@ -74,7 +74,7 @@ fn elide_item(
     alloc: Global,
     memory: u32,
     classes: &[Class],
-    known: &Known,
+    known: &KnownFacts,
     item: &Item,
 ) -> Result<Item, AllocError>
     ensures { IfOk result (λ new.
@@ -92,7 +92,7 @@ fn elide_item(
 #[derive(Drop)]
 struct Elided {
     statement: Statement,
-    known: Known,
+    known: KnownFacts,
 }
 
 #[cycle(elide)]
@@ -100,7 +100,7 @@ fn elide_statement(
     alloc: Global,
     memory: u32,
     classes: &[Class],
-    known: Known,
+    known: KnownFacts,
     statement: &Statement,
     like: &Step,
 ) -> Result<Elided, AllocError>
@@ -155,7 +155,7 @@ pub fn elide_list(
     alloc: Global,
     memory: u32,
     classes: &[Class],
-    known: Known,
+    known: KnownFacts,
     statements: &[Statement],
     steps: &[Step],
 ) -> Result<Vec<Statement>, AllocError>

@@ -4,7 +4,7 @@ ghost use Rattle.std.specs.Prelude.{◌≡◌, IfOk};
 ghost use Rattle.dae_ir.specs.Form.{form_of};
 ghost use Rattle.dae_ir.specs.Code.{Done};
 ghost use Rattle.dae_ir.specs.Streams.{actions_of, step_onto};
-ghost use Rattle.dae_elide.specs.LikeSteps.{first_of, second_of};
+ghost use Rattle.dae_elide.specs.LikeSteps.{first_list, second_list};
 ghost use Rattle.dae_elide.specs.Elided.{as_action, as_actions};
 ghost use Rattle.dae_elide.specs.Walked.{IsLike};
 
@@ -81,7 +81,7 @@ pub fn steps_like(alloc: Global, statements: &[Statement]) -> Result<Vec<Step>, 
 
 /// The first list of a step; an empty one where it has no lists.
 pub fn first_list(step: &Step) -> &[Step]
-    ensures { actions_of result.now ≡ first_of (step_onto step.now Done) }
+    ensures { actions_of result.now ≡ first_list (step_onto step.now Done) }
 {
     match step {
         Step::If(_, _, first, _) => first.as_slice(),
@@ -92,7 +92,7 @@ pub fn first_list(step: &Step) -> &[Step]
 
 /// The second list of a step; an empty one where it has no lists.
 pub fn second_list(step: &Step) -> &[Step]
-    ensures { actions_of result.now ≡ second_of (step_onto step.now Done) }
+    ensures { actions_of result.now ≡ second_list (step_onto step.now Done) }
 {
     match step {
         Step::If(_, _, _, second) => second.as_slice(),

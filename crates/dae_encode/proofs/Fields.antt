@@ -3,7 +3,7 @@ use Rattle.std.proofs.Common.{◌≡◌, ℕ, ◌+◌, ◌*◌, ◌/◌, ◌%◌
 use Rattle.std.proofs.lemmas.Int.{ints}
 use Rattle.dae_base.specs.Words.{word}
 use Rattle.dae_encode.specs.Instructions.{field, signed_in, imm_i, imm_s, imm_b, imm_u, imm_j}
-use Rattle.dae_encode.specs.Spelling.{Layout, R, I, Shift, S, B, U, J, bits, in_places, IsSigned, Fits}
+use Rattle.dae_encode.specs.Spelling.{InstructionLayout, R, I, Shift, S, B, U, J, bits, in_places, IsSigned, Fits}
 
 -- ---- signed numbers of fewer bits
 
@@ -98,7 +98,7 @@ imm_j-is op rd z w a b s even e =
 -- ---- the other way: a word is its fields in their places
 
 -- a layout whose fields are in range, and whose word this is
-abbrev pub Lays : Layout → ℕ → Type 0
+abbrev pub Lays : InstructionLayout → ℕ → Type 0
 Lays l w = Fits l × (in_places l ≡ w)
 
 there_12 : (n : ℕ) → n < 2 ^ 12 → IsSigned 12 (signed_in 12 n) × (bits 0 12 (signed_in 12 n) ≡ n)

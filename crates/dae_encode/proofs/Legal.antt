@@ -12,9 +12,9 @@ use Rattle.dae_base.specs.declared.Queue.TheVariants.{Ld, Al, Sd, Ab, Eb, Cq}
 use Rattle.dae_base.specs.declared.Width.{Width}
 use Rattle.dae_base.specs.declared.LoadKind.{LoadKind}
 use Rattle.dae_encode.specs.declared.QueueUse.TheVariants.{Nothing, Take, Push, Load, StoreAddress}
-use Rattle.dae_encode.specs.declared.Form.{Form}
-use Rattle.dae_encode.specs.declared.Form.TheVariants.{Computes, Loads, Stores, Calls}
-use Rattle.dae_encode.specs.Uses.{RegisterField, Target, LoadTarget, Source, Stored, register, access, accesses, sole, queue_use, field_use, joined, belongs}
+use Rattle.dae_encode.specs.declared.InstructionForm.{InstructionForm}
+use Rattle.dae_encode.specs.declared.InstructionForm.TheVariants.{Computes, Loads, Stores, Calls}
+use Rattle.dae_encode.specs.Uses.{RegisterField, Target, LoadTarget, Source, Stored, register, access, accesses, sole, queue_use, field_use, use_of_both, belongs}
 use Rattle.dae_encode.specs.Instructions.{flag}
 
 -- the access of one field, register by register, as the code finds it
@@ -106,19 +106,19 @@ pub stored_is : (copies : Bool) (side : Side) (width : Width) (r : ℕ) → fiel
 stored_is copies A width r = rw (source_is copies A r) (sym (use_is copies A (Stored width r)))
 stored_is copies E width r = refl
 
-same_two : {x x' y y' : Option QueueUse} → x ≡ x' → y ≡ y' → joined x y ≡ joined x' y'
+same_two : {x x' y y' : Option QueueUse} → x ≡ x' → y ≡ y' → use_of_both x y ≡ use_of_both x' y'
 same_two h k = rw (h, k) refl
 
-two : (x y : Option QueueUse) → x ≢ Some Nothing → y ≢ Some Nothing → joined x y ≡ None
+two : (x y : Option QueueUse) → x ≢ Some Nothing → y ≢ Some Nothing → use_of_both x y ≡ None
 two (Some Nothing) y a b = absurd (a refl)
 two x (Some Nothing) a b = absurd (b refl)
 two x y a b = refl
 
-with_nothing : (x : Option QueueUse) → joined x (Some Nothing) ≡ x
+with_nothing : (x : Option QueueUse) → use_of_both x (Some Nothing) ≡ x
 with_nothing (Some Nothing) = refl
 with_nothing x = refl
 
-none_after : (x : Option QueueUse) → x ≢ Some Nothing → joined x None ≡ None
+none_after : (x : Option QueueUse) → x ≢ Some Nothing → use_of_both x None ≡ None
 none_after (Some Nothing) a = absurd (a refl)
 none_after x a = refl
 
@@ -137,36 +137,36 @@ clean copies side (f ∷ fs) = elim (leb_tells 28 (register f)) [
   | inr (e, h) ↦ rw e (clean copies side fs)
 ]
 
-one_more : (x : Option QueueUse) (os : List (Option QueueUse)) → x ≢ Some Nothing → Clean os → joined x (sole os) ≡ sole (x ∷ os)
+one_more : (x : Option QueueUse) (os : List (Option QueueUse)) → x ≢ Some Nothing → Clean os → use_of_both x (sole os) ≡ sole (x ∷ os)
 one_more x [] a c = with_nothing x
 one_more x (o ∷ []) a c = two x o a (c.0)
 one_more x (o ∷ (p ∷ os)) a c = none_after x a
 
-add : (copies : Bool) (side : Side) (f : RegisterField) (fs : List RegisterField) → joined (use_of copies side f) (sole (asked copies side fs)) ≡ sole (asked copies side (f ∷ fs))
+add : (copies : Bool) (side : Side) (f : RegisterField) (fs : List RegisterField) → use_of_both (use_of copies side f) (sole (asked copies side fs)) ≡ sole (asked copies side (f ∷ fs))
 add copies side f fs = elim (leb_tells 28 (register f)) [
   | inl (e, h) ↦ let q = at_queue copies side f h in rw (e, q.0) (one_more (access copies side f) (asked copies side fs) (q.1) (clean copies side fs))
   | inr (e, h) ↦ rw (e, plain copies side f h) refl
 ]
 
 -- two fields, and three
-pair : (copies : Bool) (side : Side) (f g : RegisterField) → joined (use_of copies side f) (use_of copies side g) ≡ sole (asked copies side (f ∷ (g ∷ [])))
-pair copies side f g = ap (joined (use_of copies side f)) (sym (with_nothing (use_of copies side g)) ∙ add copies side g []) ∙ add copies side f (g ∷ [])
+pair : (copies : Bool) (side : Side) (f g : RegisterField) → use_of_both (use_of copies side f) (use_of copies side g) ≡ sole (asked copies side (f ∷ (g ∷ [])))
+pair copies side f g = ap (use_of_both (use_of copies side f)) (sym (with_nothing (use_of copies side g)) ∙ add copies side g []) ∙ add copies side f (g ∷ [])
 
-three : (copies : Bool) (side : Side) (f g h : RegisterField) → joined (use_of copies side f) (joined (use_of copies side g) (use_of copies side h)) ≡ sole (asked copies side (f ∷ (g ∷ (h ∷ []))))
-three copies side f g h = ap (joined (use_of copies side f)) (pair copies side g h) ∙ add copies side f (g ∷ (h ∷ []))
+three : (copies : Bool) (side : Side) (f g h : RegisterField) → use_of_both (use_of copies side f) (use_of_both (use_of copies side g) (use_of copies side h)) ≡ sole (asked copies side (f ∷ (g ∷ (h ∷ []))))
+three copies side f g h = ap (use_of_both (use_of copies side f)) (pair copies side g h) ∙ add copies side f (g ∷ (h ∷ []))
 
 -- what the fields of each form make together
-pub use_computes : (copies : Bool) (side : Side) (rd first second : ℕ) → queue_use copies side (Computes rd first second) ≡ joined (field_use copies side (Target rd)) (joined (field_use copies side (Source first)) (field_use copies side (Source second)))
+pub use_computes : (copies : Bool) (side : Side) (rd first second : ℕ) → queue_use copies side (Computes rd first second) ≡ use_of_both (field_use copies side (Target rd)) (use_of_both (field_use copies side (Source first)) (field_use copies side (Source second)))
 unfolding queue_use
 use_computes copies side rd first second =
     sym (three copies side (Target rd) (Source first) (Source second))
     ∙ same_two (use_is copies side (Target rd)) (same_two (use_is copies side (Source first)) (use_is copies side (Source second)))
 
-pub use_loads : (copies : Bool) (side : Side) (kind : LoadKind) (rd base offset : ℕ) → queue_use copies side (Loads kind rd base offset) ≡ joined (field_use copies side (LoadTarget kind rd)) (field_use copies side (Source base))
+pub use_loads : (copies : Bool) (side : Side) (kind : LoadKind) (rd base offset : ℕ) → queue_use copies side (Loads kind rd base offset) ≡ use_of_both (field_use copies side (LoadTarget kind rd)) (field_use copies side (Source base))
 unfolding queue_use
 use_loads copies side kind rd base offset = sym (pair copies side (LoadTarget kind rd) (Source base)) ∙ same_two (use_is copies side (LoadTarget kind rd)) (use_is copies side (Source base))
 
-pub use_stores : (copies : Bool) (side : Side) (width : Width) (base source offset : ℕ) → queue_use copies side (Stores width base source offset) ≡ joined (field_use copies side (Source base)) (field_use copies side (Stored width source))
+pub use_stores : (copies : Bool) (side : Side) (width : Width) (base source offset : ℕ) → queue_use copies side (Stores width base source offset) ≡ use_of_both (field_use copies side (Source base)) (field_use copies side (Stored width source))
 unfolding queue_use
 use_stores copies side width base source offset = sym (pair copies side (Source base) (Stored width source)) ∙ same_two (use_is copies side (Source base)) (use_is copies side (Stored width source))
 
@@ -201,13 +201,13 @@ own_field copies side (Source r) = own_source copies side r
 own_field copies A (Stored width r) = if_own A (r == 30) _ _ refl (own_source copies A r)
 own_field copies E (Stored width r) = own_source copies E r
 
-own_joined : (side : Side) (x y : Option QueueUse) → IsOwn side x → IsOwn side y → IsOwn side (joined x y)
+own_joined : (side : Side) (x y : Option QueueUse) → IsOwn side x → IsOwn side y → IsOwn side (use_of_both x y)
 own_joined side (Some Nothing) y h k = k
 own_joined side x (Some Nothing) h k = h
 own_joined side x y h k = tt
 
 -- the access of an instruction belongs to the side
-pub own_use : (copies : Bool) (side : Side) (f : Form) → IfSome (queue_use copies side f) (λ (u : QueueUse). belongs side u ≡ true)
+pub own_use : (copies : Bool) (side : Side) (f : InstructionForm) → IfSome (queue_use copies side f) (λ (u : QueueUse). belongs side u ≡ true)
 unfolding queue_use
 own_use copies side (Computes rd first second) =
     subst (λ (o : Option QueueUse). IsOwn side o) (three copies side (Target rd) (Source first) (Source second))

@@ -3,7 +3,7 @@ use Rattle.std.proofs.Common.{◌≡◌, ℕ, ◌^◌, ◌<◌, ℤ, pos, Bool, 
 use Rattle.std.proofs.lemmas.Int.{ints}
 use Rattle.dae_encode.specs.Instructions.{field, imm_i, imm_s, imm_b, imm_u, imm_j}
 use Rattle.dae_encode.specs.Decoding.{branches, loads, stores, immediates, shifts, registers_only, by_fields, by_opcode}
-use Rattle.dae_encode.specs.Spelling.{Layout, R, I, Shift, S, B, U, J, bits, in_places, Fits, layout, encoded, InRange}
+use Rattle.dae_encode.specs.Spelling.{InstructionLayout, R, I, Shift, S, B, U, J, bits, in_places, Fits, layout, encoded, InRange}
 use Rattle.dae_encode.specs.declared.Inst.{Inst}
 use Rattle.dae_encode.specs.declared.Inst.TheVariants.{Lui, Auipc, Jal, Jalr, Beq, Bne, Blt, Bge, Bltu, Bgeu, Lb, Lh, Lw, Lbu, Lhu, Sb, Sh, Sw, Addi, Slti, Sltiu, Xori, Ori, Andi, Slli, Srli, Srai, Add, Sub, Sll, Slt, Sltu, Xor, Srl, Sra, Or, And, Mul, Mulh, Mulhsu, Mulhu, Div, Divu, Rem, Remu, Ecall}
 use Rattle.dae_encode.proofs.Fields.{fields_r, fields_i, fields_shift, fields_s, fields_b, fields_u, fields_j, imm_i-is, imm_s-is, imm_b-is, imm_u-is, imm_j-is}
@@ -115,7 +115,7 @@ unfolding InRange encoded
 fields_encoded i h = spelled i (in_places (layout i)) h refl
 
 -- the fields that an instruction's name gives are as wide as their places
-abbrev is_narrow : Layout → Bool
+abbrev is_narrow : InstructionLayout → Bool
 is_narrow (R op rd f3 x y f7) = nat_lt op 128 && (nat_lt f3 8 && nat_lt f7 128)
 is_narrow (I op rd f3 x z) = nat_lt op 128 && nat_lt f3 8
 is_narrow (Shift op rd f3 x z f7) = nat_lt op 128 && (nat_lt f3 8 && nat_lt f7 128)
@@ -129,7 +129,7 @@ unfolding layout
 narrow Ecall = refl
 narrow i = refl
 
-below : (l : Layout) → Fits l → is_narrow l ≡ true → in_places l < 2 ^ 32
+below : (l : InstructionLayout) → Fits l → is_narrow l ≡ true → in_places l < 2 ^ 32
 below (R op rd f3 x y f7) f n = grind arith
 below (I op rd f3 x z) f n = grind arith
 below (Shift op rd f3 x z f7) f n = grind arith

@@ -7,8 +7,8 @@ use Rattle.dae_base.specs.declared.Width.{Width}
 use Rattle.dae_base.specs.declared.Width.TheVariants.{B1, B2, B4}
 use Rattle.dae_base.specs.declared.LoadKind.{LoadKind}
 use Rattle.dae_base.specs.declared.LoadKind.TheVariants.{I8, U8, I16, U16, I32}
-use Rattle.dae_encode.specs.declared.Form.{Form}
-use Rattle.dae_encode.specs.declared.Form.TheVariants.{Computes, Loads, Stores, Calls}
+use Rattle.dae_encode.specs.declared.InstructionForm.{InstructionForm}
+use Rattle.dae_encode.specs.declared.InstructionForm.TheVariants.{Computes, Loads, Stores, Calls}
 use Rattle.dae_encode.specs.declared.Inst.{Inst}
 use Rattle.dae_encode.specs.declared.Inst.TheVariants.{Lui, Auipc, Jal, Jalr, Beq, Bne, Blt, Bge, Bltu, Bgeu, Lb, Lh, Lw, Lbu, Lhu, Sb, Sh, Sw, Addi, Slti, Sltiu, Xori, Ori, Andi, Slli, Srli, Srai, Add, Sub, Sll, Slt, Sltu, Xor, Srl, Sra, Or, And, Mul, Mulh, Mulhsu, Mulhu, Div, Divu, Rem, Remu, Ecall}
 
@@ -103,7 +103,7 @@ effect (Remu rd first second) = on_two rd first second (λ x y. if y == 0 then x
 effect Ecall = DoesCall
 
 -- the part of an effect that holds no function
-abbrev pub form_of : Effect → Form
+abbrev pub form_of : Effect → InstructionForm
 form_of (DoesCompute rd first second value next) = Computes rd first second
 form_of (DoesLoad kind rd base offset) = Loads kind rd base offset
 form_of (DoesStore width base source offset) = Stores width base source offset
@@ -121,7 +121,7 @@ next_of (DoesLoad kind rd base offset) pc x y = plus pc 4
 next_of (DoesStore width base source offset) pc x y = plus pc 4
 next_of DoesCall pc x y = plus pc 4
 
-unfoldable pub form : Inst → Form
+unfoldable pub form : Inst → InstructionForm
 form i = form_of (effect i)
 
 -- the result, from the counter and the sources

@@ -15,8 +15,8 @@ use Rattle.dae_encode.specs.declared.Request.TheVariants.{Halted, Faulty, Asks}
 use Rattle.dae_base.specs.Words.{plus, size, width_of, loaded, stored}
 use Rattle.dae_base.specs.Texts.{byte_text, decimal_text, hex_text}
 use Rattle.dae_base.specs.declared.Signedness.TheVariants as signedness
-use Rattle.dae_encode.specs.declared.Form.{Form}
-use Rattle.dae_encode.specs.declared.Form.TheVariants.{Computes, Loads, Stores, Calls}
+use Rattle.dae_encode.specs.declared.InstructionForm.{InstructionForm}
+use Rattle.dae_encode.specs.declared.InstructionForm.TheVariants.{Computes, Loads, Stores, Calls}
 use Rattle.dae_encode.specs.Instructions.{form, value, next}
 use Rattle.dae_encode.specs.Spelling.{decode}
 use Rattle.dae_encode.specs.Uses.{queue_use}
@@ -70,14 +70,14 @@ bad_call A what = None
 bad_call E what = if nat_lt 5 what then Some Call else None
 
 -- the fault that is found before the queues are looked at
-unfoldable pub early_fault : Side → ℕ → Processor → QueueUse → Form → Option Fault
+unfoldable pub early_fault : Side → ℕ → Processor → QueueUse → InstructionForm → Option Fault
 early_fault side memory p u (Computes rd first second) = None
 early_fault side memory p u (Loads kind rd base offset) = bad_address memory p u (width_of kind) base (address p 0 base offset)
 early_fault side memory p u (Stores width base source offset) = bad_address memory p u width base (address p 0 base offset)
 early_fault side memory p u Calls = bad_call side (slice_index p.registers 17)
 
 -- the word that goes into the queue: a result, what a private load finds, or a shared address
-unfoldable pub put_word : Processor → QueueUse → Inst → Form → ℕ
+unfoldable pub put_word : Processor → QueueUse → Inst → InstructionForm → ℕ
 put_word p u i (Computes rd first second) = value i p.counter (operand p 0 first) (operand p 0 second)
 put_word p u i (Loads kind rd base offset) =
     if is_shared u then address p 0 base offset
@@ -138,7 +138,7 @@ called E p what value =
     else halts p (Trap value)))))
 
 -- what comes of the instruction, where w is the word that the access gives: nothing where a private address from a queue is bad
-unfoldable pub finish : Side → Processor → QueueUse → Inst → Form → ℕ → Option After
+unfoldable pub finish : Side → Processor → QueueUse → Inst → InstructionForm → ℕ → Option After
 finish side p u i (Computes rd first second) w =
     goes_on p rd (value i p.counter (operand p w first) (operand p w second)) (next i p.counter (operand p w first) (operand p w second))
 finish side p u i (Loads kind rd base offset) w =

@@ -8,21 +8,21 @@ use Rattle.dae_encode.specs.declared.Inst.{Inst}
 use Rattle.dae_encode.specs.declared.Inst.TheVariants.{Lui, Auipc, Jal, Jalr, Beq, Bne, Blt, Bge, Bltu, Bgeu, Lb, Lh, Lw, Lbu, Lhu, Sb, Sh, Sw, Addi, Slti, Sltiu, Xori, Ori, Andi, Slli, Srli, Srai, Add, Sub, Sll, Slt, Sltu, Xor, Srl, Sra, Or, And, Mul, Mulh, Mulhsu, Mulhu, Div, Divu, Rem, Remu, Ecall}
 
 -- a format with what stands in its fields; Shift is the format I of a shift by a constant
-pub data Layout : Type 0 where
-  R : (opcode rd funct3 rs1 rs2 funct7 : ℕ) → Layout
-  I : (opcode rd funct3 rs1 : ℕ) (imm : ℤ) → Layout
-  Shift : (opcode rd funct3 rs1 : ℕ) (amount : ℤ) (funct7 : ℕ) → Layout
-  S : (opcode funct3 rs1 rs2 : ℕ) (imm : ℤ) → Layout
-  B : (opcode funct3 rs1 rs2 : ℕ) (imm : ℤ) → Layout
-  U : (opcode rd : ℕ) (imm : ℤ) → Layout
-  J : (opcode rd : ℕ) (imm : ℤ) → Layout
+pub data InstructionLayout : Type 0 where
+  R : (opcode rd funct3 rs1 rs2 funct7 : ℕ) → InstructionLayout
+  I : (opcode rd funct3 rs1 : ℕ) (imm : ℤ) → InstructionLayout
+  Shift : (opcode rd funct3 rs1 : ℕ) (amount : ℤ) (funct7 : ℕ) → InstructionLayout
+  S : (opcode funct3 rs1 rs2 : ℕ) (imm : ℤ) → InstructionLayout
+  B : (opcode funct3 rs1 rs2 : ℕ) (imm : ℤ) → InstructionLayout
+  U : (opcode rd : ℕ) (imm : ℤ) → InstructionLayout
+  J : (opcode rd : ℕ) (imm : ℤ) → InstructionLayout
 
 -- the bits of an immediate from low on, count of them
 abbrev pub bits : ℕ → ℕ → ℤ → ℕ
 bits low count imm = field low count (word imm)
 
 -- the fields in their places, each at its lowest bit
-abbrev pub in_places : Layout → ℕ
+abbrev pub in_places : InstructionLayout → ℕ
 in_places (R opcode rd funct3 rs1 rs2 funct7) =
     opcode + rd * 2 ^ 7 + funct3 * 2 ^ 12 + rs1 * 2 ^ 15 + rs2 * 2 ^ 20 + funct7 * 2 ^ 25
 in_places (I opcode rd funct3 rs1 imm) =
@@ -43,7 +43,7 @@ abbrev pub IsSigned : ℕ → ℤ → Type 0
 IsSigned count z = (neg_ℤ (pos (2 ^ (count - 1))) ≤ℤ z) × (z <ℤ pos (2 ^ (count - 1)))
 
 -- registers are those from 0 to 31, and an immediate is one that its bits spell
-abbrev pub Fits : Layout → Type 0
+abbrev pub Fits : InstructionLayout → Type 0
 Fits (R opcode rd funct3 rs1 rs2 funct7) = (rd < 32) × (rs1 < 32) × (rs2 < 32)
 Fits (I opcode rd funct3 rs1 imm) = (rd < 32) × (rs1 < 32) × IsSigned 12 imm
 Fits (Shift opcode rd funct3 rs1 amount funct7) = (rd < 32) × (rs1 < 32) × ((pos 0 ≤ℤ amount) × (amount <ℤ pos 32))
@@ -53,7 +53,7 @@ Fits (U opcode rd imm) = (rd < 32) × (IsSigned 32 imm × (word imm % 2 ^ 12 ≡
 Fits (J opcode rd imm) = (rd < 32) × (IsSigned 21 imm × (word imm % 2 ≡ 0))
 
 -- the listings
-unfoldable pub layout : Inst → Layout
+unfoldable pub layout : Inst → InstructionLayout
 layout (Lui rd imm) = U 0b0110111 rd imm
 layout (Auipc rd imm) = U 0b0010111 rd imm
 layout (Jal rd imm) = J 0b1101111 rd imm

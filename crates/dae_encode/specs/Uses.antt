@@ -10,8 +10,8 @@ use Rattle.dae_base.specs.declared.Width.{Width}
 use Rattle.dae_base.specs.declared.LoadKind.{LoadKind}
 use Rattle.dae_encode.specs.declared.QueueUse.{QueueUse}
 use Rattle.dae_encode.specs.declared.QueueUse.TheVariants.{Nothing, Take, Push, Load, StoreAddress}
-use Rattle.dae_encode.specs.declared.Form.{Form}
-use Rattle.dae_encode.specs.declared.Form.TheVariants.{Computes, Loads, Stores, Calls}
+use Rattle.dae_encode.specs.declared.InstructionForm.{InstructionForm}
+use Rattle.dae_encode.specs.declared.InstructionForm.TheVariants.{Computes, Loads, Stores, Calls}
 use Rattle.dae_encode.specs.Instructions.{row}
 
 -- a register in a field of an instruction
@@ -27,7 +27,7 @@ register (LoadTarget kind r) = r
 register (Source r) = r
 register (Stored width r) = r
 
-abbrev pub register_fields : Form → List RegisterField
+abbrev pub register_fields : InstructionForm → List RegisterField
 register_fields (Computes rd first second) = Target rd ∷ (Source first ∷ (Source second ∷ []))
 register_fields (Loads kind rd base offset) = LoadTarget kind rd ∷ (Source base ∷ [])
 register_fields (Stores width base source offset) = Source base ∷ (Stored width source ∷ [])
@@ -51,7 +51,7 @@ abbrev pub access : Bool → Side → RegisterField → Option QueueUse
 access copies side f = row (accesses_of copies side f) (register f - 28)
 
 -- what the queue registers of an instruction ask for, in the order of its fields
-abbrev pub accesses : Bool → Side → Form → List (Option QueueUse)
+abbrev pub accesses : Bool → Side → InstructionForm → List (Option QueueUse)
 accesses copies side form = map (access copies side) (filter (λ f. nat_le 28 (register f)) (register_fields form))
 
 -- the one access of these, or None where there are two or one is forbidden
@@ -61,17 +61,17 @@ sole (o ∷ []) = o
 sole (o ∷ (p ∷ rest)) = None
 
 -- the one queue access of an instruction, or None where it is illegal
-unfoldable pub queue_use : Bool → Side → Form → Option QueueUse
+unfoldable pub queue_use : Bool → Side → InstructionForm → Option QueueUse
 queue_use copies side form = sole (accesses copies side form)
 
 -- the access of one field, where a plain register makes none; and two fields make at most one
 abbrev pub field_use : Bool → Side → RegisterField → Option QueueUse
 field_use copies side f = if nat_lt (register f) 28 then Some Nothing else access copies side f
 
-abbrev pub joined : Option QueueUse → Option QueueUse → Option QueueUse
-joined (Some Nothing) y = y
-joined x (Some Nothing) = x
-joined x y = None
+abbrev pub use_of_both : Option QueueUse → Option QueueUse → Option QueueUse
+use_of_both (Some Nothing) y = y
+use_of_both x (Some Nothing) = x
+use_of_both x y = None
 
 -- the accesses that each side has
 abbrev pub belongs : Side → QueueUse → Bool

@@ -3,10 +3,10 @@
 ghost use Rattle.std.specs.Prelude.{◌≡◌, true, IfSome};
 ghost use Rattle.dae_base.specs.Words.{size};
 ghost use Rattle.dae_encode.specs.Instructions.{form};
-ghost use Rattle.dae_encode.specs.Uses.{LoadTarget, Source, Stored, Target, belongs, field_use, joined, queue_use};
+ghost use Rattle.dae_encode.specs.Uses.{LoadTarget, Source, Stored, Target, belongs, field_use, use_of_both, queue_use};
 ghost use Rattle.dae_encode.specs.Processor.{is_shared, is_within, bad_call};
 
-use crate::{Fault, Form, Inst, QueueUse, form_of};
+use crate::{Fault, Inst, InstructionForm, QueueUse, form_of};
 use dae_base::{LoadKind, Queue, Side, Width};
 
 #[tactic(auto, using(crate::proofs::Legal::source_is))]
@@ -64,7 +64,7 @@ fn stored_use(copies: bool, side: Side, width: Width, register: u8) -> Option<Qu
 }
 
 fn join(x: Option<QueueUse>, y: Option<QueueUse>) -> Option<QueueUse>
-    ensures { result ≡ joined x y }
+    ensures { result ≡ use_of_both x y }
 {
     match (x, y) {
         (Some(QueueUse::Nothing), y) => y,
@@ -85,26 +85,26 @@ pub fn queue_use(side: Side, inst: &Inst, copies: bool) -> Option<QueueUse>
 }
 
 #[tactic(auto, using(crate::proofs::Legal::use_computes, crate::proofs::Legal::use_loads, crate::proofs::Legal::use_stores, crate::proofs::Legal::use_calls))]
-fn use_of(side: Side, form: Form, copies: bool) -> Option<QueueUse>
+fn use_of(side: Side, form: InstructionForm, copies: bool) -> Option<QueueUse>
     ensures { result ≡ queue_use copies side form }
 {
     match form {
-        Form::Computes(rd, first, second) => join(
+        InstructionForm::Computes(rd, first, second) => join(
             target_use(copies, side, rd),
             join(
                 source_use(copies, side, first),
                 source_use(copies, side, second),
             ),
         ),
-        Form::Loads(kind, rd, base, _) => join(
+        InstructionForm::Loads(kind, rd, base, _) => join(
             loaded_use(copies, side, kind, rd),
             source_use(copies, side, base),
         ),
-        Form::Stores(width, base, source, _) => join(
+        InstructionForm::Stores(width, base, source, _) => join(
             source_use(copies, side, base),
             stored_use(copies, side, width, source),
         ),
-        Form::Calls => Some(QueueUse::Nothing),
+        InstructionForm::Calls => Some(QueueUse::Nothing),
     }
 }
 

@@ -5,7 +5,7 @@ ghost use Rattle.std.specs.Int.{int_shr};
 ghost use Rattle.dae_base.specs.Words.{word, signed, plus};
 ghost use Rattle.dae_encode.specs.Instructions.{form, value, next, shift_left, shift_right, shift_signed, quotient, remainder};
 
-use crate::{Form, Inst};
+use crate::{Inst, InstructionForm};
 use dae_base::{LoadKind, Width};
 
 fn shift_left(x: u32, y: u32) -> u32
@@ -121,46 +121,88 @@ pub fn value(inst: &Inst, counter: u32, first: u32, second: u32) -> u32
 
 /// The registers of an instruction, and its offset as a word. A field that it does not have is x0.
 #[tactic(auto, unfolding(crate::specs::Instructions::form))]
-pub fn form_of(inst: &Inst) -> Form
+pub fn form_of(inst: &Inst) -> InstructionForm
     ensures { result ≡ form inst.now }
 {
     match *inst {
-        Inst::Lui(rd, _) | Inst::Auipc(rd, _) | Inst::Jal(rd, _) => Form::Computes(rd, 0, 0),
-        Inst::Jalr(rd, base, _) => Form::Computes(rd, base, 0),
-        Inst::Beq(x, y, _) | Inst::Bne(x, y, _) | Inst::Blt(x, y, _) => Form::Computes(0, x, y),
-        Inst::Bge(x, y, _) | Inst::Bltu(x, y, _) | Inst::Bgeu(x, y, _) => Form::Computes(0, x, y),
-        Inst::Lb(rd, base, imm) => Form::Loads(LoadKind::I8, rd, base, imm.cast_unsigned()),
-        Inst::Lh(rd, base, imm) => Form::Loads(LoadKind::I16, rd, base, imm.cast_unsigned()),
-        Inst::Lw(rd, base, imm) => Form::Loads(LoadKind::I32, rd, base, imm.cast_unsigned()),
-        Inst::Lbu(rd, base, imm) => Form::Loads(LoadKind::U8, rd, base, imm.cast_unsigned()),
-        Inst::Lhu(rd, base, imm) => Form::Loads(LoadKind::U16, rd, base, imm.cast_unsigned()),
-        Inst::Sb(base, source, imm) => Form::Stores(Width::B1, base, source, imm.cast_unsigned()),
-        Inst::Sh(base, source, imm) => Form::Stores(Width::B2, base, source, imm.cast_unsigned()),
-        Inst::Sw(base, source, imm) => Form::Stores(Width::B4, base, source, imm.cast_unsigned()),
-        Inst::Addi(rd, x, _) | Inst::Slti(rd, x, _) | Inst::Sltiu(rd, x, _) => Form::Computes(
-            rd, x, 0,
+        Inst::Lui(rd, _) | Inst::Auipc(rd, _) | Inst::Jal(rd, _) => InstructionForm::Computes(
+            rd, 0, 0,
         ),
-        Inst::Xori(rd, x, _) | Inst::Ori(rd, x, _) | Inst::Andi(rd, x, _) => Form::Computes(
-            rd, x, 0,
+        Inst::Jalr(rd, base, _) => InstructionForm::Computes(rd, base, 0),
+        Inst::Beq(x, y, _) | Inst::Bne(x, y, _) | Inst::Blt(x, y, _) => InstructionForm::Computes(
+            0, x, y,
         ),
-        Inst::Slli(rd, x, _) | Inst::Srli(rd, x, _) | Inst::Srai(rd, x, _) => Form::Computes(
-            rd, x, 0,
+        Inst::Bge(x, y, _) | Inst::Bltu(x, y, _) | Inst::Bgeu(x, y, _) => InstructionForm::Computes(
+            0, x, y,
         ),
-        Inst::Add(rd, x, y) | Inst::Sub(rd, x, y) | Inst::Sll(rd, x, y) => Form::Computes(rd, x, y),
-        Inst::Slt(rd, x, y) | Inst::Sltu(rd, x, y) | Inst::Xor(rd, x, y) => Form::Computes(
+        Inst::Lb(rd, base, imm) => InstructionForm::Loads(
+            LoadKind::I8,
+            rd,
+            base,
+            imm.cast_unsigned(),
+        ),
+        Inst::Lh(rd, base, imm) => InstructionForm::Loads(
+            LoadKind::I16,
+            rd,
+            base,
+            imm.cast_unsigned(),
+        ),
+        Inst::Lw(rd, base, imm) => InstructionForm::Loads(
+            LoadKind::I32,
+            rd,
+            base,
+            imm.cast_unsigned(),
+        ),
+        Inst::Lbu(rd, base, imm) => InstructionForm::Loads(
+            LoadKind::U8,
+            rd,
+            base,
+            imm.cast_unsigned(),
+        ),
+        Inst::Lhu(rd, base, imm) => InstructionForm::Loads(
+            LoadKind::U16,
+            rd,
+            base,
+            imm.cast_unsigned(),
+        ),
+        Inst::Sb(base, source, imm) => InstructionForm::Stores(
+            Width::B1,
+            base,
+            source,
+            imm.cast_unsigned(),
+        ),
+        Inst::Sh(base, source, imm) => InstructionForm::Stores(
+            Width::B2,
+            base,
+            source,
+            imm.cast_unsigned(),
+        ),
+        Inst::Sw(base, source, imm) => InstructionForm::Stores(
+            Width::B4,
+            base,
+            source,
+            imm.cast_unsigned(),
+        ),
+        Inst::Addi(rd, x, _) | Inst::Slti(rd, x, _) | Inst::Sltiu(rd, x, _) =>
+            InstructionForm::Computes(rd, x, 0),
+        Inst::Xori(rd, x, _) | Inst::Ori(rd, x, _) | Inst::Andi(rd, x, _) =>
+            InstructionForm::Computes(rd, x, 0),
+        Inst::Slli(rd, x, _) | Inst::Srli(rd, x, _) | Inst::Srai(rd, x, _) =>
+            InstructionForm::Computes(rd, x, 0),
+        Inst::Add(rd, x, y) | Inst::Sub(rd, x, y) | Inst::Sll(rd, x, y) =>
+            InstructionForm::Computes(rd, x, y),
+        Inst::Slt(rd, x, y) | Inst::Sltu(rd, x, y) | Inst::Xor(rd, x, y) =>
+            InstructionForm::Computes(rd, x, y),
+        Inst::Srl(rd, x, y) | Inst::Sra(rd, x, y) | Inst::Or(rd, x, y) => InstructionForm::Computes(
             rd, x, y,
         ),
-        Inst::Srl(rd, x, y) | Inst::Sra(rd, x, y) | Inst::Or(rd, x, y) => Form::Computes(rd, x, y),
-        Inst::And(rd, x, y) | Inst::Mul(rd, x, y) | Inst::Mulh(rd, x, y) => Form::Computes(
-            rd, x, y,
-        ),
-        Inst::Mulhsu(rd, x, y) | Inst::Mulhu(rd, x, y) | Inst::Div(rd, x, y) => Form::Computes(
-            rd, x, y,
-        ),
-        Inst::Divu(rd, x, y) | Inst::Rem(rd, x, y) | Inst::Remu(rd, x, y) => Form::Computes(
-            rd, x, y,
-        ),
-        Inst::Ecall => Form::Calls,
+        Inst::And(rd, x, y) | Inst::Mul(rd, x, y) | Inst::Mulh(rd, x, y) =>
+            InstructionForm::Computes(rd, x, y),
+        Inst::Mulhsu(rd, x, y) | Inst::Mulhu(rd, x, y) | Inst::Div(rd, x, y) =>
+            InstructionForm::Computes(rd, x, y),
+        Inst::Divu(rd, x, y) | Inst::Rem(rd, x, y) | Inst::Remu(rd, x, y) =>
+            InstructionForm::Computes(rd, x, y),
+        Inst::Ecall => InstructionForm::Calls,
     }
 }
 

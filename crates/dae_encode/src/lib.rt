@@ -88,7 +88,7 @@ pub enum Inst {
 
 /// The registers of an instruction, and the offset of its address as a word.
 #[derive(Clone, Copy)]
-pub enum Form {
+pub enum InstructionForm {
     /// Its target and its two sources; a field that it does not have is x0.
     Computes(u8, u8, u8),
     /// What it reads, its target, and the base and the offset of its address.

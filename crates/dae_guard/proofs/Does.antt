@@ -12,8 +12,8 @@ use Rattle.dae_base.specs.Texts.{byte_text, decimal_text, hex_text}
 use Rattle.dae_base.specs.declared.Signedness.TheVariants as signedness
 use Rattle.dae_encode.specs.declared.QueueUse.{QueueUse}
 use Rattle.dae_encode.specs.declared.QueueUse.TheVariants.{Nothing, Take, Push, Load, StoreAddress}
-use Rattle.dae_encode.specs.declared.Form.{Form}
-use Rattle.dae_encode.specs.declared.Form.TheVariants.{Computes, Loads, Stores, Calls}
+use Rattle.dae_encode.specs.declared.InstructionForm.{InstructionForm}
+use Rattle.dae_encode.specs.declared.InstructionForm.TheVariants.{Computes, Loads, Stores, Calls}
 use Rattle.dae_encode.specs.declared.Inst.{Inst}
 use Rattle.dae_encode.specs.declared.Inst.TheVariants.{Slti, Sltiu, Lb, Lh, Lw, Lbu, Lhu, Sb, Sh, Sw, Ecall}
 use Rattle.dae_encode.specs.declared.Halt.{Halt}
@@ -29,7 +29,7 @@ use Rattle.dae_ranges.proofs.Laws.{each_has, single_is, shifted_has}
 use Rattle.dae_guard.specs.Sets.{Waiting}
 use Rattle.dae_guard.specs.Nodes.{range_at, source, is_plain, with_range}
 use Rattle.dae_guard.specs.Waiting.{allows, given, after_use}
-use Rattle.dae_guard.specs.Moves.{Terms, private, Outcome, outcomes_by, shape, After, on, did}
+use Rattle.dae_guard.specs.Moves.{Terms, private, MoveOutcome, outcomes_by, shape, SideAfter, on, did}
 use Rattle.dae_guard.specs.StandsFor.{Registers, IsSide, Wait}
 use Rattle.dae_guard.proofs.Waits.{given_has, PutsIn, StoresCounted, used}
 use Rattle.dae_guard.proofs.Memories.{loaded_has}
@@ -37,19 +37,19 @@ use Rattle.dae_guard.proofs.Values.{other, imm_12}
 use Rattle.dae_guard.proofs.Sides.{reads, holds_plain, put_result, AnyComes, comes}
 
 -- one of these stands for the processor and the queues
-abbrev pub AnyAfter : ℕ → List After → Processor → Queues → Type 0
+abbrev pub AnyAfter : ℕ → List SideAfter → Processor → Queues → Type 0
 AnyAfter size [] p q = ⊥
 AnyAfter size (m ∷ ms) p q = (IsSide size m.0 p × Wait m.1 q) ⊎ AnyAfter size ms p q
 
 -- what the instruction comes to
-pub record Does (t : Terms) (side : Side) (p : Processor) (qs : Queues) (u : QueueUse) (i : Inst) (f : Form) (ms : List After) : Type 0 where
+pub record Does (t : Terms) (side : Side) (p : Processor) (qs : Queues) (u : QueueUse) (i : Inst) (f : InstructionForm) (ms : List SideAfter) : Type 0 where
   pub quiet : early_fault side t.setup.memory p u f ≡ None
   pub came : Came
   pub does : finish side p u i f (peek u qs) ≡ Some came
   pub stands : AnyAfter (private t side) ms came.0 (commit u (put_word p u i f) qs)
 
 -- the offset of an address is a word
-pub data OffsetFits : Form → Type 0 where
+pub data OffsetFits : InstructionForm → Type 0 where
   computes : {rd x y : ℕ} → OffsetFits (Computes rd x y)
   loads : {kind : LoadKind} {rd base offset : ℕ} → offset < 2 ^ 32 → OffsetFits (Loads kind rd base offset)
   stores : {width : Width} {base source offset : ℕ} → offset < 2 ^ 32 → OffsetFits (Stores width base source offset)
@@ -99,8 +99,8 @@ module _ (t : Terms) (side : Side) (rs : List Range) (c : ℕ) (q : Waiting) (p 
   side_on : (k : ℕ) → IsSide (private t side) (on k rs) (record p { counter = k })
   side_on k = record { at = (stands.at.0, refl); registers = stands.registers; size = stands.size; bytes = stands.bytes }
 
-  any_after : (rd x x' k : ℕ) (os : List Outcome) → ((r : Range) → Has r x → PutsIn u r x') → AnyComes rs p.registers x k os
-      → AnyAfter (private t side) (map (λ (o : Outcome). (on o.counter (with_range rd o.value o.registers), after_use u o.value q)) os) (record p { registers = with_result rd x p.registers; counter = k }) (commit u x' qs)
+  any_after : (rd x x' k : ℕ) (os : List MoveOutcome) → ((r : Range) → Has r x → PutsIn u r x') → AnyComes rs p.registers x k os
+      → AnyAfter (private t side) (map (λ (o : MoveOutcome). (on o.counter (with_range rd o.value o.registers), after_use u o.value q)) os) (record p { registers = with_result rd x p.registers; counter = k }) (commit u x' qs)
   any_after rd x x' k [] put h = absurd h
   any_after rd x x' k (o ∷ os) put (inl h) = inl (
     subst (λ (n : ℕ). IsSide (private t side) (on n (with_range rd o.value o.registers)) (record p { registers = with_result rd x p.registers; counter = k })) (sym h.counter) (side_after o.registers rd x k o.value h.registers h.value),
@@ -108,10 +108,10 @@ module _ (t : Terms) (side : Side) (rs : List Range) (c : ℕ) (q : Waiting) (p 
   )
   any_after rd x x' k (o ∷ os) put (inr h) = inr (any_after rd x x' k os put h)
 
-  pub does_computes : (rd first second : ℕ) (ms : List After) → form i ≡ Computes rd first second → did t side rs c q u i (Computes rd first second) ≡ Some ms → Does t side p qs u i (Computes rd first second) ms
+  pub does_computes : (rd first second : ℕ) (ms : List SideAfter) → form i ≡ Computes rd first second → did t side rs c q u i (Computes rd first second) ≡ Some ms → Does t side p qs u i (Computes rd first second) ms
   unfolding early_fault put_word finish
   does_computes rd first second ms own h =
-      let m = map_some_is (map (λ (o : Outcome). (on o.counter (with_range rd o.value o.registers), after_use u o.value q))) (outcomes_by (shape i) i c first second (source rs (given u q) first) (source rs (given u q) second) rs) ms h in
+      let m = map_some_is (map (λ (o : MoveOutcome). (on o.counter (with_range rd o.value o.registers), after_use u o.value q))) (outcomes_by (shape i) i c first second (source rs (given u q) first) (source rs (given u q) second) rs) ms h in
       let v = operand p (peek u qs) first in
       let w = operand p (peek u qs) second in
       let k = comes i c first second (source rs (given u q) first) (source rs (given u q) second) rs p.registers v w m.0 inside stands.registers (read first) (read second)
@@ -123,7 +123,7 @@ module _ (t : Terms) (side : Side) (rs : List Range) (c : ℕ) (q : Waiting) (p 
         quiet = refl;
         came = (record p { registers = with_result rd (value i p.counter v w) p.registers; counter = next i p.counter v w }, []);
         does = refl;
-        stands = subst (λ (ms : List After). AnyAfter (private t side) ms (record p { registers = with_result rd (value i p.counter v w) p.registers; counter = next i p.counter v w }) (commit u x' qs)) m.2
+        stands = subst (λ (ms : List SideAfter). AnyAfter (private t side) ms (record p { registers = with_result rd (value i p.counter v w) p.registers; counter = next i p.counter v w }) (commit u x' qs)) m.2
             (rw (same, to) (any_after rd (value i c v w) x' (next i c v w) m.0 (λ r l. put_same u qs r (λ g. value i p.counter (operand p g first) (operand p g second)) (rw same l)) k));
       }
 
@@ -140,7 +140,7 @@ module _ (t : Terms) (side : Side) (rs : List Range) (c : ℕ) (q : Waiting) (p 
   is_good : (width : Width) (a : ℕ) → is_within 0 (private t side) width a ≡ true → is_good_private p width a ≡ true
   is_good width a h = rw stands.size h
 
-  pub does_loads : (kind : LoadKind) (rd base offset : ℕ) (ms : List After) → offset < 2 ^ 32 → did t side rs c q u i (Loads kind rd base offset) ≡ Some ms → Does t side p qs u i (Loads kind rd base offset) ms
+  pub does_loads : (kind : LoadKind) (rd base offset : ℕ) (ms : List SideAfter) → offset < 2 ^ 32 → did t side rs c q u i (Loads kind rd base offset) ≡ Some ms → Does t side p qs u i (Loads kind rd base offset) ms
   unfolding early_fault put_word finish
   does_loads kind rd base offset ms l h =
       let a = and_then_some _ (shifted offset (source rs (given u q) base)) ms h in
@@ -164,7 +164,7 @@ module _ (t : Terms) (side : Side) (rs : List Range) (c : ℕ) (q : Waiting) (p 
             quiet = rw (e, good') refl;
             came = (record p { counter = plus p.counter 4 }, []);
             does = rw e refl;
-            stands = subst (λ (ms : List After). AnyAfter (private t side) ms (record p { counter = plus p.counter 4 }) (commit u (put_word p u i (Loads kind rd base offset)) qs)) is
+            stands = subst (λ (ms : List SideAfter). AnyAfter (private t side) ms (record p { counter = plus p.counter 4 }) (commit u (put_word p u i (Loads kind rd base offset)) qs)) is
                 (rw (to, e) (inl (side_on (plus c 4), used u q qs addr (address p 0 base offset) wait counted (put_same u qs addr (λ g. address p g base offset) x))));
           }
       by false e addr x g =
@@ -178,11 +178,11 @@ module _ (t : Terms) (side : Side) (rs : List Range) (c : ℕ) (q : Waiting) (p 
             quiet = rw (e, no_fault (width_of kind) base offset good) refl;
             came = (next', []);
             does = rw (e, good) refl;
-            stands = subst (λ (ms : List After). AnyAfter (private t side) ms next' (commit u (put_word p u i (Loads kind rd base offset)) qs)) is
+            stands = subst (λ (ms : List SideAfter). AnyAfter (private t side) ms next' (commit u (put_word p u i (Loads kind rd base offset)) qs)) is
                 (rw (to, e) (inl (side_after rs rd (loaded kind (address p (peek u qs) base offset) p.private) (plus c 4) (loaded_range kind) stands.registers found, used u q qs (loaded_range kind) _ wait counted put)));
           }
 
-  pub does_stores : (width : Width) (base second offset : ℕ) (ms : List After) → offset < 2 ^ 32 → did t side rs c q u i (Stores width base second offset) ≡ Some ms → Does t side p qs u i (Stores width base second offset) ms
+  pub does_stores : (width : Width) (base second offset : ℕ) (ms : List SideAfter) → offset < 2 ^ 32 → did t side rs c q u i (Stores width base second offset) ≡ Some ms → Does t side p qs u i (Stores width base second offset) ms
   unfolding early_fault put_word finish
   does_stores width base second offset ms l h =
       let a = and_then_some _ (shifted offset (source rs (given u q) base)) ms h in
@@ -205,7 +205,7 @@ module _ (t : Terms) (side : Side) (rs : List Range) (c : ℕ) (q : Waiting) (p 
             quiet = rw (e, good') refl;
             came = (record p { counter = plus p.counter 4 }, []);
             does = rw e refl;
-            stands = subst (λ (ms : List After). AnyAfter (private t side) ms (record p { counter = plus p.counter 4 }) (commit u (address p 0 base offset) qs)) is
+            stands = subst (λ (ms : List SideAfter). AnyAfter (private t side) ms (record p { counter = plus p.counter 4 }) (commit u (address p 0 base offset) qs)) is
                 (rw to (inl (side_on (plus c 4), used u q qs addr (address p 0 base offset) wait counted (put_same u qs addr (λ g. address p g base offset) x))));
           }
       by false e addr x g =
@@ -219,7 +219,7 @@ module _ (t : Terms) (side : Side) (rs : List Range) (c : ℕ) (q : Waiting) (p 
             quiet = rw (e, no_fault width base offset good) refl;
             came = (next', []);
             does = rw (e, good) refl;
-            stands = subst (λ (ms : List After). AnyAfter (private t side) ms next' (commit u (address p 0 base offset) qs)) is
+            stands = subst (λ (ms : List SideAfter). AnyAfter (private t side) ms next' (commit u (address p 0 base offset) qs)) is
                 (inl (
                   record { at = (stands.at.0, to); registers = stands.registers; size = size'; bytes = stored_bytes width (address p (peek u qs) base offset) (operand p (peek u qs) second) p.private stands.bytes },
                   used u q qs addr (address p 0 base offset) wait counted (put_same u qs addr (λ g. address p g base offset) x),
@@ -227,7 +227,7 @@ module _ (t : Terms) (side : Side) (rs : List Range) (c : ℕ) (q : Waiting) (p 
           }
 
 -- the call of A halts it
-pub does_call_a : (t : Terms) (rs : List Range) (c : ℕ) (q : Waiting) (p : Processor) (qs : Queues) (i : Inst) (ms : List After)
+pub does_call_a : (t : Terms) (rs : List Range) (c : ℕ) (q : Waiting) (p : Processor) (qs : Queues) (i : Inst) (ms : List SideAfter)
     → IsSide (private t A) (on c rs) p → Wait q qs → did t A rs c q Nothing i Calls ≡ Some ms → Does t A p qs Nothing i Calls ms
 unfolding early_fault put_word finish
 does_call_a t rs c q p qs i ms stands wait h =
@@ -236,7 +236,7 @@ does_call_a t rs c q p qs i ms stands wait h =
       quiet = refl;
       came = (record p { counter = plus p.counter 4; halt = Some Plain }, []);
       does = refl;
-      stands = subst (λ (ms : List After). AnyAfter (private t A) ms (record p { counter = plus p.counter 4; halt = Some Plain }) qs) is
+      stands = subst (λ (ms : List SideAfter). AnyAfter (private t A) ms (record p { counter = plus p.counter 4; halt = Some Plain }) qs) is
           (inl (record { at = refl; registers = stands.registers; size = stands.size; bytes = stands.bytes }, wait));
     }
 
@@ -264,12 +264,12 @@ called_is t rs c p s what l = by what l
     by (suc (suc (suc (suc (suc zero))))) l = record { came = (record p { counter = plus p.counter 4; halt = Some (Trap (slice_index p.registers 10)) }, []); does = refl; stands = halted (Trap (slice_index p.registers 10)) }
     by (suc (suc (suc (suc (suc (suc n)))))) l = absurd (omega arith)
 
-pub does_call_e : (t : Terms) (rs : List Range) (c : ℕ) (q : Waiting) (p : Processor) (qs : Queues) (i : Inst) (ms : List After)
+pub does_call_e : (t : Terms) (rs : List Range) (c : ℕ) (q : Waiting) (p : Processor) (qs : Queues) (i : Inst) (ms : List SideAfter)
     → IsSide (private t E) (on c rs) p → Wait q qs → did t E rs c q Nothing i Calls ≡ Some ms → Does t E p qs Nothing i Calls ms
 unfolding early_fault put_word finish
 does_call_e t rs c q p qs i ms stands wait h =
     let what = range_at rs 17 in
-    let after : After = (record { counter = (if what.lo == 0 then None else (if what.lo == 5 then None else Some (plus c 4))); registers = rs }, q) in
+    let after : SideAfter = (record { counter = (if what.lo == 0 then None else (if what.lo == 5 then None else Some (plus c 4))); registers = rs }, q) in
     let k = if_some_is (is_single what && nat_le what.lo 5) (Some (after ∷ [])) ms h in
     let both = and_true (is_single what) (nat_le what.lo 5) k.0 in
     let b1 = both.1 in
@@ -282,7 +282,7 @@ does_call_e t rs c q p qs i ms stands wait h =
       quiet = rw (same, no) refl;
       came = m.came;
       does = rw same m.does;
-      stands = subst (λ (ms : List After). AnyAfter (private t E) ms m.came.0 qs) is (inl (m.stands, wait));
+      stands = subst (λ (ms : List SideAfter). AnyAfter (private t E) ms m.came.0 qs) is (inl (m.stands, wait));
     }
 
 -- ---- any instruction
@@ -300,24 +300,24 @@ own_offset (Sw x y imm) r = stores (imm_12 imm r.2)
 own_offset Ecall r = calls
 own_offset i r = computes
 
-offset_small : (i : Inst) (f : Form) → InRange i → form i ≡ f → OffsetFits f
+offset_small : (i : Inst) (f : InstructionForm) → InRange i → form i ≡ f → OffsetFits f
 offset_small i f r e = subst OffsetFits e (own_offset i r)
 
 no_access : (copies : Bool) (side : Side) (u : QueueUse) → queue_use copies side Calls ≡ Some u → u ≡ Nothing
 unfolding queue_use
 no_access copies side u h = cc
 
-does_calls : (t : Terms) (side : Side) (rs : List Range) (c : ℕ) (q : Waiting) (p : Processor) (qs : Queues) (i : Inst) (ms : List After)
+does_calls : (t : Terms) (side : Side) (rs : List Range) (c : ℕ) (q : Waiting) (p : Processor) (qs : Queues) (i : Inst) (ms : List SideAfter)
     → IsSide (private t side) (on c rs) p → Wait q qs → did t side rs c q Nothing i Calls ≡ Some ms → Does t side p qs Nothing i Calls ms
 does_calls t A rs c q p qs i ms s w h = does_call_a t rs c q p qs i ms s w h
 does_calls t E rs c q p qs i ms s w h = does_call_e t rs c q p qs i ms s w h
 
-pub does_any : (t : Terms) (side : Side) (rs : List Range) (c : ℕ) (q : Waiting) (p : Processor) (qs : Queues) (u : QueueUse) (i : Inst) (ms : List After) (f : Form)
+pub does_any : (t : Terms) (side : Side) (rs : List Range) (c : ℕ) (q : Waiting) (p : Processor) (qs : Queues) (u : QueueUse) (i : Inst) (ms : List SideAfter) (f : InstructionForm)
     → IsSide (private t side) (on c rs) p → Wait q qs → StoresCounted qs → allows t.setup.depths u q ≡ true → InRange i → queue_use t.setup.copies side f ≡ Some u
     → form i ≡ f → did t side rs c q u i f ≡ Some ms → Does t side p qs u i f ms
 does_any t side rs c q p qs u i ms f s w n l r a own h = by f own (offset_small i f r own) a h
   where
-    by : (f : Form) → form i ≡ f → OffsetFits f → queue_use t.setup.copies side f ≡ Some u → did t side rs c q u i f ≡ Some ms → Does t side p qs u i f ms
+    by : (f : InstructionForm) → form i ≡ f → OffsetFits f → queue_use t.setup.copies side f ≡ Some u → did t side rs c q u i f ≡ Some ms → Does t side p qs u i f ms
     by (Computes rd first second) own o a h = does_computes t side rs c q p qs u i s w n l r rd first second ms own h
     by (Loads kind rd base offset) own (loads o) a h = does_loads t side rs c q p qs u i s w n l r kind rd base offset ms o h
     by (Stores width base second offset) own (stores o) a h = does_stores t side rs c q p qs u i s w n l r width base second offset ms o h

@@ -7,7 +7,7 @@ use Rattle.dae_base.proofs.Laws.{and_false, and_true, or_false, not_true, if_som
 use Rattle.dae_queues.specs.declared.Slot.{Slot}
 use Rattle.dae_queues.specs.declared.StoreAt.{StoreAt}
 use Rattle.dae_queues.specs.Lists.{rest, waiting, give, with_value, bars, holds, draining_of}
-use Rattle.dae_queues.specs.Numbers.{Counts}
+use Rattle.dae_queues.specs.Numbers.{CountsUp}
 use Rattle.dae_queues.proofs.LawsOfLists.{SlotsNumbered}
 use Rattle.dae_core.specs.Queues.{Queues}
 use Rattle.dae_ranges.specs.declared.Range.{Range}
@@ -22,7 +22,7 @@ use Rattle.dae_guard.proofs.Waits.{no_touch, same_none, not_held, none_pass, pai
 -- ---- which stores bar a slot
 
 abbrev pub Numbered : ℕ → List StoreAt → ℕ → Type 0
-Numbered low as' high = Counts low (map (λ (a : StoreAt). a.number) as') high
+Numbered low as' high = CountsUp low (map (λ (a : StoreAt). a.number) as') high
 
 not_barred : (d low high : ℕ) (c : Cell) (s : Slot) (ks : List StoreCell) (as' : List StoreAt) → IsSlot d c s → Pairs IsStore ks as' → Numbered low as' high
     → (n : ℕ) → n ≡ s.stamp - low → list_any (touches c) (take n ks) ≡ false → list_any (bars s) as' ≡ false

@@ -20,7 +20,7 @@ use Rattle.dae_certificate.specs.declared.SideNode.{SideNode}
 use Rattle.dae_guard.specs.Sets.{Cell}
 use Rattle.dae_guard.specs.Sets.{Waiting}
 use Rattle.dae_guard.specs.Sets.{Node}
-use Rattle.dae_certificate.specs.declared.Known.{Known}
+use Rattle.dae_certificate.specs.declared.CertificateNode.{CertificateNode}
 use Rattle.dae_guard.specs.Nodes.{range_at, is_nil, all_filled, is_final, nothing_left, nothing_waits, same_counter, registers_within, side_within, covers, is_covered, known_node}
 use Rattle.dae_guard.specs.Moves.{Terms}
 use Rattle.dae_guard.specs.StandsFor.{Pairs, IsSlot, IsStore, StandsAt, Registers, IsSide, StandsFor}
@@ -136,7 +136,7 @@ empty_waits q h =
     let ab = nil_is q.ab e.0 in let eb = nil_is q.eb f.0 in let cq = nil_is q.cq f.1 in
     rw (ld, al, sa, sd, ab, eb, cq) refl
 
-known_is : (t : Terms) (certificate : List Known) (n : Node) (s : State) → n.waiting ≡ nothing_waits → list_any (covers n) certificate ≡ true → StandsFor t n s → IsKnown t certificate s
+known_is : (t : Terms) (certificate : List CertificateNode) (n : Node) (s : State) → n.waiting ≡ nothing_waits → list_any (covers n) certificate ≡ true → StandsFor t n s → IsKnown t certificate s
 known_is t [] n s e h x = cc
 known_is t (k ∷ ks) n s e h x = by (covers n k) refl h (λ h. known_is t ks n s e h x)
   where
@@ -146,7 +146,7 @@ known_is t (k ∷ ks) n s e h x = by (covers n k) refl h (λ h. known_is t ks n 
         inl (record { a = side_is t.private_a k.a n.a s.a both.0 x.a; e = side_is t.private_e k.e n.e s.e both.1 x.e; waiting = rw e at x.waiting; memory = x.memory; counted = x.counted })
     by false c h more = inr (more h)
 
-pub covered_is : (t : Terms) (certificate : List Known) (n : Node) (s : State) → is_covered certificate n ≡ true → StandsFor t n s → IsKnown t certificate s
+pub covered_is : (t : Terms) (certificate : List CertificateNode) (n : Node) (s : State) → is_covered certificate n ≡ true → StandsFor t n s → IsKnown t certificate s
 covered_is t certificate n s h x =
     let both = and_true (nothing_left n.waiting) (list_any (covers n) certificate) h in
     known_is t certificate n s (empty_waits n.waiting both.0) both.1 x

@@ -17,7 +17,7 @@ use Rattle.dae_machine.proofs.LawsOfRuns.{run-step}
 use Rattle.dae_ranges.specs.Ranges.{single}
 use Rattle.dae_ranges.proofs.Laws.{has_single}
 use Rattle.dae_guard.specs.Sets.{Node}
-use Rattle.dae_certificate.specs.declared.Known.{Known}
+use Rattle.dae_certificate.specs.declared.CertificateNode.{CertificateNode}
 use Rattle.dae_guard.specs.Nodes.{known_node, is_final, range_at}
 use Rattle.dae_guard.specs.Moves.{Terms, next_nodes}
 use Rattle.dae_guard.specs.StandsFor.{IsSide, StandsFor, AnyStands, CodesFit}
@@ -27,14 +27,14 @@ use Rattle.dae_guard.proofs.Walking.{IsKnown, Sound, goes}
 use Rattle.dae_guard.proofs.Steps.{advances}
 use Rattle.dae_guard.proofs.Finals.{final_is, covered_is}
 
-pub sound : (t : Terms) (certificate : List Known) → CodesFit t → Sound t certificate
+pub sound : (t : Terms) (certificate : List CertificateNode) → CodesFit t → Sound t certificate
 sound t certificate fit = record {
   final = λ n s h x. final_is t n s h x;
   covered = λ n s h x. covered_is t certificate n s h x;
   next = λ n s ns h x. (let a = advances t n s ns fit h x in (a.pick, a.state, a.steps, a.stands));
 }
 
-module _ (t : Terms) (certificate : List Known) (fit : CodesFit t) (Start : State → Type 0) (known : (s : State) → IsKnown t certificate s → Start s) where
+module _ (t : Terms) (certificate : List CertificateNode) (fit : CodesFit t) (Start : State → Type 0) (known : (s : State) → IsKnown t certificate s → Start s) where
   to_start : (s : State) → IsFinal t.setup s ⊎ IsKnown t certificate s → IsFinal t.setup s ⊎ Start s
   to_start s (inl f) = inl f
   to_start s (inr k) = inr (known s k)
@@ -64,7 +64,7 @@ module _ (t : Terms) (certificate : List Known) (fit : CodesFit t) (Start : Stat
       by Passes e h x more = cc
 
 -- a start that is final itself leads to itself, by no step, so it has long runs too; the others lead on
-pub guarded_leads : (t : Terms) (certificate : List Known) (first : Node) → CodesFit t → verdict t certificate 0 (first ∷ map known_node certificate) ≡ Yes → (s : State)
+pub guarded_leads : (t : Terms) (certificate : List CertificateNode) (first : Node) → CodesFit t → verdict t certificate 0 (first ∷ map known_node certificate) ≡ Yes → (s : State)
     → AnyStands t (first ∷ map known_node certificate) s → (IsFinal t.setup s) ⊎ Leads t.setup (λ s. AnyStands t (first ∷ map known_node certificate) s) s
 guarded_leads t certificate first fit h s a = leads_all t certificate fit (λ s. AnyStands t (first ∷ map known_node certificate) s) (λ s k. inr k) 0 (first ∷ map known_node certificate) s h a
 
@@ -106,7 +106,7 @@ codes_fit image depths = record {
   e = recursion_from_All (λ (w : ℕ). w < 2 ^ 32) image.code_e image.fits.code_e;
 }
 
-pub guarded_is_safe : (image : Image) (depths : Depths) (certificate : List Known) → guarded image depths certificate ≡ Yes → NeverStuck image depths
+pub guarded_is_safe : (image : Image) (depths : Depths) (certificate : List CertificateNode) → guarded image depths certificate ≡ Yes → NeverStuck image depths
 guarded_is_safe image depths certificate h memory size bytes ps s runs =
     let t = terms_of image depths in
     let first = opened_node image in

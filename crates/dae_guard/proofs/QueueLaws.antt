@@ -9,8 +9,8 @@ use Rattle.dae_guard.specs.Sets.{Waiting}
 use Rattle.dae_guard.specs.declared.StoreCell.{StoreCell}
 use Rattle.dae_guard.specs.Waiting.{younger, delays, drain_next, next_store, without_store}
 use Rattle.dae_guard.specs.Moves.{or_else}
-use Rattle.dae_guard.specs.declared.slots.Slot.{Slot}
-use Rattle.dae_guard.specs.declared.queues.Queues.{Queues}
+use Rattle.dae_guard.specs.declared.slots.LoadSlot.{LoadSlot}
+use Rattle.dae_guard.specs.declared.queues.RangeQueues.{RangeQueues}
 use Rattle.dae_guard.specs.Kept.{AreKept, IsMade, aged, cell_of, cells_of, waiting_of}
 use Rattle.dae_guard.specs.Drains.{is_free, may_drain}
 use Rattle.dae_guard.proofs.SlotLaws.{any_cells, kept_aged, length_rest}
@@ -24,33 +24,33 @@ all_rest P (x ∷ xs) h = All-tail P x xs h
 -- ---- cells
 
 -- slots that are one store older
-pub cells_aged : (ss : List Slot) → cells_of (map aged ss) ≡ map younger (cells_of ss)
+pub cells_aged : (ss : List LoadSlot) → cells_of (map aged ss) ≡ map younger (cells_of ss)
 cells_aged [] = refl
 cells_aged (s ∷ ss) = ap (λ cs. younger (cell_of s) ∷ cs) (cells_aged ss)
 
-pub all_aged : (sa : List StoreCell) (ss : List Slot) → AreKept sa ss → AreKept (rest sa) (map aged ss)
+pub all_aged : (sa : List StoreCell) (ss : List LoadSlot) → AreKept sa ss → AreKept (rest sa) (map aged ss)
 all_aged sa [] h k e l = absurd (omega arith)
 all_aged sa (s ∷ ss) h zero e l = kept_aged sa s (h 0 s (omega arith))
 all_aged sa (s ∷ ss) h (suc k) e l = all_aged sa ss (λ j f m. h (suc j) f (omega arith)) k e (omega arith)
 
 -- ---- a drain
 
-pub none_drains_sa : (sa : List StoreCell) (sd : List Range) (ld al : List Slot) → length sa ≡ 0 → false ≡ may_drain sa sd ld al
+pub none_drains_sa : (sa : List StoreCell) (sd : List Range) (ld al : List LoadSlot) → length sa ≡ 0 → false ≡ may_drain sa sd ld al
 none_drains_sa [] sd ld al e = refl
 none_drains_sa (s ∷ ss) sd ld al e = absurd (omega arith)
 
-pub none_drains_sd : (sa : List StoreCell) (sd : List Range) (ld al : List Slot) → length sd ≡ 0 → false ≡ may_drain sa sd ld al
+pub none_drains_sd : (sa : List StoreCell) (sd : List Range) (ld al : List LoadSlot) → length sd ≡ 0 → false ≡ may_drain sa sd ld al
 none_drains_sd [] sd ld al e = refl
 none_drains_sd (s ∷ ss) [] ld al e = refl
 none_drains_sd (s ∷ ss) (d ∷ ds) ld al e = absurd (omega arith)
 
-pub free_drains : (sa : List StoreCell) (sd : List Range) (ld al : List Slot) (d : StoreCell) → 0 < length sa → 0 < length sd
+pub free_drains : (sa : List StoreCell) (sd : List Range) (ld al : List LoadSlot) (d : StoreCell) → 0 < length sa → 0 < length sd
     → is_free ld al (get_or sa 0 d) ≡ may_drain sa sd ld al
 free_drains [] sd ld al d p r = absurd (omega arith)
 free_drains (s ∷ ss) [] ld al d p r = absurd (omega arith)
 free_drains (s ∷ ss) (x ∷ ds) ld al d p r = refl
 
-may_drain_is : (q : Queues) → may_drain q.sa.items q.sd.items q.ld.items q.al.items ≡ is_some (drain_next (waiting_of q))
+may_drain_is : (q : RangeQueues) → may_drain q.sa.items q.sd.items q.ld.items q.al.items ≡ is_some (drain_next (waiting_of q))
 may_drain_is q = by q.sa.items q.sd.items
   where
     told : (b : Bool) → b ≡ is_some (if b then Some (without_store (waiting_of q)) else None)
@@ -66,13 +66,13 @@ may_drain_is q = by q.sa.items q.sd.items
         rw (any_cells (delays s) q.ld.items, any_cells (delays s) q.al.items)
         (told (not (list_any (delays s) (cells_of q.ld.items)) && not (list_any (delays s) (cells_of q.al.items))))
 
-pub may_drain_so : (q : Queues) (sa : List StoreCell) (sd : List Range) (ld al : List Slot) (r : Bool) → sa ≡ q.sa.items → sd ≡ q.sd.items → ld ≡ q.ld.items → al ≡ q.al.items
+pub may_drain_so : (q : RangeQueues) (sa : List StoreCell) (sd : List Range) (ld al : List LoadSlot) (r : Bool) → sa ≡ q.sa.items → sd ≡ q.sd.items → ld ≡ q.ld.items → al ≡ q.al.items
     → r ≡ may_drain sa sd ld al → r ≡ is_some (drain_next (waiting_of q))
 may_drain_so q sa sd ld al r e f g h k =
     k ∙ (ap (λ (x : List StoreCell). may_drain x sd ld al) e ∙ (ap (λ (x : List Range). may_drain q.sa.items x ld al) f
-    ∙ (ap (λ (x : List Slot). may_drain q.sa.items q.sd.items x al) g ∙ (ap (λ (x : List Slot). may_drain q.sa.items q.sd.items q.ld.items x) h ∙ may_drain_is q))))
+    ∙ (ap (λ (x : List LoadSlot). may_drain q.sa.items q.sd.items x al) g ∙ (ap (λ (x : List LoadSlot). may_drain q.sa.items q.sd.items q.ld.items x) h ∙ may_drain_is q))))
 
-pub drains : (q : Queues) → is_some (drain_next (waiting_of q)) ≡ true → drain_next (waiting_of q) ≡ Some (without_store (waiting_of q))
+pub drains : (q : RangeQueues) → is_some (drain_next (waiting_of q)) ≡ true → drain_next (waiting_of q) ≡ Some (without_store (waiting_of q))
 drains q e = by q.sa.items q.sd.items e
   where
     inside : (b : Bool) → is_some (if b then Some (without_store (waiting_of q)) else None) ≡ true → (if b then Some (without_store (waiting_of q)) else None) ≡ Some (without_store (waiting_of q))
@@ -100,13 +100,13 @@ made_first f g w x h = rw h refl
 
 -- ---- after a drain
 
-pub after_drain : (q : Queues) (ld al : List Slot) (sa : List StoreCell) (sd : List Range) → sa ≡ rest q.sa.items → sd ≡ rest q.sd.items
+pub after_drain : (q : RangeQueues) (ld al : List LoadSlot) (sa : List StoreCell) (sd : List Range) → sa ≡ rest q.sa.items → sd ≡ rest q.sd.items
     → ld ≡ map aged q.ld.items → al ≡ map aged q.al.items
     → without_store (waiting_of q) ≡ record { ld = cells_of ld; al = cells_of al; sa = sa; sd = sd; ab = q.ab.items; eb = q.eb.items; cq = q.cq.items }
 after_drain q ld al sa sd h g e f = rw (h, g, e, f, cells_aged q.ld.items, cells_aged q.al.items) refl
 
 -- what holds of slots and stores after a drain
-pub kept_drained : (sa ta : List StoreCell) (ss ts : List Slot) → ta ≡ rest sa → ts ≡ map aged ss → AreKept sa ss → AreKept ta ts
+pub kept_drained : (sa ta : List StoreCell) (ss ts : List LoadSlot) → ta ≡ rest sa → ts ≡ map aged ss → AreKept sa ss → AreKept ta ts
 kept_drained sa ta ss ts e f h = rw (e, f) (all_aged sa ss h)
 
 pub few_drained : (sa ta : List StoreCell) → ta ≡ rest sa → length sa < 2 ^ 16 → length ta < 2 ^ 16

@@ -11,7 +11,7 @@ use Rattle.dae_ranges.specs.declared.Range.{Range}
 use Rattle.dae_ranges.specs.Ranges.{Has, single, any_word, is_single, each, decided}
 use Rattle.dae_ranges.proofs.Laws.{each_has, single_is, has_single, has_any, decided_is, below_has, from_has}
 use Rattle.dae_guard.specs.Nodes.{range_at, source, is_plain, with_range}
-use Rattle.dae_guard.specs.Moves.{Shape, Tests, Jumps, Plain, shape, test, goes_to, tells, against, result, Order, Free, Below, NotBelow, Equal, Unequal, order, first_kept, second_kept, narrowed, Outcome, told, either, outcomes_by}
+use Rattle.dae_guard.specs.Moves.{InstructionShape, Tests, Jumps, Plain, shape, test, goes_to, tells, against, result, Order, Free, Below, NotBelow, Equal, Unequal, order, first_kept, second_kept, narrowed, MoveOutcome, told, either, outcomes_by}
 use Rattle.dae_guard.specs.StandsFor.{Registers}
 use Rattle.dae_guard.proofs.Values.{result_has, plain_next, jump_next, Meets, other, Tested, tested, tells_small}
 
@@ -126,30 +126,30 @@ narrows o b first second x y rs xs v w h m p q e f = by (is_plain first && is_si
 
 -- ---- outcomes
 
-pub record Comes (rs : List Range) (xs : List ℕ) (x k : ℕ) (o : Outcome) : Type 0 where
+pub record Comes (rs : List Range) (xs : List ℕ) (x k : ℕ) (o : MoveOutcome) : Type 0 where
   pub value : Has o.value x
   pub counter : o.counter ≡ k
   pub registers : Registers o.registers xs
 
-abbrev pub AnyComes : List Range → List ℕ → ℕ → ℕ → List Outcome → Type 0
+abbrev pub AnyComes : List Range → List ℕ → ℕ → ℕ → List MoveOutcome → Type 0
 AnyComes rs xs x k [] = ⊥
 AnyComes rs xs x k (o ∷ os) = Comes rs xs x k o ⊎ AnyComes rs xs x k os
 
-pub comes : (i : Inst) (c : ℕ) (first second : ℕ) (x y : Range) (rs : List Range) (xs : List ℕ) (v w : ℕ) (os : List Outcome) → InRange i → Registers rs xs → Has x v → Has y w
+pub comes : (i : Inst) (c : ℕ) (first second : ℕ) (x y : Range) (rs : List Range) (xs : List ℕ) (v w : ℕ) (os : List MoveOutcome) → InRange i → Registers rs xs → Has x v → Has y w
     → (is_plain first ≡ true → v ≡ slice_index xs first) → (is_plain second ≡ true → w ≡ slice_index xs second)
     → (is_plain second ≡ true → other i w ≡ w) → outcomes_by (shape i) i c first second x y rs ≡ Some os → AnyComes rs xs (value i c v w) (next i c v w) os
 comes i c first second x y rs xs v w os r h p q e f own k = by (shape i) refl k where
-  by : (s : Shape) → shape i ≡ s → outcomes_by s i c first second x y rs ≡ Some os → AnyComes rs xs (value i c v w) (next i c v w) os
+  by : (s : InstructionShape) → shape i ≡ s → outcomes_by s i c first second x y rs ≡ Some os → AnyComes rs xs (value i c v w) (next i c v w) os
   by Plain s g =
       let is : record { value = result i c x y; counter = next i c 0 0; registers = rs } ∷ [] ≡ os = cc in
-      subst (λ (os : List Outcome). AnyComes rs xs (value i c v w) (next i c v w) os) is (inl (record { value = result_has i c v w x y r p q; counter = sym (plain_next i c v w s); registers = h }))
+      subst (λ (os : List MoveOutcome). AnyComes rs xs (value i c v w) (next i c v w) os) is (inl (record { value = result_has i c v w x y r p q; counter = sym (plain_next i c v w s); registers = h }))
   by Jumps s g =
-      let one : Outcome = record { value = result i c x y; counter = next i c x.lo 0; registers = rs } in
+      let one : MoveOutcome = record { value = result i c x y; counter = next i c x.lo 0; registers = rs } in
       let k = if_some_is (each (λ v. nat_eq (next i c v 0) (next i c x.lo 0)) x) (Some (one ∷ [])) os g in
       let k0 = each_has (λ v. nat_eq (next i c v 0) (next i c x.lo 0)) x v k.0 p in
       let same : next i c v 0 ≡ next i c x.lo 0 = grind (arith, nat_tests) in
       let is : one ∷ [] ≡ os = cc in
-      subst (λ (os : List Outcome). AnyComes rs xs (value i c v w) (next i c v w) os) is (inl (record { value = result_has i c v w x y r p q; counter = sym (jump_next i c v w s ∙ same); registers = h }))
+      subst (λ (os : List MoveOutcome). AnyComes rs xs (value i c v w) (next i c v w) os) is (inl (record { value = result_has i c v w x y r p q; counter = sym (jump_next i c v w s ∙ same); registers = h }))
   by Tests s g = go (decided (test i) x (against i y)) refl g
     where
       t : Tested i c v w y
@@ -169,12 +169,12 @@ comes i c first second x y rs xs v w os r h p q e f own k = by (shape i) refl k 
       go (Some b) l m =
           let is : told i c rs b ∷ [] ≡ os = cc in
           let b' : test i v w ≡ b = sym t.same ∙ decided_is (test i) x (against i y) v (other i w) b l p t.has in
-          subst (λ (os : List Outcome). AnyComes rs xs (value i c v w) (next i c v w) os) is (inl (told_is b rs b' h))
+          subst (λ (os : List MoveOutcome). AnyComes rs xs (value i c v w) (next i c v w) os) is (inl (told_is b rs b' h))
       go None l m = last (test i v w) refl
         where
           is : told i c (narrowed (order i) false first second x (against i y) rs) false ∷ (told i c (narrowed (order i) true first second x (against i y) rs) true ∷ []) ≡ os
           is = cc
 
           last : (b : Bool) → test i v w ≡ b → AnyComes rs xs (value i c v w) (next i c v w) os
-          last false n = subst (λ (os : List Outcome). AnyComes rs xs (value i c v w) (next i c v w) os) is (inl (told_is false (narrowed (order i) false first second x (against i y) rs) n (narrow false n)))
-          last true n = subst (λ (os : List Outcome). AnyComes rs xs (value i c v w) (next i c v w) os) is (inr (inl (told_is true (narrowed (order i) true first second x (against i y) rs) n (narrow true n))))
+          last false n = subst (λ (os : List MoveOutcome). AnyComes rs xs (value i c v w) (next i c v w) os) is (inl (told_is false (narrowed (order i) false first second x (against i y) rs) n (narrow false n)))
+          last true n = subst (λ (os : List MoveOutcome). AnyComes rs xs (value i c v w) (next i c v w) os) is (inr (inl (told_is true (narrowed (order i) true first second x (against i y) rs) n (narrow true n))))

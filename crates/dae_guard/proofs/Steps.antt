@@ -24,7 +24,7 @@ use Rattle.dae_certificate.specs.declared.SideNode.{SideNode}
 use Rattle.dae_guard.specs.Sets.{Node}
 use Rattle.dae_guard.specs.Sets.{Waiting}
 use Rattle.dae_guard.specs.Waiting.{allows, fill_first, fill_al, fill_ld, drain_next}
-use Rattle.dae_guard.specs.Moves.{Terms, private, After, on, did, with_access, with_inst, with_code_word, at_counter, moved, moved_a, moved_e, by_memory, or_else, next_nodes}
+use Rattle.dae_guard.specs.Moves.{Terms, private, SideAfter, on, did, with_access, with_inst, with_code_word, at_counter, moved, moved_a, moved_e, by_memory, or_else, next_nodes}
 use Rattle.dae_guard.specs.StandsFor.{StandsAt, IsSide, Wait, StandsFor, AnyStands, CodesFit, Advances}
 use Rattle.dae_guard.proofs.Does.{AnyAfter, does_any}
 use Rattle.dae_guard.proofs.Waits.{allowed}
@@ -97,7 +97,7 @@ fills_ld t n s ns h x =
 -- ---- the processors
 
 -- the move of a side that is sure
-pub record Moves (t : Terms) (side : Side) (p : Processor) (qs : Queues) (ms : List After) : Type 0 where
+pub record Moves (t : Terms) (side : Side) (p : Processor) (qs : Queues) (ms : List SideAfter) : Type 0 where
   pub result : Came × Queues
   pub is : move t.setup side p qs ≡ Some result
   pub stands : AnyAfter (private t side) ms result.0.0 result.1
@@ -121,7 +121,7 @@ granted_is : (setup : Setup) (side : Side) (p : Processor) (qs : Queues) (u : Qu
     → ready setup.depths u qs ≡ true → finish side p u i (form i) (peek u qs) ≡ Some came → move setup side p qs ≡ Some (came, commit u w qs)
 granted_is setup side p qs u w i came a r f = rw (a, r, f) refl
 
-pub moves : (t : Terms) (side : Side) (n : SideNode) (q : Waiting) (p : Processor) (s : State) (ms : List After) → CodesFit t → IsSide (private t side) n p → Wait q s.queues → IsCounted s → moved t side n q ≡ Some ms → Moves t side p s.queues ms
+pub moves : (t : Terms) (side : Side) (n : SideNode) (q : Waiting) (p : Processor) (s : State) (ms : List SideAfter) → CodesFit t → IsSide (private t side) n p → Wait q s.queues → IsCounted s → moved t side n q ≡ Some ms → Moves t side p s.queues ms
 moves t side n q p s ms fit h w c e =
     let a = and_then_some (at_counter t side n.registers q) n.counter ms e in
     let b = and_then_some (with_code_word t side n.registers a.0 q) (if a.0 % 4 == 0 then slice_get (code t.setup side) (a.0 / 4) else None) ms a.2 in
@@ -142,19 +142,19 @@ moves t side n q p s ms fit h w c e =
       stands = k.stands;
     }
 
-a_nodes : (t : Terms) (n : Node) (s u : State) (ms : List After) (p : Processor) → StandsFor t n s → u.a ≡ p → u.e ≡ s.e → u.memory ≡ s.memory → IsCounted u → AnyAfter t.private_a ms u.a u.queues → AnyStands t (map (λ (r : After). record { a = r.0; e = n.e; waiting = r.1 }) ms) u
+a_nodes : (t : Terms) (n : Node) (s u : State) (ms : List SideAfter) (p : Processor) → StandsFor t n s → u.a ≡ p → u.e ≡ s.e → u.memory ≡ s.memory → IsCounted u → AnyAfter t.private_a ms u.a u.queues → AnyStands t (map (λ (r : SideAfter). record { a = r.0; e = n.e; waiting = r.1 }) ms) u
 a_nodes t n s u [] p x ep ee em c h = absurd h
 a_nodes t n s u (m ∷ ms) p x ep ee em c (inl h) = inl (record { a = h.0; e = rw ee x.e; waiting = h.1; memory = rw em x.memory; counted = c })
 a_nodes t n s u (m ∷ ms) p x ep ee em c (inr h) = inr (a_nodes t n s u ms p x ep ee em c h)
 
-e_nodes : (t : Terms) (n : Node) (s u : State) (ms : List After) → StandsFor t n s → u.a ≡ s.a → u.memory ≡ s.memory → IsCounted u → AnyAfter t.private_e ms u.e u.queues → AnyStands t (map (λ (r : After). record { a = n.a; e = r.0; waiting = r.1 }) ms) u
+e_nodes : (t : Terms) (n : Node) (s u : State) (ms : List SideAfter) → StandsFor t n s → u.a ≡ s.a → u.memory ≡ s.memory → IsCounted u → AnyAfter t.private_e ms u.e u.queues → AnyStands t (map (λ (r : SideAfter). record { a = n.a; e = r.0; waiting = r.1 }) ms) u
 e_nodes t n s u [] x ea em c h = absurd h
 e_nodes t n s u (m ∷ ms) x ea em c (inl h) = inl (record { a = rw ea x.a; e = h.0; waiting = h.1; memory = rw em x.memory; counted = c })
 e_nodes t n s u (m ∷ ms) x ea em c (inr h) = inr (e_nodes t n s u ms x ea em c h)
 
 pub steps_a : (t : Terms) (n : Node) (s : State) (ns : List Node) → CodesFit t → moved_a t n ≡ Some ns → StandsFor t n s → Advances t s ns
 steps_a t n s ns fit h x =
-    let m = map_some_is (map (λ (r : After). record { a = r.0; e = n.e; waiting = r.1 })) (moved t A n.a n.waiting) ns h in
+    let m = map_some_is (map (λ (r : SideAfter). record { a = r.0; e = n.e; waiting = r.1 })) (moved t A n.a n.waiting) ns h in
     let g = moves t A n.a n.waiting s.a s m.0 fit x.a x.waiting x.counted m.1 in
     let u = came_a s g.result in
     let e : step t.setup s MoveA ≡ Some u = rw g.is refl in
@@ -167,7 +167,7 @@ steps_a t n s ns fit h x =
 
 pub steps_e : (t : Terms) (n : Node) (s : State) (ns : List Node) → CodesFit t → moved_e t n ≡ Some ns → StandsFor t n s → Advances t s ns
 steps_e t n s ns fit h x =
-    let m = map_some_is (map (λ (r : After). record { a = n.a; e = r.0; waiting = r.1 })) (moved t E n.e n.waiting) ns h in
+    let m = map_some_is (map (λ (r : SideAfter). record { a = n.a; e = r.0; waiting = r.1 })) (moved t E n.e n.waiting) ns h in
     let g = moves t E n.e n.waiting s.e s m.0 fit x.e x.waiting x.counted m.1 in
     let u = came_e s g.result in
     let e : step t.setup s MoveE ≡ Some u = rw g.is refl in

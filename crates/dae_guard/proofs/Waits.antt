@@ -14,7 +14,7 @@ use Rattle.dae_encode.specs.declared.QueueUse.TheVariants.{Nothing, Take, Push, 
 use Rattle.dae_queues.specs.declared.Slot.{Slot}
 use Rattle.dae_queues.specs.declared.StoreAt.{StoreAt}
 use Rattle.dae_queues.specs.Lists.{first, rest, first_value, holds, new_slot}
-use Rattle.dae_queues.specs.Numbers.{Counts}
+use Rattle.dae_queues.specs.Numbers.{CountsUp}
 use Rattle.dae_core.specs.Queues.{Queues, possible, peek, commit, count, front}
 use Rattle.dae_ranges.specs.declared.Range.{Range}
 use Rattle.dae_ranges.specs.Ranges.{Has}
@@ -121,7 +121,7 @@ given_has d (Load k kind) q qs h e = has_single 0 (omega arith)
 given_has d (StoreAddress width) q qs h e = has_single 0 (omega arith)
 
 -- so many numbers are counted
-pub how_many : (low high : ℕ) (ns : List ℕ) → Counts low ns high → low + length ns ≡ high
+pub how_many : (low high : ℕ) (ns : List ℕ) → CountsUp low ns high → low + length ns ≡ high
 how_many low high [] c = let e : low ≡ high = c in omega arith
 how_many low high (n ∷ ns) c = let r = how_many (low + 1) high ns c.1 in omega arith
 
@@ -130,7 +130,7 @@ length_of_map f [] = refl
 length_of_map f (x ∷ xs) = ap suc (length_of_map f xs)
 
 abbrev pub StoresCounted : Queues → Type 0
-StoresCounted qs = Counts qs.stores.drained (map (λ (a : StoreAt). a.number) qs.stores.sa) qs.stores.issued
+StoresCounted qs = CountsUp qs.stores.drained (map (λ (a : StoreAt). a.number) qs.stores.sa) qs.stores.issued
 
 new_is : (q : Waiting) (qs : Queues) (kind : LoadKind) (r : Range) (x n : ℕ) → Wait q qs → StoresCounted qs → Has r x → IsSlot qs.stores.drained (new_cell kind r q) (new_slot n kind x qs.stores.issued)
 new_is q qs kind r x n h c p =

@@ -5,24 +5,24 @@ use Rattle.dae_machine.specs.declared.Pick.{Pick}
 use Rattle.dae_machine.specs.Machine.{State, step, Runs, IsFinal}
 use Rattle.dae_machine.proofs.LawsOfRuns.{run-step}
 use Rattle.dae_guard.specs.Sets.{Node}
-use Rattle.dae_certificate.specs.declared.Known.{Known}
+use Rattle.dae_certificate.specs.declared.CertificateNode.{CertificateNode}
 use Rattle.dae_guard.specs.Nodes.{known_node, is_final, is_covered}
 use Rattle.dae_guard.specs.Moves.{Terms, next_nodes}
 use Rattle.dae_guard.specs.StandsFor.{StandsFor, AnyStands}
 use Rattle.dae_guard.specs.Walk.{Ends, after_next, walk}
 
 -- one of the certificate's nodes does
-abbrev pub IsKnown : Terms → List Known → State → Type 0
+abbrev pub IsKnown : Terms → List CertificateNode → State → Type 0
 IsKnown t certificate s = AnyStands t (map known_node certificate) s
 
 -- what is proved of one node
-pub record Sound (t : Terms) (certificate : List Known) : Type 0 where
+pub record Sound (t : Terms) (certificate : List CertificateNode) : Type 0 where
   pub final : (n : Node) (s : State) → is_final n ≡ true → StandsFor t n s → IsFinal t.setup s
   pub covered : (n : Node) (s : State) → is_covered certificate n ≡ true → StandsFor t n s → IsKnown t certificate s
   pub next : (n : Node) (s : State) (ns : List Node) → next_nodes t n ≡ Some ns → StandsFor t n s
       → (p : Pick) × (u : State) × (step t.setup s p ≡ Some u) × AnyStands t ns u
 
-module _ (t : Terms) (certificate : List Known) (sound : Sound t certificate) where
+module _ (t : Terms) (certificate : List CertificateNode) (sound : Sound t certificate) where
   -- a run of the state ends in a final state, or in a known one
   pub record Goes (s : State) : Type 0 where
     pub picks : List Pick

@@ -9,8 +9,8 @@ use Rattle.dae_guard.specs.Sets.{Cell, Waiting}
 use Rattle.dae_guard.specs.declared.StoreCell.{StoreCell}
 use Rattle.dae_guard.specs.Waiting.{drain_next, fill_al, fill_ld, touches}
 use Rattle.dae_guard.specs.Moves.{or_else}
-use Rattle.dae_guard.specs.declared.slots.Slot.{Slot}
-use Rattle.dae_guard.specs.declared.queues.Queues.{Queues}
+use Rattle.dae_guard.specs.declared.slots.LoadSlot.{LoadSlot}
+use Rattle.dae_guard.specs.declared.queues.RangeQueues.{RangeQueues}
 
 -- ---- ranges
 
@@ -24,7 +24,7 @@ AreProper rs = All IsProper rs
 
 -- ---- what waits
 
-abbrev pub cell_of : Slot → Cell
+abbrev pub cell_of : LoadSlot → Cell
 cell_of s = record {
   value = (if s.filled then Some (loaded_range s.kind) else None);
   addr = s.addr;
@@ -32,10 +32,10 @@ cell_of s = record {
   older = s.older;
 }
 
-abbrev pub cells_of : List Slot → List Cell
+abbrev pub cells_of : List LoadSlot → List Cell
 cells_of slots = map cell_of slots
 
-abbrev pub waiting_of : Queues → Waiting
+abbrev pub waiting_of : RangeQueues → Waiting
 waiting_of q = record {
   ld = cells_of q.ld.items;
   al = cells_of q.al.items;
@@ -47,15 +47,15 @@ waiting_of q = record {
 }
 
 -- of the older stores of a slot so many, from the oldest on, have no byte of it
-pub record IsKept (sa : List StoreCell) (s : Slot) : Type 0 where
+pub record IsKept (sa : List StoreCell) (s : LoadSlot) : Type 0 where
   pub older : s.older ≤ length sa
   pub clear : s.clear ≤ s.older
   pub none : list_any (touches (cell_of s)) (take s.clear sa) ≡ false
 
-abbrev pub AreKept : List StoreCell → List Slot → Type 0
+abbrev pub AreKept : List StoreCell → List LoadSlot → Type 0
 AreKept sa slots = All (IsKept sa) slots
 
-pub record QueuesHold (q : Queues) : Type 0 where
+pub record QueuesHold (q : RangeQueues) : Type 0 where
   pub ld : AreKept q.sa.items q.ld.items
   pub al : AreKept q.sa.items q.al.items
   pub few : length q.sa.items < 2 ^ 16
@@ -66,21 +66,21 @@ pub record QueuesHold (q : Queues) : Type 0 where
 -- ---- fills
 
 -- the slot waits, and no older store has a byte of it
-abbrev pub is_open : Slot → Bool
+abbrev pub is_open : LoadSlot → Bool
 is_open s = not s.filled && nat_eq s.clear s.older
 
 -- whether some older store has a byte of the slot is known
-abbrev pub IsTold : List StoreCell → Slot → Type 0
-IsTold sa s = not (list_any (touches (cell_of s)) (take s.older sa)) ≡ nat_eq s.clear s.older
+abbrev pub IsClearTold : List StoreCell → LoadSlot → Type 0
+IsClearTold sa s = not (list_any (touches (cell_of s)) (take s.older sa)) ≡ nat_eq s.clear s.older
 
 -- a slot after its older stores were looked at
-pub record Looked (sa : List StoreCell) (before after : List Slot) : Type 0 where
+pub record Looked (sa : List StoreCell) (before after : List LoadSlot) : Type 0 where
   pub cells : cells_of after ≡ cells_of before
   pub kept : AreKept sa after
-  pub told : All (IsTold sa) after
+  pub told : All (IsClearTold sa) after
 
 -- slots that are one store older
-abbrev pub aged : Slot → Slot
+abbrev pub aged : LoadSlot → LoadSlot
 aged s = record s { older = s.older - 1; clear = s.clear - 1 }
 
 -- ---- changes that are made where they can be
@@ -95,7 +95,7 @@ abbrev pub served : Waiting → Option Waiting
 served w = or_else (drain_next w) (or_else (fill_al w) (fill_ld w))
 
 -- a store address has room, whatever the depths are
-abbrev pub HasRoom : QueueUse → Queues → Type 0
+abbrev pub HasRoom : QueueUse → RangeQueues → Type 0
 HasRoom (StoreAddress width) q = length q.sa.items < 65535
 HasRoom Nothing q = Unit {0}
 HasRoom (Take k) q = Unit {0}

@@ -4,8 +4,8 @@ use Rattle.dae_base.specs.declared.Side.{Side}
 use Rattle.dae_base.specs.declared.Side.TheVariants.{A, E}
 use Rattle.dae_base.specs.Words.{word, signed, plus, width_of}
 use Rattle.dae_encode.specs.declared.QueueUse.{QueueUse}
-use Rattle.dae_encode.specs.declared.Form.{Form}
-use Rattle.dae_encode.specs.declared.Form.TheVariants.{Computes, Loads, Stores, Calls}
+use Rattle.dae_encode.specs.declared.InstructionForm.{InstructionForm}
+use Rattle.dae_encode.specs.declared.InstructionForm.TheVariants.{Computes, Loads, Stores, Calls}
 use Rattle.dae_encode.specs.declared.Inst.{Inst}
 use Rattle.dae_encode.specs.declared.Inst.TheVariants.{Jalr, Beq, Bne, Blt, Bge, Bltu, Bgeu, Addi, Slti, Sltiu, Andi, Slli, Add, Slt, Sltu}
 use Rattle.dae_encode.specs.Instructions.{form, value, next, flag}
@@ -33,13 +33,13 @@ private t E = t.private_e
 
 -- ---- what an instruction does with ranges
 
-pub data Shape : Type 0 where
-  Tests : Shape
-  Jumps : Shape
-  Plain : Shape
+pub data InstructionShape : Type 0 where
+  Tests : InstructionShape
+  Jumps : InstructionShape
+  Plain : InstructionShape
 
 -- branches and comparisons are decided by a test, a jump to a register by its target
-unfoldable pub shape : Inst → Shape
+unfoldable pub shape : Inst → InstructionShape
 shape (Beq x y imm) = Tests
 shape (Bne x y imm) = Tests
 shape (Blt x y imm) = Tests
@@ -154,23 +154,23 @@ narrowed o b first second x y rs =
 
 -- ---- an instruction
 
-pub record Outcome : Type 0 where
+pub record MoveOutcome : Type 0 where
   pub value : Range
   pub counter : ℕ
   pub registers : List Range
 
-abbrev pub told : Inst → ℕ → List Range → Bool → Outcome
+abbrev pub told : Inst → ℕ → List Range → Bool → MoveOutcome
 told i c rs b = record { value = single (tells i b); counter = goes_to i c b; registers = rs }
 
 abbrev pub either : Inst → ℕ → ℕ → ℕ → Range → Range → List Range → Option Bool
-    → List Outcome
+    → List MoveOutcome
 either i c first second x y rs (Some b) = told i c rs b ∷ []
 either i c first second x y rs None =
     told i c (narrowed (order i) false first second x y rs) false
     ∷ (told i c (narrowed (order i) true first second x y rs) true ∷ [])
 
-abbrev pub outcomes_by : Shape → Inst → ℕ → ℕ → ℕ → Range → Range → List Range
-    → Option (List Outcome)
+abbrev pub outcomes_by : InstructionShape → Inst → ℕ → ℕ → ℕ → Range → Range → List Range
+    → Option (List MoveOutcome)
 outcomes_by Tests i c first second x y rs =
     Some (either i c first second x (against i y) rs (decided (test i) x (against i y)))
 outcomes_by Jumps i c first second x y rs =
@@ -180,18 +180,18 @@ outcomes_by Jumps i c first second x y rs =
 outcomes_by Plain i c first second x y rs =
     Some (record { value = result i c x y; counter = next i c 0 0; registers = rs } ∷ [])
 
-abbrev pub After : Type 0
-After = SideNode × Waiting
+abbrev pub SideAfter : Type 0
+SideAfter = SideNode × Waiting
 
 abbrev pub on : ℕ → List Range → SideNode
 on c rs = record { counter = Some c; registers = rs }
 
 -- what comes of an instruction of a side, where it is sure
-abbrev pub did : Terms → Side → List Range → ℕ → Waiting → QueueUse → Inst → Form
-    → Option (List After)
+abbrev pub did : Terms → Side → List Range → ℕ → Waiting → QueueUse → Inst → InstructionForm
+    → Option (List SideAfter)
 did t side rs c q u i (Computes rd first second) =
     option_map
-    (map (λ (o : Outcome).
+    (map (λ (o : MoveOutcome).
     (on o.counter (with_range rd o.value o.registers), after_use u o.value q)))
     (outcomes_by (shape i) i c first second
     (source rs (given u q) first) (source rs (given u q) second) rs)
@@ -228,36 +228,36 @@ did t E rs c q u i Calls =
     else None
 
 abbrev pub with_access : Terms → Side → List Range → ℕ → Waiting → Inst → QueueUse
-    → Option (List After)
+    → Option (List SideAfter)
 with_access t side rs c q i u =
     if allows t.setup.depths u q then did t side rs c q u i (form i) else None
 
-abbrev pub with_inst : Terms → Side → List Range → ℕ → Waiting → Inst → Option (List After)
+abbrev pub with_inst : Terms → Side → List Range → ℕ → Waiting → Inst → Option (List SideAfter)
 with_inst t side rs c q i =
     option_and_then (with_access t side rs c q i) (queue_use t.setup.copies side (form i))
 
-abbrev pub with_code_word : Terms → Side → List Range → ℕ → Waiting → ℕ → Option (List After)
+abbrev pub with_code_word : Terms → Side → List Range → ℕ → Waiting → ℕ → Option (List SideAfter)
 with_code_word t side rs c q w = option_and_then (with_inst t side rs c q) (decode w)
 
-abbrev pub at_counter : Terms → Side → List Range → Waiting → ℕ → Option (List After)
+abbrev pub at_counter : Terms → Side → List Range → Waiting → ℕ → Option (List SideAfter)
 at_counter t side rs q c =
     option_and_then (with_code_word t side rs c q)
     (if c % 4 == 0 then slice_get (code t.setup side) (c / 4) else None)
 
 -- an instruction of a side, where it is sure
-abbrev pub moved : Terms → Side → SideNode → Waiting → Option (List After)
+abbrev pub moved : Terms → Side → SideNode → Waiting → Option (List SideAfter)
 moved t side n q = option_and_then (at_counter t side n.registers q) n.counter
 
 -- ---- the first sure pick
 
 abbrev pub moved_a : Terms → Node → Option (List Node)
 moved_a t n =
-    option_map (map (λ (r : After). record { a = r.0; e = n.e; waiting = r.1 }))
+    option_map (map (λ (r : SideAfter). record { a = r.0; e = n.e; waiting = r.1 }))
     (moved t A n.a n.waiting)
 
 abbrev pub moved_e : Terms → Node → Option (List Node)
 moved_e t n =
-    option_map (map (λ (r : After). record { a = n.a; e = r.0; waiting = r.1 }))
+    option_map (map (λ (r : SideAfter). record { a = n.a; e = r.0; waiting = r.1 }))
     (moved t E n.e n.waiting)
 
 abbrev pub by_memory : Node → Option Waiting → Option (List Node)

@@ -5,7 +5,7 @@ use Rattle.dae_certificate.specs.declared.SideNode.{SideNode}
 use Rattle.dae_guard.specs.Sets.{Cell}
 use Rattle.dae_guard.specs.Sets.{Waiting}
 use Rattle.dae_guard.specs.Sets.{Node}
-use Rattle.dae_certificate.specs.declared.Known.{Known}
+use Rattle.dae_certificate.specs.declared.CertificateNode.{CertificateNode}
 use Rattle.dae_ranges.specs.declared.Range.{Range}
 use Rattle.dae_ranges.specs.Ranges.{single, any_word, within}
 
@@ -69,11 +69,11 @@ abbrev pub side_within : SideNode → SideNode → Bool
 side_within outer n =
     same_counter outer.counter n.counter && registers_within 28 outer.registers n.registers
 
-abbrev pub covers : Node → Known → Bool
+abbrev pub covers : Node → CertificateNode → Bool
 covers n k = side_within k.a n.a && side_within k.e n.e
 
-abbrev pub is_covered : List Known → Node → Bool
+abbrev pub is_covered : List CertificateNode → Node → Bool
 is_covered certificate n = nothing_left n.waiting && list_any (covers n) certificate
 
-abbrev pub known_node : Known → Node
+abbrev pub known_node : CertificateNode → Node
 known_node k = record { a = k.a; e = k.e; waiting = nothing_waits }

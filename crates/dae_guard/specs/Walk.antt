@@ -6,7 +6,7 @@ use Rattle.dae_machine.specs.Opened.{setup_of}
 use Rattle.dae_ranges.specs.Ranges.{single}
 use Rattle.dae_certificate.specs.declared.SideNode.{SideNode}
 use Rattle.dae_guard.specs.Sets.{Node}
-use Rattle.dae_certificate.specs.declared.Known.{Known}
+use Rattle.dae_certificate.specs.declared.CertificateNode.{CertificateNode}
 use Rattle.dae_guard.specs.Nodes.{nothing_waits, is_final, is_covered, known_node}
 use Rattle.dae_guard.specs.Moves.{Terms, next_nodes}
 
@@ -40,7 +40,7 @@ abbrev pub after_next : Node → Option (List Node) → (List Node → Walked) �
 after_next n None go = Halts n.a.counter n.e.counter
 after_next n (Some ns) go = go ns
 
-unfoldable pub walk : Terms → List Known → ℕ → List Node → Walked
+unfoldable pub walk : Terms → List CertificateNode → ℕ → List Node → Walked
 walk t certificate fuel [] = Ends
 walk t certificate zero (n ∷ ahead) = Passes
 walk t certificate (suc fuel) (n ∷ ahead) =
@@ -49,7 +49,7 @@ walk t certificate (suc fuel) (n ∷ ahead) =
     else after_next n (next_nodes t n) (λ ns. walk t certificate fuel (ns ++ ahead)))
 
 -- a start, which is walked first and isn't asked whether it is covered
-abbrev pub walk_start : Terms → List Known → Node → Walked
+abbrev pub walk_start : Terms → List CertificateNode → Node → Walked
 walk_start t certificate n =
     if is_final n then Ends
     else after_next n (next_nodes t n) (λ ns. walk t certificate 9999 ns)
@@ -65,13 +65,13 @@ verdict_of k Ends others = others
 verdict_of k (Halts a e) others = NoStep k a e
 verdict_of k Passes others = TooLong k
 
-unfoldable pub verdict : Terms → List Known → ℕ → List Node → Verdict
+unfoldable pub verdict : Terms → List CertificateNode → ℕ → List Node → Verdict
 verdict t certificate k [] = Yes
 verdict t certificate k (n ∷ ns) =
     verdict_of k (walk_start t certificate n) (verdict t certificate (suc k) ns)
 
 -- the walks from the opened node and from the certificate's nodes
-abbrev pub guarded : Image → Depths → List Known → Verdict
+abbrev pub guarded : Image → Depths → List CertificateNode → Verdict
 guarded image depths certificate =
     verdict (terms_of image depths) certificate 0
     (opened_node image ∷ map known_node certificate)

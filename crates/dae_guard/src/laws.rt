@@ -5,7 +5,7 @@ ghost use Rattle.dae_image.specs.declared.Image.{Image};
 ghost use Rattle.dae_machine.specs.Machine.{State};
 ghost use Rattle.dae_guard.specs.Moves.{Terms, next_nodes};
 ghost use Rattle.dae_guard.specs.Never.{NeverStuck};
-ghost use Rattle.dae_certificate.specs.declared.Known.{Known};
+ghost use Rattle.dae_certificate.specs.declared.CertificateNode.{CertificateNode};
 ghost use Rattle.dae_guard.specs.Sets.{Node};
 ghost use Rattle.dae_guard.specs.StandsFor.{Advances, CodesFit, StandsFor};
 ghost use Rattle.dae_guard.specs.Walk.{guarded, Yes};
@@ -20,6 +20,6 @@ pub fn one_step_is_sound()
 /// Where the walks from the opened node and from each node of a certificate end well, no run is stuck, whatever common
 /// memory holds.
 pub fn walks_guard()
-    ensures { (image : Image) (depths : Depths) (certificate : List Known)
+    ensures { (image : Image) (depths : Depths) (certificate : List CertificateNode)
         → guarded image depths certificate ≡ Yes → NeverStuck image depths }
 {}

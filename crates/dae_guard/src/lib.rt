@@ -5,8 +5,8 @@
 #![tactic(auto)]
 
 pub use laws::{one_step_is_sound, walks_guard};
-pub use queues::{Queues, depth_of};
-pub use slots::Slot;
+pub use queues::{RangeQueues, depth_of};
+pub use slots::LoadSlot;
 
 mod laws;
 mod queues;

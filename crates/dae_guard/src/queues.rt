@@ -9,7 +9,7 @@ ghost use Rattle.dae_queues.specs.Lists.{rest};
 ghost use Rattle.dae_guard.specs.Drains.{is_free, may_drain};
 
 use crate::StoreCell;
-use crate::slots::{Slot, age, any_delays, fill};
+use crate::slots::{LoadSlot, age, any_delays, fill};
 use dae_base::{Depths, LoadKind, Queue};
 use dae_encode::QueueUse;
 use dae_ranges::Range;
@@ -17,9 +17,9 @@ use std::alloc::{AllocError, Global};
 
 /// What waits in the queues, oldest first.
 #[derive(Drop)]
-pub struct Queues {
-    pub ld: Vec<Slot>,
-    pub al: Vec<Slot>,
+pub struct RangeQueues {
+    pub ld: Vec<LoadSlot>,
+    pub al: Vec<LoadSlot>,
     pub sa: Vec<StoreCell>,
     pub sd: Vec<Range>,
     pub ab: Vec<Range>,
@@ -27,13 +27,13 @@ pub struct Queues {
     pub cq: Vec<Range>,
 }
 
-impl Queues {
+impl RangeQueues {
     /// Nothing waits.
-    pub fn new(alloc: Global) -> Queues
+    pub fn new(alloc: Global) -> RangeQueues
         ensures is { waiting_of result ≡ nothing_waits }
         ensures holds { QueuesHold result }
     {
-        Queues {
+        RangeQueues {
             ld: Vec::new(alloc),
             al: Vec::new(alloc),
             sa: Vec::new(alloc),
@@ -49,13 +49,13 @@ impl Queues {
     /// # Errors
     ///
     /// Memory was wanting.
-    pub fn try_clone(&self, alloc: Global) -> Result<Queues, AllocError>
+    pub fn try_clone(&self, alloc: Global) -> Result<RangeQueues, AllocError>
         requires { QueuesHold self.now }
         ensures is { IfOk result (λ q. waiting_of q ≡ waiting_of self.now) }
         ensures sa { IfOk result (λ q. q.sa.items ≡ self.now.sa.items) }
         ensures holds { IfOk result QueuesHold }
     {
-        Ok(Queues {
+        Ok(RangeQueues {
             ld: Vec::from_slice(alloc, self.ld.as_slice())?,
             al: Vec::from_slice(alloc, self.al.as_slice())?,
             sa: Vec::from_slice(alloc, self.sa.as_slice())?,
@@ -191,7 +191,7 @@ impl Queues {
             ≡ with_load queue kind addr (waiting_of self.old)) }
         ensures holds { OnOk result (QueuesHold self.new) }
     {
-        let slot = Slot {
+        let slot = LoadSlot {
             addr,
             kind,
             filled: false,
@@ -286,7 +286,7 @@ impl Queues {
 
 /// Whether the oldest of some stores has its address and its datum, and no waiting slot without older stores may have a
 /// byte of it.
-fn may_drain(sa: &[StoreCell], sd: &[Range], ld: &[Slot], al: &[Slot]) -> bool
+fn may_drain(sa: &[StoreCell], sd: &[Range], ld: &[LoadSlot], al: &[LoadSlot]) -> bool
     ensures { result ≡ may_drain sa.now sd.now ld.now al.now }
 {
     if sa.is_empty() {
@@ -300,7 +300,7 @@ fn may_drain(sa: &[StoreCell], sd: &[Range], ld: &[Slot], al: &[Slot]) -> bool
 }
 
 /// Whether no waiting slot without older stores may have a byte of the store.
-fn is_free(ld: &[Slot], al: &[Slot], store: &StoreCell) -> bool
+fn is_free(ld: &[LoadSlot], al: &[LoadSlot], store: &StoreCell) -> bool
     ensures { result ≡ is_free ld.now al.now store.now }
 {
     !any_delays(ld, store) && !any_delays(al, store)
@@ -316,7 +316,7 @@ fn drop_front<T: Drop>(items: &mut Vec<T>)
 }
 
 /// The word of the front slot, where it is filled.
-fn front_slot(slots: &[Slot]) -> Option<Range>
+fn front_slot(slots: &[LoadSlot]) -> Option<Range>
     ensures is { result ≡ front_cell (cells_of slots.now) }
     ensures proper { IfSome result IsProper }
 {
@@ -327,7 +327,7 @@ fn front_slot(slots: &[Slot]) -> Option<Range>
 }
 
 /// Whether each slot is filled.
-fn are_filled(slots: &[Slot]) -> bool
+fn are_filled(slots: &[LoadSlot]) -> bool
     ensures { result ≡ list_all (λ s. s.filled) slots.now }
 {
     slots.iter().all(|slot| slot.filled)

@@ -11,7 +11,7 @@ use dae_ranges::{Range, meet};
 /// A slot: its address, its kind, whether it is filled, how many of the waiting stores are older, and how many of these,
 /// from the oldest on, are known to have no byte of it. So its search for a store that meets it goes on where it ended.
 #[derive(Clone, Copy)]
-pub struct Slot {
+pub struct LoadSlot {
     pub addr: Range,
     pub kind: LoadKind,
     pub filled: bool,
@@ -19,7 +19,7 @@ pub struct Slot {
     pub clear: u16,
 }
 
-impl Slot {
+impl LoadSlot {
     /// Whether the slot and the store may have a byte in common.
     pub fn touches(&self, store: &StoreCell) -> bool
         ensures { result ≡ touches (cell_of self.now) store.now }
@@ -42,10 +42,10 @@ impl Slot {
     }
 
     /// The same slot after the oldest store has drained.
-    fn after_drain(&self) -> Slot
+    fn after_drain(&self) -> LoadSlot
         ensures { result ≡ aged self.now }
     {
-        Slot {
+        LoadSlot {
             addr: self.addr,
             kind: self.kind,
             filled: self.filled,
@@ -71,14 +71,14 @@ impl Slot {
 }
 
 /// Whether one of the slots waits without older stores and may have a byte of the store.
-pub fn any_delays(slots: &[Slot], store: &StoreCell) -> bool
+pub fn any_delays(slots: &[LoadSlot], store: &StoreCell) -> bool
     ensures { result ≡ list_any (λ s. delays store.now (cell_of s)) slots.now }
 {
     slots.iter().any(|slot| slot.delays(store))
 }
 
 /// Takes notice that the oldest store has drained.
-pub fn age(slots: &mut [Slot])
+pub fn age(slots: &mut [LoadSlot])
     ensures { slots.new ≡ map aged slots.old }
 {
     for slot in slots.iter_mut() {
@@ -88,7 +88,7 @@ pub fn age(slots: &mut [Slot])
 }
 
 /// Looks for each slot whether it meets an older store.
-fn look(slots: &mut [Slot], stores: &[StoreCell])
+fn look(slots: &mut [LoadSlot], stores: &[StoreCell])
     requires { AreKept stores.now slots.old }
     ensures { Looked stores.now slots.old slots.new }
 {
@@ -99,7 +99,7 @@ fn look(slots: &mut [Slot], stores: &[StoreCell])
 }
 
 /// The first slot that waits and meets no older store, where this is known of all.
-fn first_open(slots: &[Slot]) -> Option<usize>
+fn first_open(slots: &[LoadSlot]) -> Option<usize>
     ensures some { IfSome result (λ place. (place < length slots.now)
         × HoldsAt (λ s. is_open s ≡ true) slots.now place
         × AllWithin (λ s. is_open s ≡ false) slots.now 0 place) }
@@ -114,7 +114,7 @@ fn first_open(slots: &[Slot]) -> Option<usize>
 }
 
 /// Fills the first slot that may be filled, and says whether there was one.
-pub fn fill(slots: &mut [Slot], stores: &[StoreCell]) -> bool
+pub fn fill(slots: &mut [LoadSlot], stores: &[StoreCell]) -> bool
     requires { AreKept stores.now slots.old }
     ensures made { IsMade result (fill_first stores.now (cells_of slots.old))
         (cells_of slots.old) (cells_of slots.new) }

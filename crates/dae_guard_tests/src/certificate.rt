@@ -1,6 +1,6 @@
 //! Certificates: how many nodes a text has, and what it tells of a register.
 
-use dae_certificate::{CertificateError, Known, read};
+use dae_certificate::{CertificateError, CertificateNode, read};
 use dae_ranges::Range;
 use dae_rows::{number, part, told};
 use std::alloc::{AllocError, Global};
@@ -40,7 +40,7 @@ pub fn many_read(alloc: Global, row: &str) -> Result<String, AllocError> {
 }
 
 /// The range of register 17 of E in the first node.
-fn first_of_17(nodes: &[Known]) -> Option<Range> {
+fn first_of_17(nodes: &[CertificateNode]) -> Option<Range> {
     nodes.first()?.e.registers.as_slice().get(17).copied()
 }
 

@@ -10,10 +10,9 @@ use Rattle.dae_ranges.specs.Ranges.{single, decided}
 use Rattle.dae_ranges.proofs.Laws.{same_decided}
 use Rattle.dae_guard.specs.Moves as moves
 use Rattle.dae_guard.specs.Moves.{shape, test, order, against, goes_to, tells}
-use Rattle.dae_guard_walk.specs.declared.kinds.Test.TheVariants.{Equal, Unequal, Below, NotBelow, SignedBelow, NotSignedBelow}
-use Rattle.dae_guard_walk.specs.declared.kinds.Comparison.{Comparison}
-use Rattle.dae_guard_walk.specs.declared.kinds.Kind.{Kind}
-use Rattle.dae_guard_walk.specs.declared.kinds.Kind.TheVariants.{Tests, Jumps, Plain}
+use Rattle.dae_guard_walk.specs.declared.kinds.TestKind.TheVariants.{Equal, Unequal, Below, NotBelow, SignedBelow, NotSignedBelow}
+use Rattle.dae_guard_walk.specs.declared.kinds.InstructionKind.{InstructionKind}
+use Rattle.dae_guard_walk.specs.declared.kinds.InstructionKind.TheVariants.{Tests, Jumps, Plain}
 use Rattle.dae_guard_walk.specs.Kinds.{IsComparison, IsKind, compares}
 
 pub beq_is : (x y : ℕ) (imm : ℤ) → IsComparison (Beq x y imm) (record { test = Equal; immediate = None; offset = Some (word imm) })
@@ -49,8 +48,8 @@ unfolding shape test order against goes_to tells
 sltu_is rd x y = record { tests = refl; by_order = refl; by_second = λ z. refl; by_test = λ v w. refl; goes = λ c b. refl; told = λ b. refl }
 
 -- the kind of an instruction that is another
-pub kind_at : (i j : Inst) (k m : Kind) → i ≡ j → k ≡ m → IsKind j m → IsKind i k
-kind_at i j k m e f h = subst (λ (z : Kind). IsKind i z) (sym f) (subst (λ (z : Inst). IsKind z m) (sym e) h)
+pub kind_at : (i j : Inst) (k m : InstructionKind) → i ≡ j → k ≡ m → IsKind j m → IsKind i k
+kind_at i j k m e f h = subst (λ (z : InstructionKind). IsKind i z) (sym f) (subst (λ (z : Inst). IsKind z m) (sym e) h)
 
 -- the one word of a range
 one_word : (w j : ℕ) → j ≤ 0 → w + j * 1 ≡ w

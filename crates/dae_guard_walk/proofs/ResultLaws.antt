@@ -10,8 +10,8 @@ use Rattle.dae_ranges.specs.declared.Range.{Range}
 use Rattle.dae_ranges.specs.Ranges.{single, any_word, is_single, highest, decided, raised, scaled, shifted}
 use Rattle.dae_ranges.proofs.Laws.{below_by, decided_not}
 use Rattle.dae_guard.specs.Moves.{spread}
-use Rattle.dae_guard_walk.specs.declared.kinds.Test.{Test}
-use Rattle.dae_guard_walk.specs.declared.kinds.Test.TheVariants.{Equal, Unequal, Below, NotBelow, SignedBelow, NotSignedBelow}
+use Rattle.dae_guard_walk.specs.declared.kinds.TestKind.{TestKind}
+use Rattle.dae_guard_walk.specs.declared.kinds.TestKind.TheVariants.{Equal, Unequal, Below, NotBelow, SignedBelow, NotSignedBelow}
 use Rattle.dae_guard_walk.specs.Kinds.{compares}
 use Rattle.dae_guard.specs.Kept.{IsProper}
 use Rattle.dae_guard_walk.specs.Spots.{ShiftsOne}
@@ -59,7 +59,7 @@ open_second_not x n l h e =
     open_second x n (map_none (decided (λ v w. nat_lt v w) (single n) x) (sym (decided_not (λ v w. nat_lt v w) (single n) x l (low_small x h)) ∙ e))
 
 -- a test by the order of numbers
-abbrev pub Orders : Test → Type 0
+abbrev pub Orders : TestKind → Type 0
 Orders Below = Unit {0}
 Orders NotBelow = Unit {0}
 Orders Equal = ⊥
@@ -67,7 +67,7 @@ Orders Unequal = ⊥
 Orders SignedBelow = ⊥
 Orders NotSignedBelow = ⊥
 
-pub cut_first : (t : Test) (x : Range) (n : ℕ) → n < 2 ^ 32 → IsProper x → Orders t → decided (compares t) x (single n) ≡ None → (x.lo < n) × (n ≤ highest x)
+pub cut_first : (t : TestKind) (x : Range) (n : ℕ) → n < 2 ^ 32 → IsProper x → Orders t → decided (compares t) x (single n) ≡ None → (x.lo < n) × (n ≤ highest x)
 cut_first Below x n l h o e = open_first x n e
 cut_first NotBelow x n l h o e = open_first_not x n l h e
 cut_first Equal x n l h o e = absurd o
@@ -75,7 +75,7 @@ cut_first Unequal x n l h o e = absurd o
 cut_first SignedBelow x n l h o e = absurd o
 cut_first NotSignedBelow x n l h o e = absurd o
 
-pub cut_second : (t : Test) (x : Range) (n : ℕ) → n < 2 ^ 32 → IsProper x → Orders t → decided (compares t) (single n) x ≡ None → (x.lo < n + 1) × (n + 1 ≤ highest x)
+pub cut_second : (t : TestKind) (x : Range) (n : ℕ) → n < 2 ^ 32 → IsProper x → Orders t → decided (compares t) (single n) x ≡ None → (x.lo < n + 1) × (n + 1 ≤ highest x)
 cut_second Below x n l h o e = open_second x n e
 cut_second NotBelow x n l h o e = open_second_not x n l h e
 cut_second Equal x n l h o e = absurd o

@@ -12,9 +12,9 @@ use Rattle.dae_ranges.specs.Ranges.{Has, single, is_single, all_from, each, deci
 use Rattle.dae_ranges.proofs.Laws.{each_has, same_each}
 use Rattle.dae_guard.specs.Moves as moves
 use Rattle.dae_guard.specs.Moves.{shape, test, order, against, narrowed, told, either, outcomes_by}
-use Rattle.dae_guard_walk.specs.declared.kinds.Comparison.{Comparison}
-use Rattle.dae_guard_walk.specs.declared.sides.Fields.{Fields}
-use Rattle.dae_guard_walk.specs.Kinds.{IsComparison, compares, second_of}
+use Rattle.dae_guard_walk.specs.declared.kinds.TestInstruction.{TestInstruction}
+use Rattle.dae_guard_walk.specs.declared.sides.ComputeFields.{ComputeFields}
+use Rattle.dae_guard_walk.specs.Kinds.{IsComparison, compares, second_word}
 use Rattle.dae_guard.specs.Kept.{IsProper}
 use Rattle.dae_guard_walk.specs.Steps.{Left, told_of, told_by_test, either_told, tested_by}
 
@@ -45,10 +45,10 @@ decided_first f x y h = rw none refl
 
 -- ---- tests
 
-told_is : (i : Inst) (k : Comparison) (c rd : ℕ) (rs : List Range) (b : Bool) → IsComparison i k → told_of rd (told i c rs b) ≡ told_by_test k c rd rs b
+told_is : (i : Inst) (k : TestInstruction) (c rd : ℕ) (rs : List Range) (b : Bool) → IsComparison i k → told_of rd (told i c rs b) ≡ told_by_test k c rd rs b
 told_is i k c rd rs b h = rw (h.goes c b, h.told b) refl
 
-either_is : (i : Inst) (k : Comparison) (c : ℕ) (f : Fields) (rs : List Range) (x z : Range) (o : Option Bool) → IsComparison i k
+either_is : (i : Inst) (k : TestInstruction) (c : ℕ) (f : ComputeFields) (rs : List Range) (x z : Range) (o : Option Bool) → IsComparison i k
     → map (told_of f.target) (either i c f.first f.second x z rs o) ≡ either_told k c f rs x z o
 either_is i k c f rs x z (Some b) h = ap (λ (l : Left). l ∷ []) (told_is i k c f.target rs b h)
 either_is i k c f rs x z None h =
@@ -56,10 +56,10 @@ either_is i k c f rs x z None h =
     let yes = told_is i k c f.target (narrowed (order i) true f.first f.second x z rs) true h in
     rw (no, yes, h.by_order) refl
 
-pub tests_are : (i : Inst) (k : Comparison) (c : ℕ) (f : Fields) (rs : List Range) (x y : Range) → IsComparison i k
-    → option_map (map (told_of f.target)) (outcomes_by (shape i) i c f.first f.second x y rs) ≡ Some (tested_by k c f rs x (second_of k.immediate y))
+pub tests_are : (i : Inst) (k : TestInstruction) (c : ℕ) (f : ComputeFields) (rs : List Range) (x y : Range) → IsComparison i k
+    → option_map (map (told_of f.target)) (outcomes_by (shape i) i c f.first f.second x y rs) ≡ Some (tested_by k c f rs x (second_word k.immediate y))
 tests_are i k c f rs x y h =
-    let same : decided (test i) x (against i y) ≡ decided (compares k.test) x (second_of k.immediate y) = h.by_test x y ∙ ap (decided (compares k.test) x) (h.by_second y) in
+    let same : decided (test i) x (against i y) ≡ decided (compares k.test) x (second_word k.immediate y) = h.by_test x y ∙ ap (decided (compares k.test) x) (h.by_second y) in
     let one = either_is i k c f rs x (against i y) (decided (test i) x (against i y)) h in
     rw h.tests (ap Some (one ∙ rw (same, h.by_second y) refl))
 
@@ -118,8 +118,8 @@ two_targets i c x h = rw h (first (nat_eq (next i c x.lo 0) (next i c x.lo 0)) (
     first false b e = absurd cc
 
 -- an instruction that tests, by its parts
-pub tests_so : (i : Inst) (k : Comparison) (c : ℕ) (f : Fields) (rs : List Range) (x y z a b : Range) (l : List Left) → IsComparison i k → x ≡ a → y ≡ b
-    → z ≡ second_of k.immediate y → l ≡ tested_by k c f rs x z
+pub tests_so : (i : Inst) (k : TestInstruction) (c : ℕ) (f : ComputeFields) (rs : List Range) (x y z a b : Range) (l : List Left) → IsComparison i k → x ≡ a → y ≡ b
+    → z ≡ second_word k.immediate y → l ≡ tested_by k c f rs x z
     → Some l ≡ option_map (map (told_of f.target)) (outcomes_by (shape i) i c f.first f.second a b rs)
 tests_so i k c f rs x y z a b l h e g m n =
     ap Some (n ∙ ap (tested_by k c f rs x) m)

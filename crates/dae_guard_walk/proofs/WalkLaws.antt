@@ -10,12 +10,12 @@ use Rattle.dae_encode.specs.declared.QueueUse.{QueueUse}
 use Rattle.dae_ranges.specs.declared.Range.{Range}
 use Rattle.dae_ranges.specs.Ranges.{any_word, within}
 use Rattle.dae_guard.specs.Sets.{Node, Waiting}
-use Rattle.dae_certificate.specs.declared.Known.{Known}
+use Rattle.dae_certificate.specs.declared.CertificateNode.{CertificateNode}
 use Rattle.dae_guard.specs.Nodes.{is_covered, is_final, range_at, registers_within}
 use Rattle.dae_guard.specs.Walk.{Walked, Ends, Halts, Passes, after_next, walk, walk_start}
 use Rattle.dae_guard.specs.Waiting.{drain_next, fill_al, fill_ld}
-use Rattle.dae_guard.specs.Moves.{After, Terms, by_memory, moved, moved_a, moved_e, next_nodes, or_else}
-use Rattle.dae_guard_walk.specs.declared.walking.Spot.{Spot}
+use Rattle.dae_guard.specs.Moves.{SideAfter, Terms, by_memory, moved, moved_a, moved_e, next_nodes, or_else}
+use Rattle.dae_guard_walk.specs.declared.walking.NodeSpot.{NodeSpot}
 use Rattle.dae_guard.specs.Kept.{served}
 use Rattle.dae_guard_walk.specs.Spots.{Holds, node_of, nodes_of}
 use Rattle.dae_guard_walk.specs.Steps.{GoesOn, Left, entered, entered_node, listed, stepped}
@@ -27,7 +27,7 @@ use Rattle.dae_guard_walk.specs.Picks.{afters, nodes_after}
 
 -- ---- the stack
 
-pub nodes_more : (ss : List Spot) (s : Spot) → nodes_of (ss ++ s ∷ []) ≡ node_of s ∷ nodes_of ss
+pub nodes_more : (ss : List NodeSpot) (s : NodeSpot) → nodes_of (ss ++ s ∷ []) ≡ node_of s ∷ nodes_of ss
 nodes_more ss s = ap (map node_of) (reverse-append ss (s ∷ []))
 
 -- ---- picks
@@ -54,11 +54,11 @@ next_steps t n e = by (drain_next n.waiting) (fill_al n.waiting) (fill_ld n.wait
     by None None (Some x) e = absurd cc
     by None None None e = refl
 
-enters_a : (access : QueueUse) (n : Node) (ls : List Left) → map (λ (r : After). record { a = r.0; e = n.e; waiting = r.1 }) (map (entered access n.waiting) ls) ≡ map (entered_node A access n) ls
+enters_a : (access : QueueUse) (n : Node) (ls : List Left) → map (λ (r : SideAfter). record { a = r.0; e = n.e; waiting = r.1 }) (map (entered access n.waiting) ls) ≡ map (entered_node A access n) ls
 enters_a access n [] = refl
 enters_a access n (l ∷ ls) = ap (λ (ns : List Node). entered_node A access n l ∷ ns) (enters_a access n ls)
 
-enters_e : (access : QueueUse) (n : Node) (ls : List Left) → map (λ (r : After). record { a = n.a; e = r.0; waiting = r.1 }) (map (entered access n.waiting) ls) ≡ map (entered_node E access n) ls
+enters_e : (access : QueueUse) (n : Node) (ls : List Left) → map (λ (r : SideAfter). record { a = n.a; e = r.0; waiting = r.1 }) (map (entered access n.waiting) ls) ≡ map (entered_node E access n) ls
 enters_e access n [] = refl
 enters_e access n (l ∷ ls) = ap (λ (ns : List Node). entered_node E access n l ∷ ns) (enters_e access n ls)
 
@@ -133,21 +133,21 @@ none_of_all p xs i l h = sym (ap (list_any p) (sym (take_all i xs l)) ∙ h)
 
 -- ---- the walk
 
-walks_nil : (t : Terms) (certificate : List Known) (fuel : ℕ) → walk t certificate fuel [] ≡ Ends
+walks_nil : (t : Terms) (certificate : List CertificateNode) (fuel : ℕ) → walk t certificate fuel [] ≡ Ends
 unfolding walk
 walks_nil t certificate zero = refl
 walks_nil t certificate (suc fuel) = refl
 
-pub ends_nil : (t : Terms) (certificate : List Known) (fuel : ℕ) (ns : List Node) (w : Walked) → ns ≡ [] → walk t certificate fuel ns ≡ w → w ≡ Ends
+pub ends_nil : (t : Terms) (certificate : List CertificateNode) (fuel : ℕ) (ns : List Node) (w : Walked) → ns ≡ [] → walk t certificate fuel ns ≡ w → w ≡ Ends
 ends_nil t certificate fuel ns w e h = sym h ∙ (ap (walk t certificate fuel) e ∙ walks_nil t certificate fuel)
 
-pub passes_more : (t : Terms) (certificate : List Known) (ns : List Node) (w : Walked) → 0 < length ns → walk t certificate 0 ns ≡ w → w ≡ Passes
+pub passes_more : (t : Terms) (certificate : List CertificateNode) (ns : List Node) (w : Walked) → 0 < length ns → walk t certificate 0 ns ≡ w → w ≡ Passes
 unfolding walk
 passes_more t certificate [] w l h = absurd (omega arith)
 passes_more t certificate (n ∷ ns) w l h = sym h
 
 -- a final or covered node is left behind
-pub walks_past : (t : Terms) (certificate : List Known) (fuel rest : ℕ) (n : Node) (ns ms : List Node) (w : Walked) → fuel ≡ suc rest → ms ≡ n ∷ ns
+pub walks_past : (t : Terms) (certificate : List CertificateNode) (fuel rest : ℕ) (n : Node) (ns ms : List Node) (w : Walked) → fuel ≡ suc rest → ms ≡ n ∷ ns
     → (is_final n || is_covered certificate n) ≡ true → walk t certificate fuel ms ≡ w → walk t certificate rest ns ≡ w
 unfolding walk
 walks_past t certificate fuel rest n ns ms w f e h k = by (is_final n) (is_covered certificate n) h (rw (f, e) at k)
@@ -159,7 +159,7 @@ walks_past t certificate fuel rest n ns ms w f e h k = by (is_final n) (is_cover
     by false true g m = m
     by false false g m = absurd cc
 
-walks_into : (t : Terms) (certificate : List Known) (fuel rest : ℕ) (n : Node) (ns ms : List Node) (w : Walked) → fuel ≡ suc rest → ms ≡ n ∷ ns
+walks_into : (t : Terms) (certificate : List CertificateNode) (fuel rest : ℕ) (n : Node) (ns ms : List Node) (w : Walked) → fuel ≡ suc rest → ms ≡ n ∷ ns
     → (is_final n || is_covered certificate n) ≡ false → walk t certificate fuel ms ≡ w
     → after_next n (next_nodes t n) (λ os. walk t certificate rest (os ++ ns)) ≡ w
 unfolding walk
@@ -173,25 +173,25 @@ walks_into t certificate fuel rest n ns ms w f e h k = by (is_final n) (is_cover
     by false false g m = m
 
 -- the nodes behind another are walked before those ahead
-pub walks_on : (t : Terms) (certificate : List Known) (fuel rest : ℕ) (n : Node) (ns ms os : List Node) (w : Walked) → fuel ≡ suc rest → ms ≡ n ∷ ns
+pub walks_on : (t : Terms) (certificate : List CertificateNode) (fuel rest : ℕ) (n : Node) (ns ms os : List Node) (w : Walked) → fuel ≡ suc rest → ms ≡ n ∷ ns
     → (is_final n || is_covered certificate n) ≡ false → GoesOn true (next_nodes t n) ns os → walk t certificate fuel ms ≡ w → walk t certificate rest os ≡ w
 walks_on t certificate fuel rest n ns ms os w f e h g k =
     rw g.2 (subst (λ (o : Option (List Node)). after_next n o (λ ps. walk t certificate rest (ps ++ ns)) ≡ w) g.1 (walks_into t certificate fuel rest n ns ms w f e h k))
 
-pub walks_halt : (t : Terms) (certificate : List Known) (fuel rest : ℕ) (n : Node) (ns ms : List Node) (w : Walked) → fuel ≡ suc rest → ms ≡ n ∷ ns
+pub walks_halt : (t : Terms) (certificate : List CertificateNode) (fuel rest : ℕ) (n : Node) (ns ms : List Node) (w : Walked) → fuel ≡ suc rest → ms ≡ n ∷ ns
     → (is_final n || is_covered certificate n) ≡ false → next_nodes t n ≡ None → walk t certificate fuel ms ≡ w → Halts n.a.counter n.e.counter ≡ w
 walks_halt t certificate fuel rest n ns ms w f e h g k =
     subst (λ (o : Option (List Node)). after_next n o (λ ps. walk t certificate rest (ps ++ ns)) ≡ w) g (walks_into t certificate fuel rest n ns ms w f e h k)
 
 -- ---- starts
 
-pub starts_final : (t : Terms) (certificate : List Known) (n : Node) → is_final n ≡ true → Ends ≡ walk_start t certificate n
+pub starts_final : (t : Terms) (certificate : List CertificateNode) (n : Node) → is_final n ≡ true → Ends ≡ walk_start t certificate n
 starts_final t certificate n h = rw h refl
 
-pub starts_halt : (t : Terms) (certificate : List Known) (n : Node) → is_final n ≡ false → next_nodes t n ≡ None → Halts n.a.counter n.e.counter ≡ walk_start t certificate n
+pub starts_halt : (t : Terms) (certificate : List CertificateNode) (n : Node) → is_final n ≡ false → next_nodes t n ≡ None → Halts n.a.counter n.e.counter ≡ walk_start t certificate n
 starts_halt t certificate n h g = rw (h, g) refl
 
-pub starts_on : (t : Terms) (certificate : List Known) (n : Node) (os : List Node) → is_final n ≡ false → GoesOn true (next_nodes t n) [] os
+pub starts_on : (t : Terms) (certificate : List CertificateNode) (n : Node) (os : List Node) → is_final n ≡ false → GoesOn true (next_nodes t n) [] os
     → walk t certificate 9999 os ≡ walk_start t certificate n
 starts_on t certificate n os h g =
     let all : os ≡ g.0 = g.2 ∙ append-nil g.0 in
@@ -203,14 +203,14 @@ starts_on t certificate n os h g =
 pub with_waiting : (n : Node) (w : Waiting) → w ≡ n.waiting → n ≡ record n { waiting = w }
 with_waiting n w e = subst (λ (v : Waiting). n ≡ record n { waiting = v }) (sym e) refl
 
-pub stack_end : (t : Terms) (certificate : List Known) (fuel : ℕ) (ns : List Node) → ns ≡ [] → Ends ≡ walk t certificate fuel ns
+pub stack_end : (t : Terms) (certificate : List CertificateNode) (fuel : ℕ) (ns : List Node) → ns ≡ [] → Ends ≡ walk t certificate fuel ns
 stack_end t certificate fuel ns e = sym (ends_nil t certificate fuel ns (walk t certificate fuel ns) e refl)
 
-pub visit_past : (t : Terms) (certificate : List Known) (fuel : ℕ) (n : Node) (ns : List Node) → (is_final n || is_covered certificate n) ≡ true
+pub visit_past : (t : Terms) (certificate : List CertificateNode) (fuel : ℕ) (n : Node) (ns : List Node) → (is_final n || is_covered certificate n) ≡ true
     → walk t certificate fuel ns ≡ walk t certificate (suc fuel) (n ∷ ns)
 visit_past t certificate fuel n ns h = walks_past t certificate (suc fuel) fuel n ns (n ∷ ns) (walk t certificate (suc fuel) (n ∷ ns)) refl refl h refl
 
-pub visit_on : (t : Terms) (certificate : List Known) (fuel : ℕ) (n : Node) (ns os : List Node) (o : Option Kept) → (is_final n || is_covered certificate n) ≡ false
+pub visit_on : (t : Terms) (certificate : List CertificateNode) (fuel : ℕ) (n : Node) (ns os : List Node) (o : Option Kept) → (is_final n || is_covered certificate n) ≡ false
     → WentOn o n (next_nodes t n) ns os → Visits o (walk t certificate (suc fuel) (n ∷ ns)) (walk t certificate fuel os)
 visit_on t certificate fuel n ns os None h g =
     walks_on t certificate (suc fuel) fuel n ns (n ∷ ns) os (walk t certificate (suc fuel) (n ∷ ns)) refl refl h g refl
@@ -219,12 +219,12 @@ visit_on t certificate fuel n ns os (Some w) h g =
 
 -- ---- from a start
 
-pub start_on : (t : Terms) (certificate : List Known) (n : Node) (o : Option Kept) (old os : List Node) (w : Walked) → is_final n ≡ false → old ≡ [] → o ≡ None
+pub start_on : (t : Terms) (certificate : List CertificateNode) (n : Node) (o : Option Kept) (old os : List Node) (w : Walked) → is_final n ≡ false → old ≡ [] → o ≡ None
     → WentOn o n (next_nodes t n) old os → w ≡ walk t certificate 9999 os → w ≡ walk_start t certificate n
 start_on t certificate n o old os w h e f g k =
     k ∙ starts_on t certificate n os h (subst (λ (ns : List Node). GoesOn true (next_nodes t n) ns os) e (subst (λ (p : Option Kept). WentOn p n (next_nodes t n) old os) f g))
 
-pub start_halts : (t : Terms) (certificate : List Known) (n : Node) (o : Option Kept) (old os : List Node) (w : Kept) → is_final n ≡ false → o ≡ Some w
+pub start_halts : (t : Terms) (certificate : List CertificateNode) (n : Node) (o : Option Kept) (old os : List Node) (w : Kept) → is_final n ≡ false → o ≡ Some w
     → WentOn o n (next_nodes t n) old os → walked_of w ≡ walk_start t certificate n
 start_halts t certificate n o old os w h f g =
     let halts = subst (λ (p : Option Kept). WentOn p n (next_nodes t n) old os) f g in
@@ -235,7 +235,7 @@ start_halts t certificate n o old os w h f g =
 left_over : (i : ℕ) → i < 9999 → suc (9999 - (i + 1)) ≡ 9999 - i
 left_over i l = omega arith
 
-pub stops_here : (t : Terms) (certificate : List Known) (i : ℕ) (old new : List Node) (o : Option Kept) (w : Kept) (whole : Walked) → i < 9999 → o ≡ Some w
+pub stops_here : (t : Terms) (certificate : List CertificateNode) (i : ℕ) (old new : List Node) (o : Option Kept) (w : Kept) (whole : Walked) → i < 9999 → o ≡ Some w
     → ((fuel : ℕ) → Visits o (walk t certificate (suc fuel) old) (walk t certificate fuel new)) → walk t certificate (9999 - i) old ≡ whole → walked_of w ≡ whole
 stops_here t certificate i old new o w whole l e h k =
     subst (λ (p : Option Kept). Visits p (walk t certificate (suc (9999 - (i + 1))) old) (walk t certificate (9999 - (i + 1)) new)) e (h (9999 - (i + 1)))
@@ -245,7 +245,7 @@ pub no_some : {X : Type 0} (o : Option X) → ((x : X) → o ≡ Some x → ⊥)
 no_some None h = refl
 no_some (Some x) h = absurd (h x refl)
 
-pub turns_on : (t : Terms) (certificate : List Known) (i : ℕ) (old new : List Node) (o : Option Kept) (whole : Walked) → i < 9999 → ((w : Kept) → o ≡ Some w → ⊥)
+pub turns_on : (t : Terms) (certificate : List CertificateNode) (i : ℕ) (old new : List Node) (o : Option Kept) (whole : Walked) → i < 9999 → ((w : Kept) → o ≡ Some w → ⊥)
     → ((fuel : ℕ) → Visits o (walk t certificate (suc fuel) old) (walk t certificate fuel new)) → walk t certificate (9999 - i) old ≡ whole
     → walk t certificate (9999 - (i + 1)) new ≡ whole
 turns_on t certificate i old new o whole l e h k =
@@ -255,14 +255,14 @@ turns_on t certificate i old new o whole l e h k =
 nothing_over : (i : ℕ) → 9999 ≤ i → 9999 - i ≡ 0
 nothing_over i l = omega arith
 
-none_stacked : (ss : List Spot) → length ss ≡ 0 → nodes_of ss ≡ []
+none_stacked : (ss : List NodeSpot) → length ss ≡ 0 → nodes_of ss ≡ []
 none_stacked [] e = refl
 none_stacked (s ∷ ss) e = absurd (omega arith)
 
-pub ends_here : (t : Terms) (certificate : List Known) (i : ℕ) (ss : List Spot) (whole : Walked) → length ss ≡ 0 → walk t certificate (9999 - i) (nodes_of ss) ≡ whole → Ends ≡ whole
+pub ends_here : (t : Terms) (certificate : List CertificateNode) (i : ℕ) (ss : List NodeSpot) (whole : Walked) → length ss ≡ 0 → walk t certificate (9999 - i) (nodes_of ss) ≡ whole → Ends ≡ whole
 ends_here t certificate i ss whole e h = sym (ends_nil t certificate (9999 - i) (nodes_of ss) whole (none_stacked ss e) h)
 
-pub passes_here : (t : Terms) (certificate : List Known) (i : ℕ) (ss : List Spot) (whole : Walked) → 9999 ≤ i → 0 < length ss → walk t certificate (9999 - i) (nodes_of ss) ≡ whole
+pub passes_here : (t : Terms) (certificate : List CertificateNode) (i : ℕ) (ss : List NodeSpot) (whole : Walked) → 9999 ≤ i → 0 < length ss → walk t certificate (9999 - i) (nodes_of ss) ≡ whole
     → Passes ≡ whole
 passes_here t certificate i ss whole l m h =
     let some : 0 < length (nodes_of ss) = omega (arith, length-map (reverse ss) node_of, length-reverse ss) in
@@ -270,10 +270,10 @@ passes_here t certificate i ss whole l m h =
 
 -- ---- the stack's last node
 
-pub taken : (o : Option Spot) (old new : List Spot) → old ≡ new ++ option_to_list o → All Holds old → IfSome o (λ s. (nodes_of old ≡ node_of s ∷ nodes_of new) × Holds s)
+pub taken : (o : Option NodeSpot) (old new : List NodeSpot) → old ≡ new ++ option_to_list o → All Holds old → IfSome o (λ s. (nodes_of old ≡ node_of s ∷ nodes_of new) × Holds s)
 taken None old new e h = tt
 taken (Some s) old new e h = (ap nodes_of e ∙ nodes_more new s, subst Holds (get_or_at new s [] s (length new) refl) (subst (All Holds) e h (length new) s (omega (arith, length-append new (s ∷ [])))))
 
-pub kept_front : (o : Option Spot) (old new : List Spot) → old ≡ new ++ option_to_list o → All Holds old → All Holds new
+pub kept_front : (o : Option NodeSpot) (old new : List NodeSpot) → old ≡ new ++ option_to_list o → All Holds old → All Holds new
 kept_front o old new e h k d l =
     subst Holds (get_or_append_left new (option_to_list o) d k l) (subst (All Holds) e h k d (omega (arith, length-append new (option_to_list o))))

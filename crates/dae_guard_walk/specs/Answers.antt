@@ -5,7 +5,7 @@ use Rattle.dae_base.specs.declared.Depths.{Depths}
 use Rattle.dae_base.specs.Budgets.{depth, first_below}
 use Rattle.dae_image.specs.declared.Image.{Image}
 use Rattle.dae_certificate.specs.declared.SideNode.{SideNode}
-use Rattle.dae_certificate.specs.declared.Known.{Known}
+use Rattle.dae_certificate.specs.declared.CertificateNode.{CertificateNode}
 use Rattle.dae_certificate.specs.Certificates.{Certifies, IsBadLine}
 use Rattle.dae_guard.specs.Walk.{Verdict, guarded}
 use Rattle.dae_guard.specs.Walk as walks
@@ -22,11 +22,11 @@ pub record KnownHolds (s : SideNode) : Type 0 where
   pub count : length s.registers ≡ 28
   pub proper : AreProper s.registers
 
-pub record BothHold (k : Known) : Type 0 where
+pub record BothHold (k : CertificateNode) : Type 0 where
   pub a : KnownHolds k.a
   pub e : KnownHolds k.e
 
-abbrev pub AreKnown : List Known → Type 0
+abbrev pub AreKnown : List CertificateNode → Type 0
 AreKnown certificate = All BothHold certificate
 
 -- ---- walks
@@ -57,7 +57,7 @@ says Memory v = ⊥
 abbrev pub ComesTo : Image → Depths → List ℕ → Verdict → Type 0
 ComesTo image depths text verdict =
     (first_below depths image.budget ≡ None)
-    × ((nodes : List Known) × Certifies text nodes × (guarded image depths nodes ≡ verdict))
+    × ((nodes : List CertificateNode) × Certifies text nodes × (guarded image depths nodes ≡ verdict))
 
 -- when an answer is due: the first queue whose depth is below the budget, with both; the first line
 -- that may not stand there; what the walks come to; and at any time that memory was wanting

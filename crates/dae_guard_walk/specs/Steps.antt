@@ -11,14 +11,13 @@ use Rattle.dae_certificate.specs.declared.SideNode.{SideNode}
 use Rattle.dae_guard.specs.Sets.{Node, Waiting}
 use Rattle.dae_guard.specs.Nodes.{range_at, source, with_range}
 use Rattle.dae_guard.specs.Waiting.{after_use}
-use Rattle.dae_guard.specs.Moves.{After, Terms, moved_a, moved_e, narrowed, on, or_else}
+use Rattle.dae_guard.specs.Moves.{SideAfter, Terms, moved_a, moved_e, narrowed, on, or_else}
 use Rattle.dae_guard.specs.Moves as moves
-use Rattle.dae_guard_walk.specs.declared.kinds.Comparison.{Comparison}
-use Rattle.dae_guard_walk.specs.declared.sides.Fields.{Fields}
-use Rattle.dae_guard_walk.specs.declared.sides.Outcome.{Outcome}
+use Rattle.dae_guard_walk.specs.declared.kinds.TestInstruction.{TestInstruction}
+use Rattle.dae_guard_walk.specs.declared.sides.ComputeFields.{ComputeFields}
+use Rattle.dae_guard_walk.specs.declared.sides.SideOutcome.{SideOutcome}
 use Rattle.dae_guard_walk.specs.declared.sides.Outcomes.{Outcomes}
 use Rattle.dae_guard_walk.specs.declared.sides.SideSpot.{SideSpot}
-use Rattle.dae_guard_walk.specs.declared.walking.Spot.{Spot}
 use Rattle.dae_guard_walk.specs.Kinds.{compares, goes_by, order_of, told_by}
 use Rattle.dae_guard.specs.Kept.{AreProper, IsProper}
 use Rattle.dae_guard_walk.specs.Spots.{nodes_of, side_of}
@@ -27,10 +26,10 @@ use Rattle.dae_guard_walk.specs.Spots.{nodes_of, side_of}
 abbrev pub Left : Type 0
 Left = SideNode × Range
 
-abbrev pub left_of : Outcome → Left
+abbrev pub left_of : SideOutcome → Left
 left_of o = (side_of o.side, o.pushed)
 
-abbrev pub second_left : Option Outcome → List Left
+abbrev pub second_left : Option SideOutcome → List Left
 second_left None = []
 second_left (Some o) = left_of o ∷ []
 
@@ -38,19 +37,19 @@ abbrev pub listed : Outcomes → List Left
 listed o = left_of o.first ∷ second_left o.second
 
 -- an outcome in the words of the definitions, with its result in the target
-abbrev pub told_of : ℕ → moves.Outcome → Left
+abbrev pub told_of : ℕ → moves.MoveOutcome → Left
 told_of rd o = (on o.counter (with_range rd o.value o.registers), o.value)
 
 -- what an instruction that computes leaves, where it is sure
-abbrev pub computed : Inst → (counter : ℕ) → Fields → (given : Range) → List Range → Option (List Left)
+abbrev pub computed : Inst → (counter : ℕ) → ComputeFields → (given : Range) → List Range → Option (List Left)
 computed i c f w rs =
     option_map (map (told_of f.target)) (moves.outcomes_by (moves.shape i) i c f.first f.second (source rs w f.first) (source rs w f.second) rs)
 
 -- what waits after the access, with what goes in
-abbrev pub entered : QueueUse → Waiting → Left → After
+abbrev pub entered : QueueUse → Waiting → Left → SideAfter
 entered access q l = (l.0, after_use access l.1 q)
 
-pub record IsFine (o : Outcome) : Type 0 where
+pub record IsFine (o : SideOutcome) : Type 0 where
   pub ranges : AreProper o.side.ranges
   pub pushed : IsProper o.pushed
 
@@ -61,17 +60,17 @@ pub record AreFine (o : Outcomes) : Type 0 where
 -- ---- tests
 
 -- after a test that came out so
-abbrev pub told_by_test : Comparison → ℕ → ℕ → List Range → Bool → Left
+abbrev pub told_by_test : TestInstruction → ℕ → ℕ → List Range → Bool → Left
 told_by_test k c rd rs b =
     (on (plus c (goes_by k.offset b)) (with_range rd (single (told_by k.offset b)) rs), single (told_by k.offset b))
 
-abbrev pub either_told : Comparison → ℕ → Fields → List Range → Range → Range → Option Bool → List Left
+abbrev pub either_told : TestInstruction → ℕ → ComputeFields → List Range → Range → Range → Option Bool → List Left
 either_told k c f rs x y (Some b) = told_by_test k c f.target rs b ∷ []
 either_told k c f rs x y None =
     told_by_test k c f.target (narrowed (order_of k.test) false f.first f.second x y rs) false
     ∷ (told_by_test k c f.target (narrowed (order_of k.test) true f.first f.second x y rs) true ∷ [])
 
-abbrev pub tested_by : Comparison → ℕ → Fields → List Range → Range → Range → List Left
+abbrev pub tested_by : TestInstruction → ℕ → ComputeFields → List Range → Range → Range → List Left
 tested_by k c f rs x y = either_told k c f rs x y (decided (compares k.test) x y)
 
 -- ---- the stack of the walk

@@ -1,6 +1,6 @@
 -- What a visit of one node of the walk comes to, and what is left of the verdict.
 use Rattle.std.specs.Prelude.{◌≡◌, ◌⊎◌, ℕ, suc, true, List, map, drop, Option, Some, None}
-use Rattle.dae_certificate.specs.declared.Known.{Known}
+use Rattle.dae_certificate.specs.declared.CertificateNode.{CertificateNode}
 use Rattle.dae_guard.specs.Sets.{Node}
 use Rattle.dae_guard.specs.Nodes.{known_node}
 use Rattle.dae_guard.specs.Moves.{Terms}
@@ -24,12 +24,12 @@ Visits None whole rest = rest ≡ whole
 Visits (Some w) whole rest = walked_of w ≡ whole
 
 -- a visit leaves a walk of the nodes on the stack after it, or ends the walk of those before it
-abbrev pub IsVisit : Terms → List Known → Option Walked → (before after : List Node) → Type 0
+abbrev pub IsVisit : Terms → List CertificateNode → Option Walked → (before after : List Node) → Type 0
 IsVisit t certificate visited before after =
     (fuel : ℕ) → Visits visited (walks.walk t certificate (suc fuel) before) (walks.walk t certificate fuel after)
 
 -- what is left of the verdict, from the start of this number on
-abbrev pub left : Terms → List Known → ℕ → Verdict
+abbrev pub left : Terms → List CertificateNode → ℕ → Verdict
 left t certificate k = verdict t certificate (suc k) (map known_node (drop k certificate))
 
 -- memory was wanting, or the walks say so

@@ -12,10 +12,10 @@ ghost use Rattle.dae_guard_walk.specs.declared.guarding.GuardAnswer.TheVariants 
 
 use crate::instructions::Terms;
 use crate::sides::SideSpot;
-use crate::walking::{Spot, Walked, walk};
+use crate::walking::{NodeSpot, Walked, walk};
 use dae_base::{Depths, Queue};
-use dae_certificate::{CertificateError, Known, SideNode, read};
-use dae_guard::{Queues, depth_of, walks_guard};
+use dae_certificate::{CertificateError, CertificateNode, SideNode, read};
+use dae_guard::{RangeQueues, depth_of, walks_guard};
 use dae_image::Image;
 use dae_ranges::Range;
 use std::alloc::{AllocError, Global};
@@ -75,7 +75,7 @@ fn answer_by_nodes(
     alloc: Global,
     image: &Image,
     depths: Depths,
-    certificate: &[Known],
+    certificate: &[CertificateNode],
 ) -> GuardAnswer
     requires known { AreKnown certificate.now }
     requires few { length certificate.now ≤ 64 }
@@ -94,7 +94,7 @@ fn walks(
     alloc: Global,
     image: &Image,
     depths: Depths,
-    certificate: &[Known],
+    certificate: &[CertificateNode],
 ) -> Result<GuardAnswer, AllocError>
     requires known { AreKnown certificate.now }
     requires few { length certificate.now ≤ 64 }
@@ -115,7 +115,7 @@ fn walks(
 fn walk_known(
     alloc: Global,
     terms: &Terms,
-    certificate: &[Known],
+    certificate: &[CertificateNode],
 ) -> Result<GuardAnswer, AllocError>
     requires known { AreKnown certificate.now }
     requires few { length certificate.now ≤ 64 }
@@ -132,27 +132,27 @@ fn walk_known(
 }
 
 /// The opened node: all registers are 0, and nothing waits.
-fn opened_spot(alloc: Global, image: &Image) -> Spot
+fn opened_spot(alloc: Global, image: &Image) -> NodeSpot
     ensures is { node_of result ≡ opened_node image.now }
     ensures holds { Holds result }
 {
-    Spot {
+    NodeSpot {
         a: opened_side(image.entry_a),
         e: opened_side(image.entry_e),
-        queues: Queues::new(alloc),
+        queues: RangeQueues::new(alloc),
     }
 }
 
 /// A node of the certificate, where nothing waits.
-fn known_spot(alloc: Global, known: &Known) -> Spot
+fn known_spot(alloc: Global, known: &CertificateNode) -> NodeSpot
     requires { BothHold known.now }
     ensures is { node_of result ≡ known_node known.now }
     ensures holds { Holds result }
 {
-    Spot {
+    NodeSpot {
         a: known_side(&known.a),
         e: known_side(&known.e),
-        queues: Queues::new(alloc),
+        queues: RangeQueues::new(alloc),
     }
 }
 

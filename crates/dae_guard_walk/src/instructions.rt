@@ -15,10 +15,10 @@ ghost use Rattle.dae_guard_walk.specs.Spots.{side_of};
 ghost use Rattle.dae_guard_walk.specs.Steps.{AreFine, listed, called_of};
 ghost use Rattle.dae_guard_walk.specs.Picks.{ComesOf, afters};
 
-use crate::sides::{Fields, Outcome, Outcomes, SideSpot, compute, one};
+use crate::sides::{ComputeFields, Outcomes, SideOutcome, SideSpot, compute, one};
 use dae_base::{Depths, Side, Width};
-use dae_encode::{Form, Inst, QueueUse, decode, form_of, is_shared, queue_use};
-use dae_guard::Queues;
+use dae_encode::{Inst, InstructionForm, QueueUse, decode, form_of, is_shared, queue_use};
+use dae_guard::RangeQueues;
 use dae_image::Image;
 use dae_ranges::{Range, all_fit};
 
@@ -39,7 +39,7 @@ pub struct Sure {
 
 /// An instruction of a side: where it stands, its access, and what the access gives.
 #[derive(Clone, Copy)]
-pub struct Step {
+pub struct AccessStep {
     pub side: Side,
     pub counter: u32,
     pub access: QueueUse,
@@ -48,7 +48,7 @@ pub struct Step {
 
 impl Terms<'_> {
     /// The next instruction of a side, where it is sure.
-    pub fn next_sure(&self, queues: &Queues, from: &SideSpot, side: Side) -> Option<Sure>
+    pub fn next_sure(&self, queues: &RangeQueues, from: &SideSpot, side: Side) -> Option<Sure>
         requires queues { QueuesHold queues.now }
         requires ranges { AreProper from.now.ranges }
         ensures is { option_map (afters (waiting_of queues.now)) result
@@ -64,7 +64,7 @@ impl Terms<'_> {
         if !queues.allows(&self.depths, access) {
             return None;
         }
-        let step = Step {
+        let step = AccessStep {
             side,
             counter,
             access,
@@ -105,7 +105,7 @@ impl Terms<'_> {
     }
 
     /// What comes of an instruction whose access is allowed.
-    fn outcomes_by_form(&self, step: Step, from: &SideSpot, inst: &Inst) -> Option<Outcomes>
+    fn outcomes_by_form(&self, step: AccessStep, from: &SideSpot, inst: &Inst) -> Option<Outcomes>
         requires ranges { AreProper from.now.ranges }
         requires given { IsProper step.given }
         ensures is { ComesOf (terms_of self.now.image.now self.now.depths) step from.now.ranges
@@ -113,15 +113,15 @@ impl Terms<'_> {
         ensures fine { IfSome result AreFine }
     {
         match form_of(inst) {
-            Form::Computes(target, first, second) => {
-                let fields = Fields {
+            InstructionForm::Computes(target, first, second) => {
+                let fields = ComputeFields {
                     target,
                     first,
                     second,
                 };
                 compute(from, step.counter, step.given, inst, fields)
             }
-            Form::Loads(kind, target, base, offset) => {
+            InstructionForm::Loads(kind, target, base, offset) => {
                 let addr = from.source(step.given, base).shift(offset)?;
                 self.is_good(step, kind.width(), addr).then_some(())?;
                 let after = step.counter.wrapping_add(4);
@@ -131,17 +131,17 @@ impl Terms<'_> {
                     from.go_on(after, target, Range::of_load(kind))
                 }))
             }
-            Form::Stores(width, base, _, offset) => {
+            InstructionForm::Stores(width, base, _, offset) => {
                 let addr = from.source(step.given, base).shift(offset)?;
                 self.is_good(step, width, addr).then_some(())?;
                 Some(one(from.go_on(step.counter.wrapping_add(4), 0, addr)))
             }
-            Form::Calls => call(step, from),
+            InstructionForm::Calls => call(step, from),
         }
     }
 
     /// Whether each address is good, in common memory or in that of the side.
-    fn is_good(&self, step: Step, width: Width, addr: Range) -> bool
+    fn is_good(&self, step: AccessStep, width: Width, addr: Range) -> bool
         ensures { result ≡ (if is_shared step.access
             then each (is_within 16 self.now.image.now.memory width) addr
             else each (is_within 0
@@ -156,7 +156,7 @@ impl Terms<'_> {
 }
 
 /// What an access that is allowed gives.
-fn given_by(queues: &Queues, access: QueueUse) -> Range
+fn given_by(queues: &RangeQueues, access: QueueUse) -> Range
     requires { QueuesHold queues.now }
     ensures is { result ≡ given access (waiting_of queues.now) }
     ensures proper { IsProper result }
@@ -168,7 +168,7 @@ fn given_by(queues: &Queues, access: QueueUse) -> Range
 }
 
 /// The environment call: A halts; E needs a single register 17, halts at 0 and 5, and goes on at 1 to 4.
-fn call(step: Step, from: &SideSpot) -> Option<Outcomes>
+fn call(step: AccessStep, from: &SideSpot) -> Option<Outcomes>
     requires { AreProper from.now.ranges }
     ensures is { option_map listed result ≡ called_of step.side step.counter from.now.ranges }
     ensures fine { IfSome result AreFine }
@@ -187,7 +187,7 @@ fn call(step: Step, from: &SideSpot) -> Option<Outcomes>
             }
         }
     };
-    Some(one(Outcome {
+    Some(one(SideOutcome {
         side: SideSpot {
             counter,
             ranges: from.ranges,

@@ -2,13 +2,13 @@
 ghost use Rattle.std.specs.Prelude.{◌≡◌, Some, None};
 ghost use Rattle.dae_base.specs.Words.{word};
 ghost use Rattle.dae_guard_walk.specs.Kinds.{IsKind};
-ghost use Rattle.dae_guard_walk.specs.declared.kinds.Kind.TheVariants as kinds;
+ghost use Rattle.dae_guard_walk.specs.declared.kinds.InstructionKind.TheVariants as kinds;
 
 use dae_encode::Inst;
 
 /// How a test compares two words: as they are, as numbers, or as signed words.
 #[derive(Clone, Copy, PartialEq, Eq)]
-pub enum Test {
+pub enum TestKind {
     Equal,
     Unequal,
     Below,
@@ -19,8 +19,8 @@ pub enum Test {
 
 /// A branch or a comparison.
 #[derive(Clone, Copy, PartialEq, Eq)]
-pub struct Comparison {
-    pub test: Test,
+pub struct TestInstruction {
+    pub test: TestKind,
     /// The word that stands for that of the second source, where one does.
     pub immediate: Option<u32>,
     /// How far a branch goes where the test holds; a comparison gives 0 or 1.
@@ -29,9 +29,9 @@ pub struct Comparison {
 
 /// What kind of instruction one is.
 #[derive(Clone, Copy, PartialEq, Eq)]
-pub enum Kind {
+pub enum InstructionKind {
     /// A branch or a comparison.
-    Tests(Comparison),
+    Tests(TestInstruction),
     /// A jump to a register.
     Jumps,
     /// Any other.
@@ -39,31 +39,31 @@ pub enum Kind {
 }
 
 /// What kind an instruction is.
-pub fn kind_of(inst: &Inst) -> Kind
+pub fn kind_of(inst: &Inst) -> InstructionKind
     ensures { IsKind inst.now result }
 {
     match *inst {
-        Inst::Beq(_, _, imm) => branch_by(Test::Equal, imm),
-        Inst::Bne(_, _, imm) => branch_by(Test::Unequal, imm),
-        Inst::Blt(_, _, imm) => branch_by(Test::SignedBelow, imm),
-        Inst::Bge(_, _, imm) => branch_by(Test::NotSignedBelow, imm),
-        Inst::Bltu(_, _, imm) => branch_by(Test::Below, imm),
-        Inst::Bgeu(_, _, imm) => branch_by(Test::NotBelow, imm),
-        Inst::Slti(_, _, imm) => compare_with(Test::SignedBelow, Some(imm.cast_unsigned())),
-        Inst::Sltiu(_, _, imm) => compare_with(Test::Below, Some(imm.cast_unsigned())),
-        Inst::Slt(_, _, _) => compare_with(Test::SignedBelow, None),
-        Inst::Sltu(_, _, _) => compare_with(Test::Below, None),
-        Inst::Jalr(_, _, _) => Kind::Jumps,
-        _ => Kind::Plain,
+        Inst::Beq(_, _, imm) => branch_by(TestKind::Equal, imm),
+        Inst::Bne(_, _, imm) => branch_by(TestKind::Unequal, imm),
+        Inst::Blt(_, _, imm) => branch_by(TestKind::SignedBelow, imm),
+        Inst::Bge(_, _, imm) => branch_by(TestKind::NotSignedBelow, imm),
+        Inst::Bltu(_, _, imm) => branch_by(TestKind::Below, imm),
+        Inst::Bgeu(_, _, imm) => branch_by(TestKind::NotBelow, imm),
+        Inst::Slti(_, _, imm) => compare_with(TestKind::SignedBelow, Some(imm.cast_unsigned())),
+        Inst::Sltiu(_, _, imm) => compare_with(TestKind::Below, Some(imm.cast_unsigned())),
+        Inst::Slt(_, _, _) => compare_with(TestKind::SignedBelow, None),
+        Inst::Sltu(_, _, _) => compare_with(TestKind::Below, None),
+        Inst::Jalr(_, _, _) => InstructionKind::Jumps,
+        _ => InstructionKind::Plain,
     }
 }
 
 /// A branch that goes so far.
-fn branch_by(test: Test, imm: i32) -> Kind
+fn branch_by(test: TestKind, imm: i32) -> InstructionKind
     ensures { result ≡ kinds.Tests
         (record { test = test; immediate = None; offset = Some (word imm) }) }
 {
-    Kind::Tests(Comparison {
+    InstructionKind::Tests(TestInstruction {
         test,
         immediate: None,
         offset: Some(imm.cast_unsigned()),
@@ -71,11 +71,11 @@ fn branch_by(test: Test, imm: i32) -> Kind
 }
 
 /// A comparison with a source, or with an immediate.
-fn compare_with(test: Test, immediate: Option<u32>) -> Kind
+fn compare_with(test: TestKind, immediate: Option<u32>) -> InstructionKind
     ensures { result ≡ kinds.Tests
         (record { test = test; immediate = immediate; offset = None }) }
 {
-    Kind::Tests(Comparison {
+    InstructionKind::Tests(TestInstruction {
         test,
         immediate,
         offset: None,

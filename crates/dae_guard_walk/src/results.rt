@@ -4,19 +4,19 @@ ghost use Rattle.std.specs.Prelude.{◌≡◌, ◌+◌, ◌<◌, ◌^◌, true, 
 ghost use Rattle.dae_base.specs.Words.{word};
 ghost use Rattle.dae_ranges.specs.Ranges.{any_word, decided, is_single, raised, single, below, from, highest};
 ghost use Rattle.dae_guard.specs.Moves.{first_kept, result as result_of, second_kept, spread};
-ghost use Rattle.dae_guard_walk.specs.Kinds.{compares, order_of, second_of};
+ghost use Rattle.dae_guard_walk.specs.Kinds.{compares, order_of, second_word};
 ghost use Rattle.dae_guard.specs.Kept.{IsProper};
 ghost use Rattle.dae_guard_walk.specs.Spots.{ShiftsOne};
 
-use crate::kinds::Test;
+use crate::kinds::TestKind;
 use dae_base::power_of_two;
 use dae_encode::{Inst, value};
 use dae_ranges::{Range, is_below, is_equal, is_signed_below};
 
 /// The second range of a test, which may be an immediate.
-pub fn second_of(immediate: Option<u32>, range: Range) -> Range
+pub fn second_word(immediate: Option<u32>, range: Range) -> Range
     requires { IsProper range }
-    ensures is { result ≡ second_of immediate range }
+    ensures is { result ≡ second_word immediate range }
     ensures proper { IsProper result }
 {
     match immediate {
@@ -26,18 +26,18 @@ pub fn second_of(immediate: Option<u32>, range: Range) -> Range
 }
 
 /// Whether the test holds for all words of two ranges, for none, or else None.
-pub fn decide(test: Test, x: Range, y: Range) -> Option<bool>
+pub fn decide(test: TestKind, x: Range, y: Range) -> Option<bool>
     requires x { IsProper x }
     requires y { IsProper y }
     ensures { result ≡ decided (compares test) x y }
 {
     match test {
-        Test::Equal => is_equal(x, y),
-        Test::Unequal => turned(is_equal(x, y)),
-        Test::Below => is_below(x, y),
-        Test::NotBelow => turned(is_below(x, y)),
-        Test::SignedBelow => is_signed_below(x, y),
-        Test::NotSignedBelow => turned(is_signed_below(x, y)),
+        TestKind::Equal => is_equal(x, y),
+        TestKind::Unequal => turned(is_equal(x, y)),
+        TestKind::Below => is_below(x, y),
+        TestKind::NotBelow => turned(is_below(x, y)),
+        TestKind::SignedBelow => is_signed_below(x, y),
+        TestKind::NotSignedBelow => turned(is_signed_below(x, y)),
     }
 }
 
@@ -52,34 +52,34 @@ fn turned(decision: Option<bool>) -> Option<bool>
 }
 
 /// Of the first range what agrees with how a test that is not decided came out beside a number.
-pub fn first_kept(test: Test, holds: bool, number: u32, range: Range) -> Range
+pub fn first_kept(test: TestKind, holds: bool, number: u32, range: Range) -> Range
     requires proper { IsProper range }
     requires open { decided (compares test) range (single number) ≡ None }
     ensures is { result ≡ first_kept (order_of test) holds number range }
     ensures proper { IsProper result }
 {
     match test {
-        Test::Below => cut(holds, u64::from(number), range),
-        Test::NotBelow => cut(!holds, u64::from(number), range),
-        Test::Equal => equal_part(holds, number, range),
-        Test::Unequal => equal_part(!holds, number, range),
-        Test::SignedBelow | Test::NotSignedBelow => range,
+        TestKind::Below => cut(holds, u64::from(number), range),
+        TestKind::NotBelow => cut(!holds, u64::from(number), range),
+        TestKind::Equal => equal_part(holds, number, range),
+        TestKind::Unequal => equal_part(!holds, number, range),
+        TestKind::SignedBelow | TestKind::NotSignedBelow => range,
     }
 }
 
 /// Of the second range what agrees with how a test that is not decided came out behind a number.
-pub fn second_kept(test: Test, holds: bool, number: u32, range: Range) -> Range
+pub fn second_kept(test: TestKind, holds: bool, number: u32, range: Range) -> Range
     requires proper { IsProper range }
     requires open { decided (compares test) (single number) range ≡ None }
     ensures is { result ≡ second_kept (order_of test) holds number range }
     ensures proper { IsProper result }
 {
     match test {
-        Test::Below => cut(!holds, u64::from(number) + 1, range),
-        Test::NotBelow => cut(holds, u64::from(number) + 1, range),
-        Test::Equal => equal_part(holds, number, range),
-        Test::Unequal => equal_part(!holds, number, range),
-        Test::SignedBelow | Test::NotSignedBelow => range,
+        TestKind::Below => cut(!holds, u64::from(number) + 1, range),
+        TestKind::NotBelow => cut(holds, u64::from(number) + 1, range),
+        TestKind::Equal => equal_part(holds, number, range),
+        TestKind::Unequal => equal_part(!holds, number, range),
+        TestKind::SignedBelow | TestKind::NotSignedBelow => range,
     }
 }
 

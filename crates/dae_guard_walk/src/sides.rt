@@ -9,8 +9,8 @@ ghost use Rattle.dae_guard.specs.Kept.{AreProper, IsProper};
 ghost use Rattle.dae_guard_walk.specs.Spots.{ShiftsOne, side_of};
 ghost use Rattle.dae_guard_walk.specs.Steps.{AreFine, IsFine, computed, listed, left_of, tested_by, told_by_test};
 
-use crate::kinds::{Comparison, Kind, Test, kind_of};
-use crate::results::{decide, first_kept, result, second_kept, second_of};
+use crate::kinds::{InstructionKind, TestInstruction, TestKind, kind_of};
+use crate::results::{decide, first_kept, result, second_kept, second_word};
 use dae_encode::{Inst, next};
 use dae_ranges::Range;
 
@@ -26,7 +26,7 @@ pub struct SideSpot {
 
 /// What an instruction leaves of its side, and what goes into its queue.
 #[derive(Clone, Copy)]
-pub struct Outcome {
+pub struct SideOutcome {
     pub side: SideSpot,
     pub pushed: Range,
 }
@@ -34,8 +34,8 @@ pub struct Outcome {
 /// What comes of an instruction: one outcome, or two of a test that is not decided, that for false first.
 #[derive(Clone, Copy)]
 pub struct Outcomes {
-    pub first: Outcome,
-    pub second: Option<Outcome>,
+    pub first: SideOutcome,
+    pub second: Option<SideOutcome>,
 }
 
 /// Whether a register holds a value of its own.
@@ -81,7 +81,7 @@ impl SideSpot {
     }
 
     /// What is left where the side goes on at a counter, with a result for a register.
-    pub fn go_on(&self, counter: u32, register: u8, range: Range) -> Outcome
+    pub fn go_on(&self, counter: u32, register: u8, range: Range) -> SideOutcome
         requires ranges { AreProper self.now.ranges }
         requires range { IsProper range }
         ensures is { left_of result
@@ -89,7 +89,7 @@ impl SideSpot {
         ensures fine { IsFine result }
     {
         let SideSpot { ranges, .. } = self.with_range(register, range);
-        Outcome {
+        SideOutcome {
             side: SideSpot {
                 counter: Some(counter),
                 ranges,
@@ -101,7 +101,7 @@ impl SideSpot {
 
 /// The fields of an instruction that computes: its target and its sources.
 #[derive(Clone, Copy)]
-pub struct Fields {
+pub struct ComputeFields {
     pub target: u8,
     pub first: u8,
     pub second: u8,
@@ -114,7 +114,7 @@ pub fn compute(
     counter: u32,
     given: Range,
     inst: &Inst,
-    fields: Fields,
+    fields: ComputeFields,
 ) -> Option<Outcomes>
     requires ranges { AreProper from.now.ranges }
     requires given { IsProper given }
@@ -126,17 +126,17 @@ pub fn compute(
     let x = from.source(given, fields.first);
     let y = from.source(given, fields.second);
     match kind_of(inst) {
-        Kind::Tests(comparison) => {
-            let place = Place { counter, fields };
+        InstructionKind::Tests(comparison) => {
+            let place = InstructionPlace { counter, fields };
             Some(test_outcomes(
                 from,
                 place,
                 comparison,
                 x,
-                second_of(comparison.immediate, y),
+                second_word(comparison.immediate, y),
             ))
         }
-        Kind::Jumps => {
+        InstructionKind::Jumps => {
             if !has_one_target(inst, counter, x) {
                 return None;
             }
@@ -146,7 +146,7 @@ pub fn compute(
                 result(inst, counter, x, y),
             )))
         }
-        Kind::Plain => {
+        InstructionKind::Plain => {
             Some(one(from.go_on(
                 next(inst, counter, 0, 0),
                 fields.target,
@@ -157,7 +157,7 @@ pub fn compute(
 }
 
 /// One outcome.
-pub fn one(outcome: Outcome) -> Outcomes
+pub fn one(outcome: SideOutcome) -> Outcomes
     requires { IsFine outcome }
     ensures is { listed result ≡ left_of outcome ∷ [] }
     ensures fine { AreFine result }
@@ -182,16 +182,16 @@ fn has_one_target(inst: &Inst, counter: u32, base: Range) -> bool
 
 /// Where an instruction stands, and its fields.
 #[derive(Clone, Copy)]
-struct Place {
+struct InstructionPlace {
     counter: u32,
-    fields: Fields,
+    fields: ComputeFields,
 }
 
 /// A branch or a comparison: one outcome where its test is decided, else that for false and that for true.
 fn test_outcomes(
     from: &SideSpot,
-    place: Place,
-    comparison: Comparison,
+    place: InstructionPlace,
+    comparison: TestInstruction,
     x: Range,
     y: Range,
 ) -> Outcomes
@@ -216,7 +216,12 @@ fn test_outcomes(
 }
 
 /// What is left after a test that came out so: a branch has its counter, a comparison 0 or 1.
-fn test_outcome(from: &SideSpot, place: Place, comparison: Comparison, holds: bool) -> Outcome
+fn test_outcome(
+    from: &SideSpot,
+    place: InstructionPlace,
+    comparison: TestInstruction,
+    holds: bool,
+) -> SideOutcome
     requires { AreProper from.now.ranges }
     ensures is { left_of result
         ≡ told_by_test comparison place.counter place.fields.target from.now.ranges holds }
@@ -234,7 +239,14 @@ fn test_outcome(from: &SideSpot, place: Place, comparison: Comparison, holds: bo
 }
 
 /// A side of whose registers one keeps but what agrees with how the test came out beside a single word.
-fn narrow(from: &SideSpot, fields: Fields, test: Test, x: Range, y: Range, holds: bool) -> SideSpot
+fn narrow(
+    from: &SideSpot,
+    fields: ComputeFields,
+    test: TestKind,
+    x: Range,
+    y: Range,
+    holds: bool,
+) -> SideSpot
     requires ranges { AreProper from.now.ranges }
     requires x { IsProper x }
     requires y { IsProper y }

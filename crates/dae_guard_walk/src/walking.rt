@@ -13,11 +13,11 @@ ghost use Rattle.dae_guard_walk.specs.Picks.{node_behind, nodes_after};
 ghost use Rattle.dae_guard_walk.specs.Visits.{IsVisit, WentOn};
 
 use crate::instructions::{Sure, Terms};
-use crate::sides::{Outcome, SideSpot};
+use crate::sides::{SideOutcome, SideSpot};
 use dae_base::Side;
-use dae_certificate::{Known, SideNode};
+use dae_certificate::{CertificateNode, SideNode};
 use dae_encode::QueueUse;
-use dae_guard::Queues;
+use dae_guard::RangeQueues;
 use dae_ranges::{Range, within};
 use std::alloc::{AllocError, Global};
 
@@ -26,10 +26,10 @@ const MOST_WALKED: u32 = 9_999;
 
 /// A node.
 #[derive(Drop)]
-pub struct Spot {
+pub struct NodeSpot {
     pub a: SideSpot,
     pub e: SideSpot,
-    pub queues: Queues,
+    pub queues: RangeQueues,
 }
 
 /// How a walk ended.
@@ -43,7 +43,7 @@ pub enum Walked {
     Passes,
 }
 
-impl Spot {
+impl NodeSpot {
     /// Both sides have halted, no store waits, and every slot is filled.
     pub fn is_final(&self) -> bool
         ensures { result ≡ is_final (node_of self.now) }
@@ -52,14 +52,14 @@ impl Spot {
     }
 
     /// The same node once more.
-    fn try_clone(&self, alloc: Global) -> Result<Spot, AllocError>
+    fn try_clone(&self, alloc: Global) -> Result<NodeSpot, AllocError>
         requires { Holds self.now }
         ensures is { IfOk result (λ s. node_of s ≡ node_of self.now) }
         ensures room { IfOk result (λ s. (u : QueueUse) → HasRoom u self.now.queues
             → HasRoom u s.queues) }
         ensures holds { IfOk result Holds }
     {
-        Ok(Spot {
+        Ok(NodeSpot {
             a: self.a,
             e: self.e,
             queues: self.queues.try_clone(alloc)?,
@@ -67,7 +67,12 @@ impl Spot {
     }
 
     /// The node after an access of a side and what it leaves.
-    fn after(self, side: Side, access: QueueUse, outcome: Outcome) -> Result<Spot, AllocError>
+    fn after(
+        self,
+        side: Side,
+        access: QueueUse,
+        outcome: SideOutcome,
+    ) -> Result<NodeSpot, AllocError>
         requires holds { Holds self }
         requires room { HasRoom access self.queues }
         requires fine { IsFine outcome }
@@ -75,15 +80,15 @@ impl Spot {
             ≡ entered_node side access (node_of self) (left_of outcome)) }
         ensures holds { IfOk result Holds }
     {
-        let Spot { a, e, mut queues } = self;
+        let NodeSpot { a, e, mut queues } = self;
         queues.use_queue(access, outcome.pushed)?;
         Ok(match side {
-            Side::A => Spot {
+            Side::A => NodeSpot {
                 a: outcome.side,
                 e,
                 queues,
             },
-            Side::E => Spot {
+            Side::E => NodeSpot {
                 a,
                 e: outcome.side,
                 queues,
@@ -101,8 +106,8 @@ impl Spot {
 fn go_on(
     alloc: Global,
     terms: &Terms,
-    spot: Spot,
-    ahead: &mut Vec<Spot>,
+    spot: NodeSpot,
+    ahead: &mut Vec<NodeSpot>,
 ) -> Result<bool, AllocError>
     requires spot { Holds spot }
     requires ahead { All Holds ahead.old.items }
@@ -111,17 +116,22 @@ fn go_on(
         (nodes_of ahead.old.items) (nodes_of ahead.new.items)) }
     ensures holds { OnOk result (All Holds ahead.new.items) }
 {
-    let Spot { a, e, mut queues } = spot;
+    let NodeSpot { a, e, mut queues } = spot;
     if queues.serve() {
-        ahead.push(Spot { a, e, queues })?;
+        ahead.push(NodeSpot { a, e, queues })?;
         return Ok(true);
     }
-    let sure = step(alloc, terms, Spot { a, e, queues }, ahead)?;
+    let sure = step(alloc, terms, NodeSpot { a, e, queues }, ahead)?;
     Ok(sure)
 }
 
 /// Puts the nodes after a sure pick of E, or else of A, on the stack, and says whether there is one.
-fn step(alloc: Global, terms: &Terms, spot: Spot, ahead: &mut Vec<Spot>) -> Result<bool, AllocError>
+fn step(
+    alloc: Global,
+    terms: &Terms,
+    spot: NodeSpot,
+    ahead: &mut Vec<NodeSpot>,
+) -> Result<bool, AllocError>
     requires spot { Holds spot }
     requires ahead { All Holds ahead.old.items }
     ensures is { IfOk result (λ sure. GoesOn sure
@@ -139,7 +149,7 @@ fn step(alloc: Global, terms: &Terms, spot: Spot, ahead: &mut Vec<Spot>) -> Resu
 }
 
 /// The instruction of E, or else that of A, that is sure.
-fn first_sure(terms: &Terms, spot: &Spot) -> Option<Sure>
+fn first_sure(terms: &Terms, spot: &NodeSpot) -> Option<Sure>
     requires { Holds spot.now }
     ensures is { option_map (nodes_after (node_of spot.now)) result
         ≡ stepped (terms_of terms.now.image.now terms.now.depths) (node_of spot.now) }
@@ -153,7 +163,12 @@ fn first_sure(terms: &Terms, spot: &Spot) -> Option<Sure>
 }
 
 /// Puts the nodes after a sure instruction of a side on the stack, the first one last.
-fn enter(alloc: Global, spot: Spot, sure: Sure, ahead: &mut Vec<Spot>) -> Result<(), AllocError>
+fn enter(
+    alloc: Global,
+    spot: NodeSpot,
+    sure: Sure,
+    ahead: &mut Vec<NodeSpot>,
+) -> Result<(), AllocError>
     requires spot { Holds spot }
     requires room { HasRoom sure.access spot.queues }
     requires fine { AreFine sure.outcomes }
@@ -173,11 +188,11 @@ fn enter(alloc: Global, spot: Spot, sure: Sure, ahead: &mut Vec<Spot>) -> Result
 
 /// Puts the nodes after both outcomes of a test on the stack, the first one last.
 fn put_both(
-    spot: Spot,
-    twin: Spot,
+    spot: NodeSpot,
+    twin: NodeSpot,
     sure: Sure,
-    second: Outcome,
-    ahead: &mut Vec<Spot>,
+    second: SideOutcome,
+    ahead: &mut Vec<NodeSpot>,
 ) -> Result<(), AllocError>
     requires spot { Holds spot }
     requires twin { Holds twin }
@@ -198,7 +213,12 @@ fn put_both(
 }
 
 /// Puts the node after an outcome of a sure instruction on the stack.
-fn put(spot: Spot, sure: Sure, outcome: Outcome, ahead: &mut Vec<Spot>) -> Result<(), AllocError>
+fn put(
+    spot: NodeSpot,
+    sure: Sure,
+    outcome: SideOutcome,
+    ahead: &mut Vec<NodeSpot>,
+) -> Result<(), AllocError>
     requires spot { Holds spot }
     requires room { HasRoom sure.access spot.queues }
     requires fine { IsFine outcome }
@@ -220,8 +240,8 @@ fn put(spot: Spot, sure: Sure, outcome: Outcome, ahead: &mut Vec<Spot>) -> Resul
 pub fn walk(
     alloc: Global,
     terms: &Terms,
-    certificate: &[Known],
-    start: Spot,
+    certificate: &[CertificateNode],
+    start: NodeSpot,
 ) -> Result<Walked, AllocError>
     requires start { Holds start }
     requires known { AreKnown certificate.now }
@@ -247,8 +267,8 @@ pub fn walk(
 fn walk_on(
     alloc: Global,
     terms: &Terms,
-    certificate: &[Known],
-    stack: Vec<Spot>,
+    certificate: &[CertificateNode],
+    stack: Vec<NodeSpot>,
 ) -> Result<Walked, AllocError>
     requires stack { All Holds stack.items }
     requires known { AreKnown certificate.now }
@@ -274,8 +294,8 @@ fn walk_on(
 fn visit(
     alloc: Global,
     terms: &Terms,
-    certificate: &[Known],
-    ahead: &mut Vec<Spot>,
+    certificate: &[CertificateNode],
+    ahead: &mut Vec<NodeSpot>,
 ) -> Result<Option<Walked>, AllocError>
     requires ahead { All Holds ahead.old.items }
     requires known { AreKnown certificate.now }
@@ -297,9 +317,9 @@ fn visit(
 fn visit_node(
     alloc: Global,
     terms: &Terms,
-    certificate: &[Known],
-    spot: Spot,
-    ahead: &mut Vec<Spot>,
+    certificate: &[CertificateNode],
+    spot: NodeSpot,
+    ahead: &mut Vec<NodeSpot>,
 ) -> Result<Option<Walked>, AllocError>
     requires spot { Holds spot }
     requires ahead { All Holds ahead.old.items }
@@ -320,8 +340,8 @@ fn visit_node(
 fn leave(
     alloc: Global,
     terms: &Terms,
-    spot: Spot,
-    ahead: &mut Vec<Spot>,
+    spot: NodeSpot,
+    ahead: &mut Vec<NodeSpot>,
 ) -> Result<Option<Walked>, AllocError>
     requires spot { Holds spot }
     requires ahead { All Holds ahead.old.items }
@@ -336,7 +356,7 @@ fn leave(
 }
 
 /// Takes the next node of a stack.
-fn take_next(ahead: &mut Vec<Spot>) -> Option<Spot>
+fn take_next(ahead: &mut Vec<NodeSpot>) -> Option<NodeSpot>
     requires { All Holds ahead.old.items }
     ensures some { IfSome result (λ s.
         (nodes_of ahead.old.items ≡ node_of s ∷ nodes_of ahead.new.items) × Holds s) }
@@ -347,7 +367,7 @@ fn take_next(ahead: &mut Vec<Spot>) -> Option<Spot>
 }
 
 /// Whether a branch of the walk ends at a node: it is final, or covered.
-fn ends(certificate: &[Known], spot: &Spot) -> bool
+fn ends(certificate: &[CertificateNode], spot: &NodeSpot) -> bool
     requires known { AreKnown certificate.now }
     ensures { result
         ≡ (is_final (node_of spot.now) || is_covered certificate.now (node_of spot.now)) }
@@ -356,7 +376,7 @@ fn ends(certificate: &[Known], spot: &Spot) -> bool
 }
 
 /// Whether nothing waits, and some node of the certificate has the same counters and ranges in which all registers lie.
-fn is_covered(certificate: &[Known], spot: &Spot) -> bool
+fn is_covered(certificate: &[CertificateNode], spot: &NodeSpot) -> bool
     requires known { AreKnown certificate.now }
     ensures { result ≡ is_covered certificate.now (node_of spot.now) }
 {
@@ -364,7 +384,7 @@ fn is_covered(certificate: &[Known], spot: &Spot) -> bool
 }
 
 /// Whether some node of the certificate has the same counters and ranges in which all registers lie.
-fn any_covers(certificate: &[Known], spot: &Spot) -> bool
+fn any_covers(certificate: &[CertificateNode], spot: &NodeSpot) -> bool
     requires known { AreKnown certificate.now }
     ensures { result ≡ list_any (covers (node_of spot.now)) certificate.now }
 {
@@ -377,7 +397,7 @@ fn any_covers(certificate: &[Known], spot: &Spot) -> bool
 }
 
 /// Whether the node of a certificate has the same counters and ranges in which all registers lie.
-fn covers(known: &Known, spot: &Spot) -> bool
+fn covers(known: &CertificateNode, spot: &NodeSpot) -> bool
     requires { BothHold known.now }
     ensures { result ≡ covers (node_of spot.now) known.now }
 {

@@ -43,23 +43,23 @@ pub fn clear_flags(flags: &mut Vec<bool>, variables: &[u32]) {
 /// By its number, whether a variable is taken: it is the result or a parameter, or is read, loaded into or called for, or assigned
 /// more than once.
 #[derive(Drop)]
-struct Taken {
+struct TakenVariables {
     assigned: Vec<bool>,
     taken: Vec<bool>,
 }
 
-fn take_operand(taken: &mut Taken, x: Operand) {
+fn take_operand(taken: &mut TakenVariables, x: Operand) {
     if let Operand::Variable(variable) = x {
         set_flag(&mut taken.taken, variable);
     }
 }
 
-fn take_test(taken: &mut Taken, test: Test) {
+fn take_test(taken: &mut TakenVariables, test: Test) {
     take_operand(taken, test.left);
     take_operand(taken, test.right);
 }
 
-fn take_value(taken: &mut Taken, value: Value) {
+fn take_value(taken: &mut TakenVariables, value: Value) {
     match value {
         Value::Same(x) => take_operand(taken, x),
         Value::Extended(_, x) => take_operand(taken, x),
@@ -72,7 +72,7 @@ fn take_value(taken: &mut Taken, value: Value) {
     }
 }
 
-fn take_check(taken: &mut Taken, check: Check) {
+fn take_check(taken: &mut TakenVariables, check: Check) {
     match check {
         Check::Place(_, x) => take_operand(taken, x),
         Check::InBounds(x, _) => take_operand(taken, x),
@@ -81,7 +81,7 @@ fn take_check(taken: &mut Taken, check: Check) {
     }
 }
 
-fn take_item(taken: &mut Taken, item: &Item) {
+fn take_item(taken: &mut TakenVariables, item: &Item) {
     match item {
         Item::Assign(variable, value) => {
             if has_flag(&taken.assigned, *variable) {
@@ -113,14 +113,14 @@ fn take_item(taken: &mut Taken, item: &Item) {
 }
 
 #[cycle(take)]
-fn take_list(taken: &mut Taken, statements: &[Statement]) {
+fn take_list(taken: &mut TakenVariables, statements: &[Statement]) {
     for statement in statements {
         take_statement(taken, statement);
     }
 }
 
 #[cycle(take)]
-fn take_statement(taken: &mut Taken, statement: &Statement) {
+fn take_statement(taken: &mut TakenVariables, statement: &Statement) {
     match statement {
         Statement::Simple(_, item) => take_item(taken, item),
         Statement::If(_, test, first, second) => {
@@ -137,7 +137,7 @@ fn take_statement(taken: &mut Taken, statement: &Statement) {
 
 /// The variables that may not hold values for loops.
 pub fn taken_variables(alloc: Global, function: &Function) -> Result<Vec<bool>, AllocError> {
-    let mut taken = Taken {
+    let mut taken = TakenVariables {
         assigned: no_flags(alloc, function.variables)?,
         taken: no_flags(alloc, function.variables)?,
     };

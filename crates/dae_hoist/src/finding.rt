@@ -12,7 +12,7 @@ use std::alloc::{AllocError, Global};
 
 /// A variable holds a value, for variables of a class.
 #[derive(Clone, Copy)]
-struct Held {
+struct HeldValue {
     variable: u32,
     value: Value,
     class: Class,
@@ -48,12 +48,12 @@ struct Finding {
 struct Search {
     number: u32,
     free: Vec<u32>,
-    held: Vec<Held>,
+    held: Vec<HeldValue>,
 }
 
 /// Of a list as far as it is passed: the free variables directly before the place, and the variables that it sets first.
 #[derive(Drop)]
-struct Passed {
+struct PassedList {
     front: Vec<u32>,
     set: Vec<u32>,
 }
@@ -130,7 +130,7 @@ fn is_invariant(finding: &Finding, number: u32, value: Value) -> bool {
 }
 
 // The variable that holds a value already, for variables of this class.
-fn holder_of(held: &[Held], value: Value, class: Class) -> Option<u32> {
+fn holder_of(held: &[HeldValue], value: Value, class: Class) -> Option<u32> {
     let mut holder = None;
     for one in held {
         if one.value == value && one.class == class {
@@ -155,7 +155,7 @@ fn hold(
                 finding.values[number] = Some(value);
                 finding.classes[number] = class;
                 finding.found = true;
-                search.held.push(Held {
+                search.held.push(HeldValue {
                     variable,
                     value,
                     class,
@@ -242,9 +242,9 @@ fn find_in_loop(
     alloc: Global,
     finding: &mut Finding,
     events: &Events,
-    held: &[Held],
+    held: &[HeldValue],
     free: Vec<u32>,
-) -> Result<Vec<Held>, AllocError> {
+) -> Result<Vec<HeldValue>, AllocError> {
     let events = events_in(events, finding.loops as usize);
     let number = finding.loops.wrapping_add(1);
     finding.loops = number;
@@ -271,7 +271,11 @@ fn reversed(alloc: Global, variables: &[u32]) -> Result<Vec<u32>, AllocError> {
 
 // What an item sets is set behind it, in its list; and a variable that is assigned and that nothing takes is free for a loop that
 // follows at once.
-fn pass_item(finding: &mut Finding, passed: &mut Passed, item: &Item) -> Result<(), AllocError> {
+fn pass_item(
+    finding: &mut Finding,
+    passed: &mut PassedList,
+    item: &Item,
+) -> Result<(), AllocError> {
     if let Some(variable) = variable_set(item) {
         if !has_flag(&finding.set, variable) {
             set_flag(&mut finding.set, variable);
@@ -299,10 +303,10 @@ fn find_in_list(
     alloc: Global,
     finding: &mut Finding,
     events: &Events,
-    held: &[Held],
+    held: &[HeldValue],
     statements: &[Statement],
 ) -> Result<(), AllocError> {
-    let mut passed = Passed {
+    let mut passed = PassedList {
         front: Vec::new(alloc),
         set: Vec::new(alloc),
     };
@@ -318,8 +322,8 @@ fn find_in_statement(
     alloc: Global,
     finding: &mut Finding,
     events: &Events,
-    held: &[Held],
-    passed: &mut Passed,
+    held: &[HeldValue],
+    passed: &mut PassedList,
     statement: &Statement,
 ) -> Result<(), AllocError> {
     match statement {

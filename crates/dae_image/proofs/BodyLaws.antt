@@ -10,7 +10,7 @@ use Rattle.std.proofs.lemmas.Nat.{le_bytes_4, from_le_bytes-to_le_bytes_4}
 use Rattle.dae_base.specs.declared.Side.{Side}
 use Rattle.dae_base.specs.declared.Side.TheVariants.{A, E}
 use Rattle.dae_image.specs.declared.LineMark.{LineMark}
-use Rattle.dae_image.specs.declared.header.Header.{Header}
+use Rattle.dae_image.specs.declared.header.ImageHeader.{ImageHeader}
 use Rattle.dae_image.specs.declared.fault.ImageError.{ImageError}
 use Rattle.dae_image.specs.declared.fault.ImageError.TheVariants as errors
 use Rattle.dae_image.specs.declared.fault.Field.TheVariants as fields
@@ -100,42 +100,42 @@ some_is : {A : Type 0} (b : Bool) (x y : A) → cond b (Some x) None ≡ Some y 
 some_is true x y e = (refl, cc)
 some_is false x y e = absurd cc
 
-record MarkOf (h : Header) (last : Option LineMark) (s w f l : ℕ) (m : LineMark) : Type 0 where
+record MarkOf (h : ImageHeader) (last : Option LineMark) (s w f l : ℕ) (m : LineMark) : Type 0 where
   pub side : side_number m.side ≡ s
   pub word : m.word ≡ w
   pub file : m.file ≡ f
   pub line : m.line ≡ l
   pub good : is_line h last m ≡ true
 
-mark_on_is : (h : Header) (last : Option LineMark) (s : Side) (word file line : ℕ) (m : LineMark) → mark_on h last (Some s) word file line ≡ Some m → MarkOf h last (side_number s) word file line m
+mark_on_is : (h : ImageHeader) (last : Option LineMark) (s : Side) (word file line : ℕ) (m : LineMark) → mark_on h last (Some s) word file line ≡ Some m → MarkOf h last (side_number s) word file line m
 mark_on_is h last s word file line m e =
     let made : LineMark = record { side = s; word = word; file = file; line = line } in
     let g = some_is (is_line h last made) made m e in
     subst (λ (x : LineMark). MarkOf h last (side_number s) word file line x) g.1 (record { side = refl; word = refl; file = refl; line = refl; good = g.0 })
 
-mark_is : (h : Header) (last : Option LineMark) (side word file line : ℕ) (m : LineMark) → mark_of h last side word file line ≡ Some m → MarkOf h last side word file line m
+mark_is : (h : ImageHeader) (last : Option LineMark) (side word file line : ℕ) (m : LineMark) → mark_of h last side word file line ≡ Some m → MarkOf h last side word file line m
 unfolding mark_of
 mark_is h last zero word file line m e = mark_on_is h last A word file line m e
 mark_is h last (suc zero) word file line m e = mark_on_is h last E word file line m e
 mark_is h last (suc (suc n)) word file line m e = absurd cc
 
-mark_on_again : (h : Header) (last : Option LineMark) (m : LineMark) → is_line h last m ≡ true → mark_on h last (Some m.side) m.word m.file m.line ≡ Some m
+mark_on_again : (h : ImageHeader) (last : Option LineMark) (m : LineMark) → is_line h last m ≡ true → mark_on h last (Some m.side) m.word m.file m.line ≡ Some m
 mark_on_again h last m good = rw good refl
 
 side_again : (s : Side) → side_of (side_number s) ≡ Some s
 side_again A = refl
 side_again E = refl
 
-mark_again : (h : Header) (last : Option LineMark) (m : LineMark) → is_line h last m ≡ true → mark_of h last (side_number m.side) m.word m.file m.line ≡ Some m
+mark_again : (h : ImageHeader) (last : Option LineMark) (m : LineMark) → is_line h last m ≡ true → mark_of h last (side_number m.side) m.word m.file m.line ≡ Some m
 unfolding mark_of
 mark_again h last m good = ap (λ (s : Option Side). mark_on h last s m.word m.file m.line) (side_again m.side) ∙ mark_on_again h last m good
 
-pub record LineRead (h : Header) (last : Option LineMark) (bytes : List ℕ) (m : LineMark) (rest : List ℕ) : Type 0 where
+pub record LineRead (h : ImageHeader) (last : Option LineMark) (bytes : List ℕ) (m : LineMark) (rest : List ℕ) : Type 0 where
   pub takes : Takes bytes (line m) rest
   pub good : is_line h last m ≡ true
   pub small : m.line < 2 ^ 32
 
-pub line_takes : (whole : ℕ) (h : Header) (last : Option LineMark) (bytes : List ℕ) (m : LineMark × List ℕ) → IsBytes bytes → line_at whole h last bytes ≡ Ok m → LineRead h last bytes m.0 m.1
+pub line_takes : (whole : ℕ) (h : ImageHeader) (last : Option LineMark) (bytes : List ℕ) (m : LineMark × List ℕ) → IsBytes bytes → line_at whole h last bytes ≡ Ok m → LineRead h last bytes m.0 m.1
 unfolding line_at
 line_takes whole h last bytes m fits e =
     step (number_at whole bytes) _ m e (λ side side-is e1.
@@ -154,20 +154,20 @@ line_takes whole h last bytes m fits e =
     let text : numbers (side.0 ∷ word.0 ∷ file.0 ∷ n.0 ∷ []) ≡ line mark = sym (rw (made.side, made.word, made.file, made.line) refl) in
     subst (λ (x : LineMark × List ℕ). LineRead h last bytes x.0 x.1) (ok_is (mark, n.1) m e5) (record { takes = subst (λ (t : List ℕ). Takes bytes t n.1) text t1; good = made.good; small = rw made.line n-read.1 }))))))
 
-record IsLine (h : Header) (last : Option LineMark) (m : LineMark) : Type 0 where
+record IsLine (h : ImageHeader) (last : Option LineMark) (m : LineMark) : Type 0 where
   pub follows : follows last m ≡ true
   pub word : m.word < code_length h m.side
   pub file : m.file < h.names
   pub line : 0 < m.line
 
-IsLine-from_test : (h : Header) (last : Option LineMark) (m : LineMark) → is_line h last m ≡ true → IsLine h last m
+IsLine-from_test : (h : ImageHeader) (last : Option LineMark) (m : LineMark) → is_line h last m ≡ true → IsLine h last m
 IsLine-from_test h last m e =
     let a = and_parts (follows last m) (ltb m.word (code_length h m.side) && (ltb m.file h.names && ltb 0 m.line)) e in
     let b = and_parts (ltb m.word (code_length h m.side)) (ltb m.file h.names && ltb 0 m.line) a.1 in
     let c = and_parts (ltb m.file h.names) (ltb 0 m.line) b.1 in
     record { follows = a.0; word = ltb-true m.word (code_length h m.side) b.0; file = ltb-true m.file h.names c.0; line = ltb-true 0 m.line c.1 }
 
-code_is_small : (h : Header) (s : Side) → HeaderFits h → code_length h s ≤ 33554432
+code_is_small : (h : ImageHeader) (s : Side) → HeaderFits h → code_length h s ≤ 33554432
 code_is_small h A fits = fits.words_a.1
 code_is_small h E fits = fits.words_e.1
 
@@ -175,7 +175,7 @@ side_is_small : (s : Side) → side_number s < 2 ^ 32
 side_is_small A = lit< tt
 side_is_small E = lit< tt
 
-pub line_again : (whole : ℕ) (h : Header) (last : Option LineMark) (m : LineMark) (rest : List ℕ) → HeaderFits h → is_line h last m ≡ true → m.line < 2 ^ 32 → line_at whole h last (line m ++ rest) ≡ Ok (m, rest)
+pub line_again : (whole : ℕ) (h : ImageHeader) (last : Option LineMark) (m : LineMark) (rest : List ℕ) → HeaderFits h → is_line h last m ≡ true → m.line < 2 ^ 32 → line_at whole h last (line m ++ rest) ≡ Ok (m, rest)
 unfolding line_at
 line_again whole h last m rest fits good small =
     let is = IsLine-from_test h last m good in
@@ -190,13 +190,13 @@ line_again whole h last m rest fits good small =
     (bind_again _ _ (m.line, rest) _ (number_again whole m.line rest small)
     (bind_again _ _ m _ (ap (λ (o : Option LineMark). ok_or o (errors.BadField fields.Line (whole - length (line m ++ rest)))) (mark_again h last m good)) refl))))
 
-pub record LinesRead (h : Header) (last : Option LineMark) (n : ℕ) (bytes : List ℕ) (ms : List LineMark) (rest : List ℕ) : Type 0 where
+pub record LinesRead (h : ImageHeader) (last : Option LineMark) (n : ℕ) (bytes : List ℕ) (ms : List LineMark) (rest : List ℕ) : Type 0 where
   pub takes : Takes bytes (flat_map line ms) rest
   pub count : length ms ≡ n
   pub good : are_lines h last ms ≡ true
   pub small : AllByRecursion (λ (m : LineMark). m.line < 2 ^ 32) ms
 
-pub lines_take : (whole : ℕ) (h : Header) (last : Option LineMark) (n : ℕ) (bytes : List ℕ) (ms : List LineMark × List ℕ) → IsBytes bytes → lines_at whole h last n bytes ≡ Ok ms → LinesRead h last n bytes ms.0 ms.1
+pub lines_take : (whole : ℕ) (h : ImageHeader) (last : Option LineMark) (n : ℕ) (bytes : List ℕ) (ms : List LineMark × List ℕ) → IsBytes bytes → lines_at whole h last n bytes ≡ Ok ms → LinesRead h last n bytes ms.0 ms.1
 unfolding lines_at
 lines_take whole h last zero bytes ms fits e =
     subst (λ (x : List LineMark × List ℕ). LinesRead h last 0 bytes x.0 x.1) (ok_is ([], bytes) ms e) (record { takes = record { parts = refl; fits = fits }; count = refl; good = refl; small = tt })
@@ -208,7 +208,7 @@ lines_take whole h last (suc n) bytes ms fits e =
     let both = Takes-then bytes (line first.0) first.1 (flat_map line others.0) others.1 first-read.takes others-read.takes in
     subst (λ (x : List LineMark × List ℕ). LinesRead h last (suc n) bytes x.0 x.1) (ok_is (first.0 ∷ others.0, others.1) ms e2) (record { takes = both; count = ap suc others-read.count; good = and_from (is_line h last first.0) (are_lines h (Some first.0) others.0) first-read.good others-read.good; small = (first-read.small, others-read.small) })))
 
-pub lines_again : (whole : ℕ) (h : Header) (last : Option LineMark) (ms : List LineMark) (rest : List ℕ) → HeaderFits h → are_lines h last ms ≡ true → AllByRecursion (λ (m : LineMark). m.line < 2 ^ 32) ms → lines_at whole h last (length ms) (flat_map line ms ++ rest) ≡ Ok (ms, rest)
+pub lines_again : (whole : ℕ) (h : ImageHeader) (last : Option LineMark) (ms : List LineMark) (rest : List ℕ) → HeaderFits h → are_lines h last ms ≡ true → AllByRecursion (λ (m : LineMark). m.line < 2 ^ 32) ms → lines_at whole h last (length ms) (flat_map line ms ++ rest) ≡ Ok (ms, rest)
 unfolding lines_at
 lines_again whole h last [] rest fits good small = refl
 lines_again whole h last (m ∷ ms) rest fits good small =

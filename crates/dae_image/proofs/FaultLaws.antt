@@ -6,14 +6,14 @@ use Rattle.std.specs.Str.{is_utf8}
 use Rattle.std.proofs.lemmas.Bool.{eqb-false, ne_eqb}
 use Rattle.std.proofs.lemmas.List.{take_at, take-append-drop, length-append, length-take, length-drop}
 use Rattle.dae_image.specs.declared.LineMark.{LineMark}
-use Rattle.dae_image.specs.declared.header.Header.{Header}
-use Rattle.dae_image.specs.declared.fields.Range.{Range}
+use Rattle.dae_image.specs.declared.header.ImageHeader.{ImageHeader}
+use Rattle.dae_image.specs.declared.fields.FieldRange.{FieldRange}
 use Rattle.dae_image.specs.declared.fault.Field.{Field}
 use Rattle.dae_image.specs.declared.fault.Field.TheVariants as fields
 use Rattle.dae_image.specs.declared.fault.ImageError.{ImageError}
 use Rattle.dae_image.specs.declared.fault.ImageError.TheVariants as errors
 use Rattle.dae_image.specs.Ranges.{IsIn, is_in, magic_range, version_range, depth_range, memory_range, calls_range, private_range, entry_range, words_range, content_range, line_count_range, name_count_range, name_range}
-use Rattle.dae_image.specs.Contents.{Contents, header, Fits}
+use Rattle.dae_image.specs.Contents.{ImageContents, header, Fits}
 use Rattle.dae_image.specs.Spelling.{numbers, body, Spells}
 use Rattle.dae_image.specs.Reading.{◌>>=◌, number_at, field_at, version_at, copies_at, budget_at, header_at, bytes_at, words_at, mark_of, line_at, lines_at, name_at, names_at, body_at, image_at}
 use Rattle.dae_image.proofs.FieldLaws.{IsBytes, done, Takes-then}
@@ -57,7 +57,7 @@ next whole (Err d) f first others = record { only = λ e h. fault-is whole d e (
 fault-number : (whole : ℕ) (bytes : List ℕ) → Faults whole (number_at whole bytes)
 fault-number whole bytes = fault-short whole (ltb (length bytes) 4) (from_le_bytes w32 (take 4 bytes), drop 4 bytes)
 
-fault-field : (whole : ℕ) (field : Field) (range : Range) (bytes : List ℕ) → Faults whole (field_at whole field range bytes)
+fault-field : (whole : ℕ) (field : Field) (range : FieldRange) (bytes : List ℕ) → Faults whole (field_at whole field range bytes)
 unfolding field_at
 fault-field whole field range bytes = next whole _ _ (fault-number whole bytes) (λ n. fault-bad whole (is_in range n.0) field (whole - length bytes) n)
 
@@ -109,7 +109,7 @@ fault-words : (whole count : ℕ) (bytes : List ℕ) → Faults whole (words_at 
 unfolding words_at
 fault-words whole count bytes = next whole _ _ (fault-bytes whole (4 * count) bytes) (λ code. fault-done whole _)
 
-fault-line : (whole : ℕ) (h : Header) (last : Option LineMark) (bytes : List ℕ) → Faults whole (line_at whole h last bytes)
+fault-line : (whole : ℕ) (h : ImageHeader) (last : Option LineMark) (bytes : List ℕ) → Faults whole (line_at whole h last bytes)
 unfolding line_at
 fault-line whole h last bytes =
     next whole _ _ (fault-number whole bytes) (λ side.
@@ -118,7 +118,7 @@ fault-line whole h last bytes =
     next whole _ _ (fault-number whole file.1) (λ line.
     next whole _ _ (fault-ok_or whole (mark_of h last side.0 word.0 file.0 line.0) fields.Line (whole - length bytes)) (λ mark. fault-done whole _)))))
 
-fault-lines : (whole : ℕ) (h : Header) (last : Option LineMark) (n : ℕ) (bytes : List ℕ) → Faults whole (lines_at whole h last n bytes)
+fault-lines : (whole : ℕ) (h : ImageHeader) (last : Option LineMark) (n : ℕ) (bytes : List ℕ) → Faults whole (lines_at whole h last n bytes)
 unfolding lines_at
 fault-lines whole h last zero bytes = fault-done whole _
 fault-lines whole h last (suc n) bytes = next whole _ _ (fault-line whole h last bytes) (λ first. next whole _ _ (fault-lines whole h (Some first.0) n first.1) (λ others. fault-done whole _))
@@ -134,7 +134,7 @@ unfolding names_at
 fault-names whole zero bytes = fault-done whole _
 fault-names whole (suc n) bytes = next whole _ _ (fault-name whole bytes) (λ first. next whole _ _ (fault-names whole n first.1) (λ others. fault-done whole _))
 
-pub fault-body : (whole : ℕ) (h : Header) (bytes : List ℕ) → Faults whole (body_at whole h bytes)
+pub fault-body : (whole : ℕ) (h : ImageHeader) (bytes : List ℕ) → Faults whole (body_at whole h bytes)
 unfolding body_at
 fault-body whole h bytes =
     next whole _ _ (fault-words whole h.words_a bytes) (λ a.
@@ -153,7 +153,7 @@ failed (Err d) f e h = inl (let same : d ≡ e = cc in ap (λ (k : ImageError). 
 abbrev pub IsFaultOf : List ℕ → ImageError → Type 0
 IsFaultOf bytes (errors.Short n) = n ≡ length bytes
 IsFaultOf bytes (errors.BadField field offset) = Unit {0}
-IsFaultOf bytes (errors.Trailing n) = (n < length bytes) × ((c : Contents) × Fits c × Spells (take n bytes) c)
+IsFaultOf bytes (errors.Trailing n) = (n < length bytes) × ((c : ImageContents) × Fits c × Spells (take n bytes) c)
 IsFaultOf bytes errors.Memory = ⊥
 
 fault-of : (bytes : List ℕ) (e : ImageError) → IsFault (length bytes) e → IsFaultOf bytes e
@@ -167,14 +167,14 @@ trails true x d e h = absurd cc
 trails false x d e h = (refl, cc)
 
 -- an image before other bytes
-before : (bytes : List ℕ) (v : ℕ) (c : Contents) (rest : List ℕ) → IsIn version_range v → (v ≡ 1 → c.budget.cq ≡ 0) → Fits c → bytes ≡ spelling v c ++ rest → (length rest ≡ 0 → ⊥) → IsFaultOf bytes (errors.Trailing (length bytes - length rest))
+before : (bytes : List ℕ) (v : ℕ) (c : ImageContents) (rest : List ℕ) → IsIn version_range v → (v ≡ 1 → c.budget.cq ≡ 0) → Fits c → bytes ≡ spelling v c ++ rest → (length rest ≡ 0 → ⊥) → IsFaultOf bytes (errors.Trailing (length bytes - length rest))
 before bytes v c rest is_version old fits text some =
     let len : length bytes ≡ length (spelling v c) + length rest = ap length text ∙ length-append (spelling v c) rest in
     let n : length (spelling v c) ≡ length bytes - length rest = omega (arith, len) in
     let front : take (length bytes - length rest) bytes ≡ spelling v c = ap (λ (t : List ℕ). take (length bytes - length rest) t) text ∙ take_at (spelling v c) rest (length bytes - length rest) n in
     (omega (arith, len, some), (c, fits, spells (take (length bytes - length rest) bytes) v c is_version old front))
 
-body_fails : (bytes : List ℕ) (e : ImageError) (h : Header × List ℕ) → IsBytes bytes → header_at (length bytes) bytes ≡ Ok h
+body_fails : (bytes : List ℕ) (e : ImageError) (h : ImageHeader × List ℕ) → IsBytes bytes → header_at (length bytes) bytes ≡ Ok h
     → (body_at (length bytes) h.0 h.1 >>= λ image. cond (eqb (length image.1) 0) (done image.0) (Err (errors.Trailing (length bytes - length image.1)))) ≡ Err e → IsFaultOf bytes e
 body_fails bytes e h fits h-is failure =
     elim (failed (body_at (length bytes) h.0 h.1) _ e failure) [
@@ -185,8 +185,8 @@ body_fails bytes e h fits h-is failure =
           let body-read = body_takes (length bytes) h.0 h.1 c head-read.fits head-read.takes.fits other.1 in
           let t = trails (eqb (length c.1) 0) c.0 (errors.Trailing (length bytes - length c.1)) e other.2 in
           let both = (Takes-then bytes (numbers (head head-read.version h.0)) h.1 (body c.0) c.1 head-read.takes body-read.takes).parts in
-          let text : bytes ≡ spelling head-read.version c.0 ++ c.1 = both ∙ ap (λ (k : Header). (numbers (head head-read.version k) ++ body c.0) ++ c.1) (sym body-read.same) in
-          let old : head-read.version ≡ 1 → c.0.budget.cq ≡ 0 = λ one. ap (λ (k : Header). k.budget.cq) body-read.same ∙ head-read.old one in
+          let text : bytes ≡ spelling head-read.version c.0 ++ c.1 = both ∙ ap (λ (k : ImageHeader). (numbers (head head-read.version k) ++ body c.0) ++ c.1) (sym body-read.same) in
+          let old : head-read.version ≡ 1 → c.0.budget.cq ≡ 0 = λ one. ap (λ (k : ImageHeader). k.budget.cq) body-read.same ∙ head-read.old one in
           subst (λ (d : ImageError). IsFaultOf bytes d) t.1 (before bytes head-read.version c.0 c.1 head-read.is_version old body-read.fits text (eqb-false (length c.1) 0 t.0))
     ]
 
@@ -199,7 +199,7 @@ image_fails bytes e fits h =
     ]
 
 -- an image before other bytes is told from them
-trailing_in : (v : ℕ) (c : Contents) (rest : List ℕ) → IsIn version_range v → (v ≡ 1 → c.budget.cq ≡ 0) → Fits c → (length rest ≡ 0 → ⊥) → image_at (spelling v c ++ rest) ≡ Err (errors.Trailing (length (spelling v c)))
+trailing_in : (v : ℕ) (c : ImageContents) (rest : List ℕ) → IsIn version_range v → (v ≡ 1 → c.budget.cq ≡ 0) → Fits c → (length rest ≡ 0 → ⊥) → image_at (spelling v c ++ rest) ≡ Err (errors.Trailing (length (spelling v c)))
 unfolding image_at
 trailing_in v c rest is_version old fits some =
     let whole = length (spelling v c ++ rest) in
@@ -208,12 +208,12 @@ trailing_in v c rest is_version old fits some =
     bind_again _ _ (header c, body c ++ rest) _ (ap (header_at whole) text ∙ header_again whole v (header c) (body c ++ rest) is_version old fits.head)
     (bind_again _ _ (c, rest) _ (body_again whole c rest fits) (rw (ne_eqb (length rest) 0 some, offset) refl))
 
-trails_in : (bytes : List ℕ) (n v : ℕ) (c : Contents) → Fits c → IsIn version_range v → (v ≡ 1 → c.budget.cq ≡ 0) → (length (drop n bytes) ≡ 0 → ⊥) → length (take n bytes) ≡ n → take n bytes ≡ spelling v c → image_at bytes ≡ Err (errors.Trailing n)
+trails_in : (bytes : List ℕ) (n v : ℕ) (c : ImageContents) → Fits c → IsIn version_range v → (v ≡ 1 → c.budget.cq ≡ 0) → (length (drop n bytes) ≡ 0 → ⊥) → length (take n bytes) ≡ n → take n bytes ≡ spelling v c → image_at bytes ≡ Err (errors.Trailing n)
 trails_in bytes n v c fits is_version old some len text =
     let parts : bytes ≡ spelling v c ++ drop n bytes = sym (take-append-drop n bytes) ∙ ap (λ (t : List ℕ). t ++ drop n bytes) text in
     ap image_at parts ∙ trailing_in v c (drop n bytes) is_version old fits some ∙ ap (λ (k : ℕ). Err (errors.Trailing k)) (sym (ap length text) ∙ len)
 
-pub image_trails : (bytes : List ℕ) (n : ℕ) (c : Contents) → Fits c → n < length bytes → Spells (take n bytes) c → image_at bytes ≡ Err (errors.Trailing n)
+pub image_trails : (bytes : List ℕ) (n : ℕ) (c : ImageContents) → Fits c → n < length bytes → Spells (take n bytes) c → image_at bytes ≡ Err (errors.Trailing n)
 image_trails bytes n c fits less spelled =
     let some : length (drop n bytes) ≡ 0 → ⊥ = λ none. omega (arith, none, length-drop n bytes) in
     let len : length (take n bytes) ≡ n = omega (arith, length-take n bytes) in

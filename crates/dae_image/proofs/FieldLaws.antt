@@ -4,7 +4,7 @@ use Rattle.std.specs.Int.{w32, from_le_bytes}
 use Rattle.std.proofs.lemmas.Bool.{cases_lt, ltb-false, le-ltb, leb-true, eqb-true, le-leb, eq-eqb, and_parts, and_from}
 use Rattle.std.proofs.lemmas.List.{take_at, drop_at, take-append-drop, length-append, length-take, get_or-drop, get_or-take, get_or_past}
 use Rattle.std.proofs.lemmas.Nat.{le_bytes_4, from_le_bytes-to_le_bytes_4}
-use Rattle.dae_image.specs.declared.fields.Range.{Range}
+use Rattle.dae_image.specs.declared.fields.FieldRange.{FieldRange}
 use Rattle.dae_image.specs.declared.fault.Field.{Field}
 use Rattle.dae_image.specs.declared.fault.ImageError.{ImageError}
 use Rattle.dae_image.specs.declared.fault.ImageError.TheVariants as errors
@@ -58,13 +58,13 @@ Takes-then a x b y c p q = record { parts = p.parts ∙ ap (λ (t : List ℕ). x
 
 -- ---- tests of ranges
 
-pub IsIn-from_test : (r : Range) (n : ℕ) → is_in r n ≡ true → IsIn r n
+pub IsIn-from_test : (r : FieldRange) (n : ℕ) → is_in r n ≡ true → IsIn r n
 IsIn-from_test r n e =
     let a = and_parts (leb r.least n) (leb n r.most && eqb (n % r.step) 0) e in
     let b = and_parts (leb n r.most) (eqb (n % r.step) 0) a.1 in
     (leb-true r.least n a.0, leb-true n r.most b.0, eqb-true (n % r.step) 0 b.1)
 
-pub test-from_IsIn : (r : Range) (n : ℕ) → IsIn r n → is_in r n ≡ true
+pub test-from_IsIn : (r : FieldRange) (n : ℕ) → IsIn r n → is_in r n ≡ true
 test-from_IsIn r n h = and_from (leb r.least n) (leb n r.most && eqb (n % r.step) 0) (le-leb r.least n h.0) (and_from (leb n r.most) (eqb (n % r.step) 0) (le-leb n r.most h.1) (eq-eqb (n % r.step) 0 h.2))
 
 -- ---- numbers
@@ -89,12 +89,12 @@ number_again whole n rest lt = four_bytes_again whole (number n) rest refl ∙ a
 
 -- ---- fields
 
-pub record FieldRead (range : Range) (bytes : List ℕ) (n : ℕ) (rest : List ℕ) : Type 0 where
+pub record FieldRead (range : FieldRange) (bytes : List ℕ) (n : ℕ) (rest : List ℕ) : Type 0 where
   pub takes : Takes bytes (number n) rest
   pub is_in : IsIn range n
   pub small : n < 2 ^ 32
 
-pub field_takes : (whole : ℕ) (field : Field) (range : Range) (bytes : List ℕ) (n : ℕ × List ℕ) → IsBytes bytes → field_at whole field range bytes ≡ Ok n → FieldRead range bytes n.0 n.1
+pub field_takes : (whole : ℕ) (field : Field) (range : FieldRange) (bytes : List ℕ) (n : ℕ × List ℕ) → IsBytes bytes → field_at whole field range bytes ≡ Ok n → FieldRead range bytes n.0 n.1
 unfolding field_at
 field_takes whole field range bytes n fits e =
     let b = bind_ok (number_at whole bytes) _ n e in
@@ -102,6 +102,6 @@ field_takes whole field range bytes n fits e =
     let t = number_takes whole bytes b.0.0 b.0.1 fits b.1 in
     subst (λ (x : ℕ × List ℕ). FieldRead range bytes x.0 x.1) g.1 (record { takes = t.0; is_in = IsIn-from_test range b.0.0 g.0; small = t.1 })
 
-pub field_again : (whole : ℕ) (field : Field) (range : Range) (n : ℕ) (rest : List ℕ) → IsIn range n → range.most < 2 ^ 32 → field_at whole field range (number n ++ rest) ≡ Ok (n, rest)
+pub field_again : (whole : ℕ) (field : Field) (range : FieldRange) (n : ℕ) (rest : List ℕ) → IsIn range n → range.most < 2 ^ 32 → field_at whole field range (number n ++ rest) ≡ Ok (n, rest)
 unfolding field_at
 field_again whole field range n rest h small = rw (number_again whole n rest (omega (arith, h)), test-from_IsIn range n h) refl

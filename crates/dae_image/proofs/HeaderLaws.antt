@@ -4,7 +4,7 @@ use Rattle.std.proofs.lemmas.Bool.{eqb-true, eqb-false}
 use Rattle.std.proofs.lemmas.List.{append-nil}
 use Rattle.std.proofs.lemmas.List.Concat.{flat_map-append}
 use Rattle.dae_base.specs.declared.Depths.{Depths}
-use Rattle.dae_image.specs.declared.header.Header.{Header}
+use Rattle.dae_image.specs.declared.header.ImageHeader.{ImageHeader}
 use Rattle.dae_image.specs.declared.fault.ImageError.{ImageError}
 use Rattle.dae_image.specs.declared.fault.Field.TheVariants as fields
 use Rattle.dae_image.specs.Ranges.{IsIn, magic, magic_range, version_range, depth_range, memory_range, calls_range, private_range, entry_range, words_range, content_range, line_count_range, name_count_range}
@@ -137,10 +137,10 @@ budget_again whole v d rest h =
 -- ---- the header
 
 -- the numbers of the header in a version
-abbrev pub head : ℕ → Header → List ℕ
+abbrev pub head : ℕ → ImageHeader → List ℕ
 head v h = magic ∷ v ∷ ((six_depths h.budget ++ copies v h.budget.cq) ++ sizes h)
 
-pub record HeaderRead (bytes : List ℕ) (h : Header) (rest : List ℕ) : Type 0 where
+pub record HeaderRead (bytes : List ℕ) (h : ImageHeader) (rest : List ℕ) : Type 0 where
   pub version : ℕ
   pub is_version : IsIn version_range version
   pub old : version ≡ 1 → h.budget.cq ≡ 0
@@ -150,7 +150,7 @@ pub record HeaderRead (bytes : List ℕ) (h : Header) (rest : List ℕ) : Type 0
 regroup : (front xs ys : List ℕ) → front ++ (numbers xs ++ numbers ys) ≡ front ++ numbers (xs ++ ys)
 regroup front xs ys = ap (λ (t : List ℕ). front ++ t) (sym (flat_map-append number xs ys))
 
-pub header_takes : (whole : ℕ) (bytes : List ℕ) (h : Header × List ℕ) → IsBytes bytes → header_at whole bytes ≡ Ok h → HeaderRead bytes h.0 h.1
+pub header_takes : (whole : ℕ) (bytes : List ℕ) (h : ImageHeader × List ℕ) → IsBytes bytes → header_at whole bytes ≡ Ok h → HeaderRead bytes h.0 h.1
 unfolding header_at
 header_takes whole bytes h bytes-fit e =
     step (version_at whole bytes) _ h e (λ v v-is e1.
@@ -191,14 +191,14 @@ header_takes whole bytes h bytes-fit e =
     let t3 = Takes-then b.1 (number memory.0) memory.1 _ names.1 memory-read.takes t4 in
     let t2 = Takes-then v.1 (numbers (six_depths b.0 ++ copies v.0 b.0.cq)) b.1 _ names.1 b-read.takes t3 in
     let t1 = Takes-then bytes (number magic ++ number v.0) v.1 _ names.1 v-read.takes t2 in
-    subst (λ (x : Header × List ℕ). HeaderRead bytes x.0 x.1) (ok_is _ h e13) (record { version = v.0; is_version = v-read.is_in; old = b-read.old; takes = subst (λ (t : List ℕ). Takes bytes t names.1) (regroup (number magic ++ number v.0) (six_depths b.0 ++ copies v.0 b.0.cq) (memory.0 ∷ calls.0 ∷ private_a.0 ∷ private_e.0 ∷ entry_a.0 ∷ entry_e.0 ∷ words_a.0 ∷ words_e.0 ∷ content.0 ∷ lines.0 ∷ names.0 ∷ [])) t1; fits = record { ld = b-read.ld; al = b-read.al; sa = b-read.sa; sd = b-read.sd; ab = b-read.ab; eb = b-read.eb; cq = b-read.cq; memory = memory-read.is_in; calls = calls-read.is_in; private_a = private_a-read.is_in; private_e = private_e-read.is_in; entry_a = entry_a-read.is_in; entry_e = entry_e-read.is_in; words_a = words_a-read.is_in; words_e = words_e-read.is_in; content = content-read.is_in; lines = lines-read.is_in; names = names-read.is_in } }))))))))))))))
+    subst (λ (x : ImageHeader × List ℕ). HeaderRead bytes x.0 x.1) (ok_is _ h e13) (record { version = v.0; is_version = v-read.is_in; old = b-read.old; takes = subst (λ (t : List ℕ). Takes bytes t names.1) (regroup (number magic ++ number v.0) (six_depths b.0 ++ copies v.0 b.0.cq) (memory.0 ∷ calls.0 ∷ private_a.0 ∷ private_e.0 ∷ entry_a.0 ∷ entry_e.0 ∷ words_a.0 ∷ words_e.0 ∷ content.0 ∷ lines.0 ∷ names.0 ∷ [])) t1; fits = record { ld = b-read.ld; al = b-read.al; sa = b-read.sa; sd = b-read.sd; ab = b-read.ab; eb = b-read.eb; cq = b-read.cq; memory = memory-read.is_in; calls = calls-read.is_in; private_a = private_a-read.is_in; private_e = private_e-read.is_in; entry_a = entry_a-read.is_in; entry_e = entry_e-read.is_in; words_a = words_a-read.is_in; words_e = words_e-read.is_in; content = content-read.is_in; lines = lines-read.is_in; names = names-read.is_in } }))))))))))))))
 
-head_text : (v : ℕ) (h : Header) (rest : List ℕ) → numbers (head v h) ++ rest ≡ number magic ++ (number v ++ budget_text v h.budget (numbers (sizes h) ++ rest))
+head_text : (v : ℕ) (h : ImageHeader) (rest : List ℕ) → numbers (head v h) ++ rest ≡ number magic ++ (number v ++ budget_text v h.budget (numbers (sizes h) ++ rest))
 head_text v h rest =
     let split : numbers (copies v h.budget.cq ++ sizes h) ++ rest ≡ numbers (copies v h.budget.cq) ++ (numbers (sizes h) ++ rest) = ap (λ (t : List ℕ). t ++ rest) (flat_map-append number (copies v h.budget.cq) (sizes h)) ∙ append_assoc (numbers (copies v h.budget.cq)) (numbers (sizes h)) rest in
     ap (λ (t : List ℕ). number magic ++ (number v ++ (number h.budget.ld ++ (number h.budget.al ++ (number h.budget.sa ++ (number h.budget.sd ++ (number h.budget.ab ++ (number h.budget.eb ++ t)))))))) split
 
-pub header_again : (whole v : ℕ) (h : Header) (rest : List ℕ) → IsIn version_range v → (v ≡ 1 → h.budget.cq ≡ 0) → HeaderFits h → header_at whole (numbers (head v h) ++ rest) ≡ Ok (h, rest)
+pub header_again : (whole v : ℕ) (h : ImageHeader) (rest : List ℕ) → IsIn version_range v → (v ≡ 1 → h.budget.cq ≡ 0) → HeaderFits h → header_at whole (numbers (head v h) ++ rest) ≡ Ok (h, rest)
 unfolding header_at
 header_again whole v h rest is_version old fits =
     let r11 : List ℕ = rest in

@@ -2,7 +2,7 @@
 use Rattle.std.proofs.Common.{◌≡◌, ℕ, suc, ◌-◌, ◌+◌, ◌≤◌, ◌<◌, List, [], ◌∷◌, ◌++◌, Option, Some, Result, Ok, Err, refl, sym, ap, ◌∙◌, append_assoc, arith}
 use Rattle.std.proofs.lemmas.List.{append-nil}
 use Rattle.dae_image.specs.declared.LineMark.{LineMark}
-use Rattle.dae_image.specs.declared.header.Header.{Header}
+use Rattle.dae_image.specs.declared.header.ImageHeader.{ImageHeader}
 use Rattle.dae_image.specs.declared.fault.ImageError.{ImageError}
 use Rattle.dae_image.specs.declared.fault.ImageError.TheVariants as errors
 use Rattle.dae_image.specs.Reading.{◌>>=◌, Fails, line_at, lines_at, name_at, names_at}
@@ -29,7 +29,7 @@ fails_on (errors.Trailing n) read f h = rw h refl
 
 -- ---- line marks
 
-pub line_goes_on : (whole : ℕ) (h : Header) (last : Option LineMark) (front : List LineMark) (count i : ℕ) (bytes : List ℕ) (m : LineMark) (after : List ℕ) (total : Result (List LineMark × List ℕ) ImageError) → i < count → line_at whole h last bytes ≡ Ok (m, after)
+pub line_goes_on : (whole : ℕ) (h : ImageHeader) (last : Option LineMark) (front : List LineMark) (count i : ℕ) (bytes : List ℕ) (m : LineMark) (after : List ℕ) (total : Result (List LineMark × List ℕ) ImageError) → i < count → line_at whole h last bytes ≡ Ok (m, after)
     → with_front front (lines_at whole h last (count - i) bytes) ≡ total → with_front (front ++ m ∷ []) (lines_at whole h (Some m) (count - (i + 1)) after) ≡ total
 unfolding lines_at
 line_goes_on whole h last front count i bytes m after total lt e so_far =
@@ -37,7 +37,7 @@ line_goes_on whole h last front count i bytes m after total lt e so_far =
     let one : with_front front (lines_at whole h last (count - i) bytes) ≡ with_front (front ++ m ∷ []) (lines_at whole h (Some m) (count - (i + 1)) after) = rw (k, e) (regroup front m (lines_at whole h (Some m) (count - (i + 1)) after)) in
     sym one ∙ so_far
 
-pub line_ends : (e : ImageError) (whole : ℕ) (h : Header) (last : Option LineMark) (front : List LineMark) (count i : ℕ) (bytes : List ℕ) (total : Result (List LineMark × List ℕ) ImageError) → i < count → Fails e (line_at whole h last bytes)
+pub line_ends : (e : ImageError) (whole : ℕ) (h : ImageHeader) (last : Option LineMark) (front : List LineMark) (count i : ℕ) (bytes : List ℕ) (total : Result (List LineMark × List ℕ) ImageError) → i < count → Fails e (line_at whole h last bytes)
     → with_front front (lines_at whole h last (count - i) bytes) ≡ total → Fails e total
 unfolding lines_at
 line_ends e whole h last front count i bytes total lt failed so_far =
@@ -45,7 +45,7 @@ line_ends e whole h last front count i bytes total lt failed so_far =
     let one : Fails e (lines_at whole h last (suc (count - (i + 1))) bytes) = fails_on e (line_at whole h last bytes) _ failed in
     rw (← so_far, k) (fails e front (lines_at whole h last (suc (count - (i + 1))) bytes) one)
 
-pub lines_are_done : (whole : ℕ) (h : Header) (last : Option LineMark) (front : List LineMark) (count i : ℕ) (bytes : List ℕ) (total : Result (List LineMark × List ℕ) ImageError) → count ≤ i → with_front front (lines_at whole h last (count - i) bytes) ≡ total → total ≡ Ok (front, bytes)
+pub lines_are_done : (whole : ℕ) (h : ImageHeader) (last : Option LineMark) (front : List LineMark) (count i : ℕ) (bytes : List ℕ) (total : Result (List LineMark × List ℕ) ImageError) → count ≤ i → with_front front (lines_at whole h last (count - i) bytes) ≡ total → total ≡ Ok (front, bytes)
 unfolding lines_at
 lines_are_done whole h last front count i bytes total le so_far =
     let k : count - i ≡ 0 = omega arith in

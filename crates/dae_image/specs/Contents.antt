@@ -6,11 +6,11 @@ use Rattle.dae_base.specs.declared.Side.{Side}
 use Rattle.dae_base.specs.declared.Side.TheVariants.{A, E}
 use Rattle.dae_base.specs.declared.Depths.{Depths}
 use Rattle.dae_image.specs.declared.LineMark.{LineMark}
-use Rattle.dae_image.specs.declared.header.Header.{Header}
+use Rattle.dae_image.specs.declared.header.ImageHeader.{ImageHeader}
 use Rattle.dae_image.specs.Ranges.{IsIn, is_in, depth_range, memory_range, calls_range, private_range, entry_range, words_range, content_range, line_count_range, name_count_range, name_range}
 
 -- an image as plain numbers and lists
-pub record Contents : Type 0 where
+pub record ImageContents : Type 0 where
   pub budget : Depths
   pub memory : ℕ
   pub calls : ℕ
@@ -25,7 +25,7 @@ pub record Contents : Type 0 where
   pub names : List (List ℕ)
 
 -- the numbers at its head: its own, and how long its lists are
-abbrev pub header : Contents → Header
+abbrev pub header : ImageContents → ImageHeader
 header c = record {
   budget = c.budget;
   memory = c.memory;
@@ -41,7 +41,7 @@ header c = record {
   names = length c.names;
 }
 
-pub record HeaderFits (h : Header) : Type 0 where
+pub record HeaderFits (h : ImageHeader) : Type 0 where
   pub ld : IsIn depth_range h.budget.ld
   pub al : IsIn depth_range h.budget.al
   pub sa : IsIn depth_range h.budget.sa
@@ -61,7 +61,7 @@ pub record HeaderFits (h : Header) : Type 0 where
   pub lines : IsIn line_count_range h.lines
   pub names : IsIn name_count_range h.names
 
-abbrev pub code_length : Header → Side → ℕ
+abbrev pub code_length : ImageHeader → Side → ℕ
 code_length h A = h.words_a
 code_length h E = h.words_e
 
@@ -77,10 +77,10 @@ follows None m = true
 follows (Some last) m = is_before last.side m.side (nat_lt last.word m.word)
 
 -- a mark of a word of the code and of a named file, behind the last one
-abbrev pub is_line : Header → Option LineMark → LineMark → Bool
+abbrev pub is_line : ImageHeader → Option LineMark → LineMark → Bool
 is_line h last m = follows last m && (nat_lt m.word (code_length h m.side) && (nat_lt m.file h.names && nat_lt 0 m.line))
 
-abbrev pub are_lines : Header → Option LineMark → List LineMark → Bool
+abbrev pub are_lines : ImageHeader → Option LineMark → List LineMark → Bool
 are_lines h last [] = true
 are_lines h last (m ∷ ms) = is_line h last m && are_lines h (Some m) ms
 
@@ -88,7 +88,7 @@ abbrev pub is_name : List ℕ → Bool
 is_name name = is_in name_range (length name) && is_utf8 name
 
 -- an image whose fields are in range: words of code are of 32 bits, data are bytes
-pub record Fits (c : Contents) : Type 0 where
+pub record Fits (c : ImageContents) : Type 0 where
   pub head : HeaderFits (header c)
   pub code_a : All (λ w. w < 2 ^ 32) c.code_a
   pub code_e : All (λ w. w < 2 ^ 32) c.code_e

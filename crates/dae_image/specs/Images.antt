@@ -3,12 +3,12 @@ use Rattle.std.specs.Prelude.{◌≡◌, ◌<◌, List, ℕ, length, take, Resul
 use Rattle.dae_image.specs.declared.Image.{Image}
 use Rattle.dae_image.specs.declared.fault.ImageError.{ImageError}
 use Rattle.dae_image.specs.declared.fault.ImageError.TheVariants.{Memory}
-use Rattle.dae_image.specs.Contents.{Contents}
-use Rattle.dae_image.specs.declared.header.Header.{Header}
+use Rattle.dae_image.specs.Contents.{ImageContents}
+use Rattle.dae_image.specs.declared.header.ImageHeader.{ImageHeader}
 use Rattle.dae_image.specs.Spelling.{Spells}
 use Rattle.dae_image.specs.Reading.{header_at}
 
-abbrev pub contents : Image → Contents
+abbrev pub contents : Image → ImageContents
 contents i = record {
   budget = i.budget;
   memory = i.memory;
@@ -35,4 +35,4 @@ IsSpelledBefore n bytes = (n < length bytes) × ((image : Image) × Spells (take
 
 -- the bytes begin with the numbers of an image's head, all in their ranges
 abbrev pub HasHeader : List ℕ → Type 0
-HasHeader bytes = (head : Header × List ℕ) × (header_at (length bytes) bytes ≡ Ok head)
+HasHeader bytes = (head : ImageHeader × List ℕ) × (header_at (length bytes) bytes ≡ Ok head)

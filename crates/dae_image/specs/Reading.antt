@@ -8,14 +8,14 @@ use Rattle.dae_base.specs.declared.Side.{Side}
 use Rattle.dae_base.specs.declared.Side.TheVariants.{A, E}
 use Rattle.dae_base.specs.declared.Depths.{Depths}
 use Rattle.dae_image.specs.declared.LineMark.{LineMark}
-use Rattle.dae_image.specs.declared.header.Header.{Header}
-use Rattle.dae_image.specs.declared.fields.Range.{Range}
+use Rattle.dae_image.specs.declared.header.ImageHeader.{ImageHeader}
+use Rattle.dae_image.specs.declared.fields.FieldRange.{FieldRange}
 use Rattle.dae_image.specs.declared.fault.Field.{Field}
 use Rattle.dae_image.specs.declared.fault.Field.TheVariants as fields
 use Rattle.dae_image.specs.declared.fault.ImageError.{ImageError}
 use Rattle.dae_image.specs.declared.fault.ImageError.TheVariants as errors
 use Rattle.dae_image.specs.Ranges.{is_in, magic_range, version_range, depth_range, memory_range, calls_range, private_range, entry_range, words_range, content_range, line_count_range, name_count_range, name_range}
-use Rattle.dae_image.specs.Contents.{Contents, is_line}
+use Rattle.dae_image.specs.Contents.{ImageContents, is_line}
 
 infixl 10 ◌>>=◌
 abbrev pub ◌>>=◌ : {A B : Type 0} → Result A ImageError → (A → Result B ImageError) → Result B ImageError
@@ -37,7 +37,7 @@ Gives view (Err e) read = Fails e read
 abbrev pub number_at : ℕ → List ℕ → Result (ℕ × List ℕ) ImageError
 number_at whole bytes = if nat_lt (length bytes) 4 then Err (errors.Short whole) else Ok (from_le_bytes w32 (take 4 bytes), drop 4 bytes)
 
-unfoldable pub field_at : ℕ → Field → Range → List ℕ → Result (ℕ × List ℕ) ImageError
+unfoldable pub field_at : ℕ → Field → FieldRange → List ℕ → Result (ℕ × List ℕ) ImageError
 field_at whole field range bytes = do
   n ← number_at whole bytes
   if is_in range n.0 then Ok n else Err (errors.BadField field (whole - length bytes))
@@ -62,7 +62,7 @@ budget_at whole version bytes = do
   cq ← copies_at whole version eb.1
   Ok (record { ld = ld.0; al = al.0; sa = sa.0; sd = sd.0; ab = ab.0; eb = eb.0; cq = cq.0 }, cq.1)
 
-unfoldable pub header_at : ℕ → List ℕ → Result (Header × List ℕ) ImageError
+unfoldable pub header_at : ℕ → List ℕ → Result (ImageHeader × List ℕ) ImageError
 header_at whole bytes = do
   version ← version_at whole bytes
   budget ← budget_at whole version.0 version.1
@@ -113,15 +113,15 @@ side_of zero = Some A
 side_of (suc zero) = Some E
 side_of (suc (suc n)) = None
 
-abbrev pub mark_on : Header → Option LineMark → Option Side → ℕ → ℕ → ℕ → Option LineMark
+abbrev pub mark_on : ImageHeader → Option LineMark → Option Side → ℕ → ℕ → ℕ → Option LineMark
 mark_on h last None word file line = None
 mark_on h last (Some side) word file line = let mark : LineMark = record { side = side; word = word; file = file; line = line } in if is_line h last mark then Some mark else None
 
 -- the mark that four numbers give behind the last one
-unfoldable pub mark_of : Header → Option LineMark → ℕ → ℕ → ℕ → ℕ → Option LineMark
+unfoldable pub mark_of : ImageHeader → Option LineMark → ℕ → ℕ → ℕ → ℕ → Option LineMark
 mark_of h last side word file line = mark_on h last (side_of side) word file line
 
-unfoldable pub line_at : ℕ → Header → Option LineMark → List ℕ → Result (LineMark × List ℕ) ImageError
+unfoldable pub line_at : ℕ → ImageHeader → Option LineMark → List ℕ → Result (LineMark × List ℕ) ImageError
 line_at whole h last bytes = do
   side ← number_at whole bytes
   word ← number_at whole side.1
@@ -130,7 +130,7 @@ line_at whole h last bytes = do
   mark ← ok_or (mark_of h last side.0 word.0 file.0 line.0) (errors.BadField fields.Line (whole - length bytes))
   Ok (mark, line.1)
 
-unfoldable pub lines_at : ℕ → Header → Option LineMark → ℕ → List ℕ → Result (List LineMark × List ℕ) ImageError
+unfoldable pub lines_at : ℕ → ImageHeader → Option LineMark → ℕ → List ℕ → Result (List LineMark × List ℕ) ImageError
 lines_at whole h last zero bytes = Ok ([], bytes)
 lines_at whole h last (suc n) bytes = do
   first ← line_at whole h last bytes
@@ -150,7 +150,7 @@ names_at whole (suc n) bytes = do
   others ← names_at whole n first.1
   Ok (first.0 ∷ others.0, others.1)
 
-unfoldable pub body_at : ℕ → Header → List ℕ → Result (Contents × List ℕ) ImageError
+unfoldable pub body_at : ℕ → ImageHeader → List ℕ → Result (ImageContents × List ℕ) ImageError
 body_at whole h bytes = do
   code_a ← words_at whole h.words_a bytes
   code_e ← words_at whole h.words_e code_a.1
@@ -176,7 +176,7 @@ body_at whole h bytes = do
   )
 
 -- all of the bytes
-unfoldable pub image_at : List ℕ → Result Contents ImageError
+unfoldable pub image_at : List ℕ → Result ImageContents ImageError
 image_at bytes = do
   head ← header_at (length bytes) bytes
   image ← body_at (length bytes) head.0 head.1

@@ -6,9 +6,9 @@ use Rattle.dae_base.specs.declared.Side.{Side}
 use Rattle.dae_base.specs.declared.Side.TheVariants.{A, E}
 use Rattle.dae_base.specs.declared.Depths.{Depths}
 use Rattle.dae_image.specs.declared.LineMark.{LineMark}
-use Rattle.dae_image.specs.declared.header.Header.{Header}
+use Rattle.dae_image.specs.declared.header.ImageHeader.{ImageHeader}
 use Rattle.dae_image.specs.Ranges.{magic}
-use Rattle.dae_image.specs.Contents.{Contents, header}
+use Rattle.dae_image.specs.Contents.{ImageContents, header}
 
 abbrev pub number : ℕ → List ℕ
 number n = to_le_bytes w32 n
@@ -21,14 +21,14 @@ abbrev pub six_depths : Depths → List ℕ
 six_depths d = d.ld ∷ d.al ∷ d.sa ∷ d.sd ∷ d.ab ∷ d.eb ∷ []
 
 -- the fields behind the budget
-abbrev pub sizes : Header → List ℕ
+abbrev pub sizes : ImageHeader → List ℕ
 sizes h = h.memory ∷ h.calls ∷ h.private_a ∷ h.private_e ∷ h.entry_a ∷ h.entry_e ∷ h.words_a ∷ h.words_e ∷ h.content ∷ h.lines ∷ h.names ∷ []
 
 -- version 2 tells the budget of the queue for copies, which version 1 does not have
-abbrev pub head_1 : Header → List ℕ
+abbrev pub head_1 : ImageHeader → List ℕ
 head_1 h = magic ∷ 1 ∷ (six_depths h.budget ++ sizes h)
 
-abbrev pub head_2 : Header → List ℕ
+abbrev pub head_2 : ImageHeader → List ℕ
 head_2 h = magic ∷ 2 ∷ (six_depths h.budget ++ h.budget.cq ∷ sizes h)
 
 abbrev pub side_number : Side → ℕ
@@ -42,15 +42,15 @@ abbrev pub name : List ℕ → List ℕ
 name bytes = number (length bytes) ++ bytes
 
 -- both codes, the data, the marks and the names
-abbrev pub body : Contents → List ℕ
+abbrev pub body : ImageContents → List ℕ
 body c = numbers c.code_a ++ (numbers c.code_e ++ (c.content ++ (flat_map line c.lines ++ flat_map name c.names)))
 
-abbrev pub spelling_1 : Contents → List ℕ
+abbrev pub spelling_1 : ImageContents → List ℕ
 spelling_1 c = numbers (head_1 (header c)) ++ body c
 
-abbrev pub spelling_2 : Contents → List ℕ
+abbrev pub spelling_2 : ImageContents → List ℕ
 spelling_2 c = numbers (head_2 (header c)) ++ body c
 
 -- an image has one spelling of version 2; one that sends no copies has one of version 1 too
-abbrev pub Spells : List ℕ → Contents → Type 0
+abbrev pub Spells : List ℕ → ImageContents → Type 0
 Spells bytes c = (bytes ≡ spelling_2 c) ⊎ ((c.budget.cq ≡ 0) × (bytes ≡ spelling_1 c))

@@ -7,8 +7,8 @@ ghost use Rattle.dae_image.specs.Reading.{Gives, words_of, words_at, bytes_at, m
 
 use crate::LineMark;
 use crate::fault::{Field, ImageError};
-use crate::fields::{Range, field, number, offset_of};
-use crate::header::Header;
+use crate::fields::{FieldRange, field, number, offset_of};
+use crate::header::ImageHeader;
 use dae_base::{Items, Side, Text};
 use std::alloc::{AllocError, Global};
 
@@ -61,7 +61,7 @@ pub fn content(
     Ok((Items::from_vec(Vec::from_slice(alloc, front)?), rest))
 }
 
-impl Header {
+impl ImageHeader {
     fn code_length(&self, side: Side) -> u32
         ensures { result ≡ code_length self.now side }
     {
@@ -98,7 +98,7 @@ pub fn follows(last: Option<LineMark>, mark: LineMark) -> bool
 
 #[tactic(auto, unfolding(crate::specs::Reading::mark_of))]
 fn mark_of(
-    header: &Header,
+    header: &ImageHeader,
     last: Option<LineMark>,
     side: u32,
     word: u32,
@@ -128,7 +128,7 @@ fn mark_of(
 #[tactic(auto, unfolding(crate::specs::Reading::line_at))]
 fn line<'a>(
     whole: u32,
-    header: &Header,
+    header: &ImageHeader,
     last: Option<LineMark>,
     bytes: &'a [u8],
 ) -> Result<(LineMark, &'a [u8]), ImageError>
@@ -149,7 +149,7 @@ fn line<'a>(
 pub fn lines<'a>(
     alloc: Global,
     whole: u32,
-    header: &Header,
+    header: &ImageHeader,
     bytes: &'a [u8],
 ) -> Result<(Items<LineMark>, &'a [u8]), ImageError>
     ensures { Gives (λ x. (x.0, x.1.now)) result
@@ -171,7 +171,7 @@ pub fn lines<'a>(
 fn name(alloc: Global, whole: u32, bytes: &[u8]) -> Result<(Text, &[u8]), ImageError>
     ensures { Gives (λ x. (x.0, x.1.now)) result (name_at whole bytes.now) }
 {
-    let sizes = Range {
+    let sizes = FieldRange {
         least: 1,
         most: 4_096,
         step: 1,

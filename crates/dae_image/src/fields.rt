@@ -8,13 +8,13 @@ use crate::fault::{Field, ImageError};
 
 /// The numbers that a field may hold: the multiples of a step from the least to the most.
 #[derive(Clone, Copy)]
-pub struct Range {
+pub struct FieldRange {
     pub least: u32,
     pub most: u32,
     pub step: u32,
 }
 
-impl Range {
+impl FieldRange {
     fn contains(self, number: u32) -> bool
         requires { 0 < self.step }
         ensures { result ≡ is_in self number }
@@ -46,7 +46,7 @@ pub fn number(whole: u32, bytes: &[u8]) -> Result<(u32, &[u8]), ImageError>
 pub fn field(
     whole: u32,
     field: Field,
-    range: Range,
+    range: FieldRange,
     bytes: &[u8],
 ) -> Result<(u32, &[u8]), ImageError>
     requires { 0 < range.step }

@@ -6,12 +6,12 @@ ghost use Rattle.dae_image.specs.Ranges.{depth_range, calls_range, words_range, 
 ghost use Rattle.dae_image.specs.Reading.{Gives, field_at, version_at, copies_at, budget_at, header_at};
 
 use crate::fault::{Field, ImageError};
-use crate::fields::{Range, field};
+use crate::fields::{FieldRange, field};
 use dae_base::Depths;
 
 /// The numbers of an image and the lengths of its lists.
 #[derive(Clone, Copy)]
-pub struct Header {
+pub struct ImageHeader {
     pub budget: Depths,
     pub memory: u32,
     pub calls: u16,
@@ -29,55 +29,55 @@ pub struct Header {
 /// The letters DAE1.
 pub const MAGIC: u32 = 0x3145_4144;
 
-const LETTERS: Range = Range {
+const LETTERS: FieldRange = FieldRange {
     least: MAGIC,
     most: MAGIC,
     step: 1,
 };
 
-const VERSION: Range = Range {
+const VERSION: FieldRange = FieldRange {
     least: 1,
     most: 2,
     step: 1,
 };
 
-const DEPTH: Range = Range {
+const DEPTH: FieldRange = FieldRange {
     least: 0,
     most: 4_096,
     step: 1,
 };
 
-const MEMORY: Range = Range {
+const MEMORY: FieldRange = FieldRange {
     least: 64,
     most: 67_108_864,
     step: 16,
 };
 
-const CALLS: Range = Range {
+const CALLS: FieldRange = FieldRange {
     least: 1,
     most: 4_096,
     step: 1,
 };
 
-const PRIVATE: Range = Range {
+const PRIVATE: FieldRange = FieldRange {
     least: 0,
     most: 1_073_741_824,
     step: 4,
 };
 
-const ENTRY: Range = Range {
+const ENTRY: FieldRange = FieldRange {
     least: 0,
     most: 134_217_724,
     step: 4,
 };
 
-const LINE_COUNT: Range = Range {
+const LINE_COUNT: FieldRange = FieldRange {
     least: 0,
     most: 262_144,
     step: 1,
 };
 
-const NAME_COUNT: Range = Range {
+const NAME_COUNT: FieldRange = FieldRange {
     least: 0,
     most: 1_024,
     step: 1,
@@ -142,7 +142,7 @@ fn words(whole: u32, name: Field, entry: u32, bytes: &[u8]) -> Result<(u32, &[u8
         (field_at whole name (words_range entry) bytes.now) }
     ensures memory { IfErr result (λ e. e ≢ ImageError.Memory) }
 {
-    let range = Range {
+    let range = FieldRange {
         least: entry / 4 + 1,
         most: 33_554_432,
         step: 1,
@@ -157,7 +157,7 @@ fn content(whole: u32, memory: u32, bytes: &[u8]) -> Result<(u32, &[u8]), ImageE
         (field_at whole DataLength (content_range memory) bytes.now) }
     ensures memory { IfErr result (λ e. e ≢ ImageError.Memory) }
 {
-    let range = Range {
+    let range = FieldRange {
         least: 0,
         most: memory - 16,
         step: 1,
@@ -167,7 +167,7 @@ fn content(whole: u32, memory: u32, bytes: &[u8]) -> Result<(u32, &[u8]), ImageE
 
 /// The numbers at the head of the bytes. They take no memory.
 #[tactic(auto, unfolding(crate::specs::Reading::header_at))]
-pub fn header_of(whole: u32, bytes: &[u8]) -> Result<(Header, &[u8]), ImageError>
+pub fn header_of(whole: u32, bytes: &[u8]) -> Result<(ImageHeader, &[u8]), ImageError>
     ensures gives { Gives (λ x. (x.0, x.1.now)) result (header_at whole bytes.now) }
     ensures memory { IfErr result (λ e. e ≢ ImageError.Memory) }
 {
@@ -184,7 +184,7 @@ pub fn header_of(whole: u32, bytes: &[u8]) -> Result<(Header, &[u8]), ImageError
     let (content, rest) = content(whole, memory, rest)?;
     let (lines, rest) = field(whole, Field::LineCount, LINE_COUNT, rest)?;
     let (names, rest) = field(whole, Field::NameCount, NAME_COUNT, rest)?;
-    let header = Header {
+    let header = ImageHeader {
         budget,
         memory,
         calls,

@@ -2,7 +2,7 @@
 
 ghost use Rattle.std.specs.Prelude.{◌≡◌, ◌≤◌, ℕ, length, IfOk};
 ghost use Rattle.dae_image.specs.declared.Image.{Image};
-ghost use Rattle.dae_image.specs.Contents.{Contents, HeaderFits};
+ghost use Rattle.dae_image.specs.Contents.{ImageContents, HeaderFits};
 ghost use Rattle.dae_image.specs.Spelling.{Spells};
 ghost use Rattle.dae_image.specs.Reading.{Gives, body_at, image_at};
 ghost use Rattle.dae_image.specs.Images.{contents, HasHeader, IsOrMemory, IsSpelledBefore};
@@ -11,7 +11,7 @@ use crate::Image;
 use crate::body::{code, content, lines, names};
 use crate::fault::ImageError;
 use crate::fields::offset_of;
-use crate::header::{Header, header_of};
+use crate::header::{ImageHeader, header_of};
 use std::alloc::Global;
 
 /// An image with this header.
@@ -19,7 +19,7 @@ use std::alloc::Global;
 fn body<'a>(
     alloc: Global,
     whole: u32,
-    header: Header,
+    header: ImageHeader,
     bytes: &'a [u8],
 ) -> Result<(Image, &'a [u8]), ImageError>
     requires { HeaderFits header }

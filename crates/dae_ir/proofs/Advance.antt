@@ -5,7 +5,7 @@ use Rattle.dae_meaning.specs.Results.{Result, At, Over, Next, Leaves, Skips, Ret
 use Rattle.dae_base.specs.Words.{width_of}
 use Rattle.dae_meaning.specs.Operations.{misplaced}
 use Rattle.dae_ir.specs.declared.form.Check.TheVariants.{Room}
-use Rattle.dae_ir.specs.Code.{Code, Done, Do, If, Loop, Meaning, exec}
+use Rattle.dae_ir.specs.Code.{Code, Done, Do, If, Loop, CodeMeaning, exec}
 use Rattle.dae_meaning.specs.Variables.{Env}
 use Rattle.dae_ir.specs.Form.{value, values, fault, called as with_call, Calls, ended, does, meaning, Program, calls_of}
 use Rattle.dae_ir.specs.Laws.{Counting, GoingTakesTurns}
@@ -58,7 +58,7 @@ module _ {E : Type 0} where
   choice_advances n w true r s h k = h
   choice_advances n w false r s h k = k
 
-module _ {M L T E : Type 0} (m : Meaning L T E) (n : ℕ) (items : (item : L) (e : E) (w : World) → Advances n w (m.does item e w)) where
+module _ {M L T E : Type 0} (m : CodeMeaning L T E) (n : ℕ) (items : (item : L) (e : E) (w : World) → Advances n w (m.does item e w)) where
   code_advances : (code : Code M L T) (e : E) (w : World) → Advances n w (exec m n code e w)
   code_advances Done e w = record { items = omega (arith); turns = λ g. cc }
   code_advances (Do mark item k) e w = bind_advances n w (m.does item e w) _ (items item e w) (code_advances k)

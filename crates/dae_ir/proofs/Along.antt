@@ -9,7 +9,7 @@ use Rattle.dae_meaning.specs.Results.{Result, At, Over, turns, world_of}
 use Rattle.dae_meaning.specs.Operations.{misplaced, spelled}
 use Rattle.dae_meaning.specs.Variables.{Env}
 use Rattle.dae_meaning.proofs.Laws.{IsCourse, Along, bind_along, turns_along, choice_along, within_along, checked_along, Prints, prints, keeps_memory}
-use Rattle.dae_ir.specs.Code.{Code, Done, Do, If, Loop, Meaning, exec}
+use Rattle.dae_ir.specs.Code.{Code, Done, Do, If, Loop, CodeMeaning, exec}
 use Rattle.dae_ir.specs.Form.{Program, Calls, value, values, fault, called, deeper, ended, with_stored, with_printed, does, meaning, calls_of}
 use Rattle.dae_ir.specs.Laws.{Counting, MemoryKept}
 use Rattle.dae_ir.specs.declared.form.Operand.{Operand}
@@ -17,7 +17,7 @@ use Rattle.dae_ir.specs.declared.form.Check.TheVariants.{Room}
 use Rattle.dae_ir.specs.declared.form.Item.{Item}
 use Rattle.dae_ir.specs.declared.form.Item.TheVariants.{Assign, Load, Store, Print, Expect, Break, Continue, Call, Return, Halt}
 
-module _ {M L T E : Type 0} (P : World → World → Type 0) (c : IsCourse P) (m : Meaning L T E) (does : (item : L) → Along P (m.does item)) where
+module _ {M L T E : Type 0} (P : World → World → Type 0) (c : IsCourse P) (m : CodeMeaning L T E) (does : (item : L) → Along P (m.does item)) where
   pub code_along : (n : ℕ) (code : Code M L T) → Along P (exec m n code)
   code_along n Done e w = c.same w
   code_along n (Do mark item k) e w = bind_along P c w (m.does item e w) _ (does item e w) (code_along n k)

@@ -7,7 +7,7 @@ use Rattle.dae_meaning.specs.Alike.{Alike, BothAt, BothOver, FirstStrays, Alikes
 use Rattle.dae_meaning.specs.Operations.{misplaced}
 use Rattle.dae_meaning.specs.Variables.{Env, entered}
 use Rattle.dae_meaning.proofs.Laws.{bind_alike, turns_alike, within_both}
-use Rattle.dae_ir.specs.Code.{Code, Done, Do, If, Loop, Meaning, exec}
+use Rattle.dae_ir.specs.Code.{Code, Done, Do, If, Loop, CodeMeaning, exec}
 use Rattle.dae_ir.specs.Form.{Program, Calls, value, values, fault, called, ended, does, meaning, with_stored, with_printed, deeper, calls_of}
 use Rattle.dae_ir.specs.Laws.{Counting, FewerLoads, IsWithinLoads}
 use Rattle.dae_ir.specs.declared.form.Check.{Check}
@@ -43,7 +43,7 @@ module _ (R : ℕ → ℕ → Type 0) where
   choice true r s r' s' h k = h
   choice false r s r' s' h k = k
 
-  module _ {M L T E : Type 0} (m m' : Meaning L T E) (items : (item : L) → Goes (m.does item) (m'.does item)) (same : (t : T) (e : E) → m'.holds t e ≡ m.holds t e) (n : ℕ) where
+  module _ {M L T E : Type 0} (m m' : CodeMeaning L T E) (items : (item : L) → Goes (m.does item) (m'.does item)) (same : (t : T) (e : E) → m'.holds t e ≡ m.holds t e) (n : ℕ) where
     code_goes : (code : Code M L T) → Goes (exec m n code) (exec m' n code)
     code_goes Done e w a b l = both e w a b l
     code_goes (Do mark item k) e w a b l =

@@ -5,7 +5,7 @@ use Rattle.dae_meaning.specs.Results.{Result, At, Over}
 use Rattle.dae_meaning.specs.Alike.{IsUnder, Stays, Grows}
 use Rattle.dae_meaning.specs.Variables.{Env}
 use Rattle.dae_meaning.proofs.Laws.{Along, AreUnder, Prints, prints, bind_under, turns_under, choice_under, within_under}
-use Rattle.dae_ir.specs.Code.{Code, Done, Do, If, Loop, Meaning, exec}
+use Rattle.dae_ir.specs.Code.{Code, Done, Do, If, Loop, CodeMeaning, exec}
 use Rattle.dae_ir.specs.Form.{Program, Calls, values, fault, called, ended, does, meaning, calls_of}
 use Rattle.dae_ir.specs.Laws.{Counting, MoreTurns}
 use Rattle.dae_ir.specs.declared.form.Check.TheVariants.{Room}
@@ -13,7 +13,7 @@ use Rattle.dae_ir.specs.declared.form.Item.{Item}
 use Rattle.dae_ir.specs.declared.form.Item.TheVariants.{Assign, Load, Store, Print, Expect, Break, Continue, Call, Return, Halt}
 use Rattle.dae_ir.proofs.Along.{code_along, does_along, calls_along, form_prints}
 
-module _ {M L T E : Type 0} (m m' : Meaning L T E) (grows : (item : L) → Along Prints (m'.does item)) (under : (item : L) → AreUnder (m.does item) (m'.does item)) (same : (t : T) (e : E) → m'.holds t e ≡ m.holds t e) where
+module _ {M L T E : Type 0} (m m' : CodeMeaning L T E) (grows : (item : L) → Along Prints (m'.does item)) (under : (item : L) → AreUnder (m.does item) (m'.does item)) (same : (t : T) (e : E) → m'.holds t e ≡ m.holds t e) where
   pub code_under : (n : ℕ) (code : Code M L T) → AreUnder (exec m n code) (exec m' (suc n) code)
   code_under n Done e w = Stays _
   code_under n (Do mark item k) e w = bind_under _ _ _ _ (under item e w) (code_under n k) (code_along Prints prints m' grows (suc n) k)

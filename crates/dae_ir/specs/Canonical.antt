@@ -5,7 +5,7 @@ use Rattle.dae_base.specs.Words.{loaded, width_of}
 use Rattle.dae_meaning.specs.Worlds.{World, ticked, fetched}
 use Rattle.dae_meaning.specs.Results.{Result, At, Over, Next, Leaves, Skips, Returns, Halted, Trapped, Astray, Run, within, checked}
 use Rattle.dae_meaning.specs.Operations.{misplaced}
-use Rattle.dae_ir.specs.Code.{Meaning, exec}
+use Rattle.dae_ir.specs.Code.{CodeMeaning, exec}
 use Rattle.dae_meaning.specs.Variables.{Env, put, entered}
 use Rattle.dae_ir.specs.Form.{value, values, computed, holds, fault, with_stored, with_printed, ended, Program, called, deeper}
 use Rattle.dae_ir.specs.Classes.{Classes}
@@ -168,7 +168,7 @@ with_a e a = record { a = a; e = e }
 abbrev pub with_e : Env → Env → Sides
 with_e a e = record { a = a; e = e }
 
-abbrev pub region_meaning : (Item → Run Env) → Meaning Item Test Env
+abbrev pub region_meaning : (Item → Run Env) → CodeMeaning Item Test Env
 region_meaning does = record { does = does; holds = holds }
 
 -- ---- rounds and functions
@@ -186,7 +186,7 @@ does_round p n calls c (Region false code) b w =
 abbrev pub holds_told : Decision → Sides → Bool
 holds_told d b = if d.by_a then holds d.test b.a else holds d.test b.e
 
-abbrev pub canonical : Program → ℕ → PairCalls → Classes → Meaning Round Decision Sides
+abbrev pub canonical : Program → ℕ → PairCalls → Classes → CodeMeaning Round Decision Sides
 canonical p n calls c = record { does = does_round p n calls c; holds = holds_told }
 
 -- each processor gets the arguments of its own class

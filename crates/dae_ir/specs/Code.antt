@@ -11,12 +11,12 @@ pub data Code (M L T : Type 0) : Type 0 where
   Loop : (mark : M) (body step k : Code M L T) → Code M L T
 
 -- what items do and when tests hold, over what the variables are kept in
-pub record Meaning (L T E : Type 0) : Type 0 where
+pub record CodeMeaning (L T E : Type 0) : Type 0 where
   pub does : L → Run E
   pub holds : T → E → Bool
 
 -- what code does, where each loop makes at most n turns. A condition counts as an item
-abbrev pub exec : {M L T E : Type 0} → Meaning L T E → ℕ → Code M L T → Run E
+abbrev pub exec : {M L T E : Type 0} → CodeMeaning L T E → ℕ → Code M L T → Run E
 exec m n Done e w = At Next e w
 exec m n (Do mark item k) e w = m.does item e w ▷ exec m n k
 exec m n (If mark test p q k) e w =

@@ -7,7 +7,7 @@ use Rattle.dae_base.specs.declared.Width.TheVariants.{B1}
 use Rattle.dae_meaning.specs.Worlds.{World, ticked, fetched, back}
 use Rattle.dae_meaning.specs.Variables.{Env, put, entered}
 use Rattle.dae_meaning.specs.Results.{Result, At, Over, Next, Leaves, Skips, Returns, Halted, Astray, Run, within, checked}
-use Rattle.dae_ir.specs.Code.{Code, Done, Do, If, Loop, Meaning, exec}
+use Rattle.dae_ir.specs.Code.{Code, Done, Do, If, Loop, CodeMeaning, exec}
 use Rattle.dae_meaning.specs.Operations.{combined, compared, spelled, misplaced, passed}
 use Rattle.dae_ir.specs.declared.form.Operand.{Operand}
 use Rattle.dae_ir.specs.declared.form.Operand.TheVariants.{Variable, Number}
@@ -124,7 +124,7 @@ does p counted calls (Call v f xs) env w =
 does p counted calls (Return x) env w = At Returns (put true 0 (value x env) env) (ticked w)
 does p counted calls (Halt x) env w = Over (Halted (value x env)) (ticked w)
 
-abbrev pub meaning : Program → (ℕ → Bool) → Calls → Meaning Item Test Env
+abbrev pub meaning : Program → (ℕ → Bool) → Calls → CodeMeaning Item Test Env
 meaning p counted calls = record { does = does p counted calls; holds = holds }
 
 -- at most n turns of each loop, and at most limit calls inside one another

@@ -7,7 +7,7 @@ use Rattle.dae_meaning.specs.Operations.{misplaced}
 use Rattle.dae_meaning.specs.Worlds.{World, ticked, fetched}
 use Rattle.dae_meaning.specs.Results.{Result, At, Over, Next, Leaves, Skips, Returns, ◌▷◌, within}
 use Rattle.dae_meaning.specs.Alike.{BothAt, BothOver, FirstStrays}
-use Rattle.dae_ir.specs.Code.{Code, Done, Do, If, Loop, Meaning, exec, Each, every}
+use Rattle.dae_ir.specs.Code.{Code, Done, Do, If, Loop, CodeMeaning, exec, Each, every}
 use Rattle.dae_meaning.specs.Variables.{Env, put}
 use Rattle.dae_ir.specs.Form.{Form, value, Calls, Program, does, meaning}
 use Rattle.dae_ir.specs.Classes.{VariableSet, Classes, has_test, is_by_a}
@@ -32,7 +32,7 @@ choice Q true r s r' s' h k = h
 choice Q false r s r' s' h k = k
 
 -- the same code under two meanings
-module _ {M L T E F : Type 0} (m : Meaning L T E) (m' : Meaning L T F) (Q : E → F → Type 0) (I : L → Type 0) (J : T → Type 0) (f : L → Bool) (h : T → Bool)
+module _ {M L T E F : Type 0} (m : CodeMeaning L T E) (m' : CodeMeaning L T F) (Q : E → F → Type 0) (I : L → Type 0) (J : T → Type 0) (f : L → Bool) (h : T → Bool)
     (items : (item : L) → I item → f item ≡ true → Goes Q (m.does item) (m'.does item))
     (tests : (t : T) → J t → h t ≡ true → (e : E) (x : F) → Q e x → m'.holds t x ≡ m.holds t e) (n : ℕ) where
   pub same_code : (code : Code M L T) → Each I J code → every f h code ≡ true → Goes Q (exec m n code) (exec m' n code)

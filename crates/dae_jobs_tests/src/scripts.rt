@@ -2,7 +2,7 @@
 
 use crate::images::{depths_of, image_read};
 use dae_debug::{Reply, Session};
-use dae_debug_commands::{Command, read_script};
+use dae_debug_commands::{DebugCommand, read_script};
 use dae_rows::{part, text_of, told};
 use std::alloc::{AllocError, Global};
 use std::process::Abort;
@@ -16,9 +16,9 @@ fn session_on(rt: &impl Abort, alloc: Global, name: &str) -> Result<Box<Session>
 }
 
 /// Makes the reply to a line's command, or to a line that spells none; or the command ends the session.
-fn reply_to(session: &mut Session, reply: &mut Reply, command: Option<Command>) -> bool {
+fn reply_to(session: &mut Session, reply: &mut Reply, command: Option<DebugCommand>) -> bool {
     match command {
-        Some(Command::Quit) => return false,
+        Some(DebugCommand::Quit) => return false,
         Some(command) => session.answer(command, reply),
         None => reply.begin(b"bad command\n"),
     }
@@ -29,7 +29,7 @@ fn reply_to(session: &mut Session, reply: &mut Reply, command: Option<Command>) 
 fn add_replies(
     session: &mut Session,
     reply: &mut Reply,
-    commands: &[Option<Command>],
+    commands: &[Option<DebugCommand>],
     text: &mut Vec<u8>,
 ) -> Result<(), AllocError> {
     for command in commands {
@@ -45,7 +45,7 @@ fn add_replies(
 fn replies(
     alloc: Global,
     session: &mut Session,
-    commands: &[Option<Command>],
+    commands: &[Option<DebugCommand>],
 ) -> Result<String, AllocError> {
     let mut reply = Reply::with_room(alloc)?;
     let mut text = Vec::new(alloc);

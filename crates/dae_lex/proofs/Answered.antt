@@ -8,7 +8,7 @@ use Rattle.dae_tree.specs.declared.faults.LexError.{LexError}
 use Rattle.dae_tree.specs.declared.faults.LexError.TheVariants.{BadByte, TooManyTokens, Refused, Memory}
 use Rattle.dae_tree.specs.Lines.{joined_lines, start_of, spot_behind}
 use Rattle.dae_tree.specs.Pieces.{Cut, cut}
-use Rattle.dae_tree.specs.Replacing.{Read, Item}
+use Rattle.dae_tree.specs.Replacing.{TokenRead, TextItem}
 use Rattle.dae_tree.specs.Directives.{lines_of, includes}
 use Rattle.dae_tree.specs.Reading.{Reading}
 use Rattle.dae_tree.specs.Tokens.{reads_of, room_after, with_room, tokens_of}
@@ -19,7 +19,7 @@ use Rattle.dae_lex.specs.Whole.{items_of_pieces, HasRead, reading_with}
 abbrev by_pieces : ℕ → List ℕ → Room → List Cut → Result (Reading × Room) LexError
 by_pieces file text room ps = with_room file text room (lines_of ps) (items_of_pieces room ps) (reads_of room (items_of_pieces room ps))
 
-failed_room : (file : ℕ) (text : List ℕ) (room : Room) (ls : List (List Cut)) (items : List Item) (x : Result (List Read) LexError) (e : LexError)
+failed_room : (file : ℕ) (text : List ℕ) (room : Room) (ls : List (List Cut)) (items : List TextItem) (x : Result (List TokenRead) LexError) (e : LexError)
     → Fails e x → Fails e (with_room file text room ls items x)
 failed_room file text room ls items x Memory h = tt
 failed_room file text room ls items (Ok rs) (BadByte p) h = absurd (cc)

@@ -10,17 +10,17 @@ use Rattle.std.proofs.lemmas.Slice.Eq.{bytes_eq-Decides}
 use Rattle.dae_base.proofs.Laws.{choose_mapped, any_mapped, now_of, same_key}
 use Rattle.dae_tree.specs.Pieces.{Cut}
 use Rattle.dae_tree.specs.Replacing.{Definition, body_of}
-use Rattle.dae_lex.specs.declared.numbers.Numbers.{Numbers}
+use Rattle.dae_lex.specs.declared.numbers.WordNumbers.{WordNumbers}
 use Rattle.dae_lex.specs.Numbers.{IsName}
-use Rattle.dae_lex.specs.Pending.{Frame, names_of}
+use Rattle.dae_lex.specs.Pending.{PendingReplacement, names_of}
 use Rattle.dae_lex.proofs.Positions.{same_word, with_word}
 
-module _ {V : Type 0} (w : Numbers) (name : V → List ℕ) where
+module _ {V : Type 0} (w : WordNumbers) (name : V → List ℕ) where
   abbrev pub AreByName : List (ℕ × V) → Type 0
   AreByName es = AllByRecursion (λ e. IsName w e.0 (name e.1)) es
 
   module _ (pieces : V → List Cut) (n : ℕ) (word : List ℕ) (is : IsName w n word) where
-    abbrev pub framed : ℕ × V → Frame
+    abbrev pub framed : ℕ × V → PendingReplacement
     framed e = record { name = name e.1; rest = pieces e.1 }
 
     abbrev pub defined : ℕ × V → Definition
@@ -48,7 +48,7 @@ module _ {V : Type 0} (w : Numbers) (name : V → List ℕ) where
         ∙ ap (λ b. cond b (Some (pieces e.1)) (body_of (map defined es) word)) (same_word w n e.0 word (name e.1) is h.0)
 
 -- names by their numbers, and one more
-module _ (w : Numbers) (n : ℕ) (k : Bor (List ℕ)) (is : IsName w n k.now) where
+module _ (w : WordNumbers) (n : ℕ) (k : Bor (List ℕ)) (is : IsName w n k.now) where
   abbrev AreNames : List (ℕ × Bor (List ℕ)) → Type 0
   AreNames es = AreByName w (λ (v : Bor (List ℕ)). v.now) es
 

@@ -7,11 +7,11 @@ use Rattle.std.proofs.lemmas.List.{map-append}
 use Rattle.std.proofs.lemmas.List.Elements.{All-weaker, All-head, All-tail, All-pop, All-push, All-same, All-nil, recursion_from_All}
 use Rattle.dae_tree.specs.Pieces.{Cut}
 use Rattle.dae_tree.specs.Replacing.{Definition, body_of, is_word_kind, replacement}
-use Rattle.dae_lex.specs.declared.numbers.Numbers.{Numbers}
+use Rattle.dae_lex.specs.declared.numbers.WordNumbers.{WordNumbers}
 use Rattle.dae_lex.specs.declared.numbers.NumberedPiece.{NumberedPiece}
 use Rattle.dae_lex.specs.declared.macros.Macro.{Macro}
 use Rattle.dae_lex.specs.declared.macros.Macros.{Macros}
-use Rattle.dae_lex.specs.declared.replace.Open.{Open}
+use Rattle.dae_lex.specs.declared.replace.OpenReplacement.{OpenReplacement}
 use Rattle.dae_lex.specs.declared.replace.Stack.{Stack}
 use Rattle.dae_lex.specs.Numbers.{IsName, IsNumbered, AreDefined, cuts_of, definitions_of}
 use Rattle.dae_lex.specs.Pending.{AreOpen, frame_of, frames_of, names_of}
@@ -29,11 +29,11 @@ some_mapped : {A B : Type 0} (f : A → B) (P : B → Type 0) (o : Option A) →
 some_mapped f P None h = tt
 some_mapped f P (Some x) h = h
 
-module _ (w : Numbers) (n : ℕ) where
+module _ (w : WordNumbers) (n : ℕ) where
   pub open_word : (s : Stack) (word : List ℕ) → IsName w n word → AreOpen w s
       → list_any (bytes_eq word) (names_of (frames_of s)) ≡ is_some (lookup (nat_eq n) s.frames.entries)
   open_word s word is h =
-      any_named w (λ (f : Open). f.name.now) (λ (f : Open). cuts_of f.rest.now) n word is s.frames.entries
+      any_named w (λ (f : OpenReplacement). f.name.now) (λ (f : OpenReplacement). cuts_of f.rest.now) n word is s.frames.entries
       (recursion_from_All (λ e. IsName w e.0 e.1.name.now) s.frames.entries
       (All-weaker (λ e. IsName w e.0 e.1.name.now × All (IsNumbered w) e.1.rest.now) (λ e. IsName w e.0 e.1.name.now) (λ e k. k.0) s.frames.entries h))
 
@@ -67,11 +67,11 @@ pub goes : (ms : List Definition) (names : List (List ℕ)) (p : Cut) → is_wor
 goes ms names p e h = ap (λ b. if b && not (list_any (bytes_eq p.spelling) names) then body_of ms p.spelling else None) e ∙ ap (λ b. if not b then body_of ms p.spelling else None) h
 
 -- one replacement more, and one less
-pub frames_push : (s t : Stack) (e : ℕ × Open) → s.frames.entries ≡ t.frames.entries ++ e ∷ [] → frames_of s ≡ frames_of t ++ frame_of e.1 ∷ []
-frames_push s t e h = ap (map (λ (x : ℕ × Open). frame_of x.1)) h ∙ map-append (λ (x : ℕ × Open). frame_of x.1) t.frames.entries (e ∷ [])
+pub frames_push : (s t : Stack) (e : ℕ × OpenReplacement) → s.frames.entries ≡ t.frames.entries ++ e ∷ [] → frames_of s ≡ frames_of t ++ frame_of e.1 ∷ []
+frames_push s t e h = ap (map (λ (x : ℕ × OpenReplacement). frame_of x.1)) h ∙ map-append (λ (x : ℕ × OpenReplacement). frame_of x.1) t.frames.entries (e ∷ [])
 
-module _ (w : Numbers) (s t : Stack) (e : ℕ × Open) (h : s.frames.entries ≡ t.frames.entries ++ e ∷ []) where
-  abbrev Opened : ℕ × Open → Type 0
+module _ (w : WordNumbers) (s t : Stack) (e : ℕ × OpenReplacement) (h : s.frames.entries ≡ t.frames.entries ++ e ∷ []) where
+  abbrev Opened : ℕ × OpenReplacement → Type 0
   Opened x = IsName w x.0 x.1.name.now × All (IsNumbered w) x.1.rest.now
 
   pub open_pop : AreOpen w s → AreOpen w t × Opened e
@@ -81,13 +81,13 @@ module _ (w : Numbers) (s t : Stack) (e : ℕ × Open) (h : s.frames.entries ≡
   open_push a b = All-same Opened s.frames.entries (t.frames.entries ++ e ∷ []) h (All-push Opened t.frames.entries e a b)
 
 -- the next piece of a body, and the others
-pub next_numbered : (w : Numbers) (p : NumberedPiece) (ps all : List NumberedPiece) → all ≡ p ∷ ps → All (IsNumbered w) all → IsNumbered w p × All (IsNumbered w) ps
+pub next_numbered : (w : WordNumbers) (p : NumberedPiece) (ps all : List NumberedPiece) → all ≡ p ∷ ps → All (IsNumbered w) all → IsNumbered w p × All (IsNumbered w) ps
 next_numbered w p ps all e h =
     let both = subst (All (IsNumbered w)) e h in (All-head (IsNumbered w) p ps both, All-tail (IsNumbered w) p ps both)
 
 -- no replacements
-pub none_open : (w : Numbers) (s : Stack) → s.frames.entries ≡ [] → (frames_of s ≡ []) × AreOpen w s
+pub none_open : (w : WordNumbers) (s : Stack) → s.frames.entries ≡ [] → (frames_of s ≡ []) × AreOpen w s
 none_open w s h = (
-  ap (map (λ (x : ℕ × Open). frame_of x.1)) h,
+  ap (map (λ (x : ℕ × OpenReplacement). frame_of x.1)) h,
   All-same (λ e. IsName w e.0 e.1.name.now × All (IsNumbered w) e.1.rest.now) s.frames.entries [] h (All-nil (λ e. IsName w e.0 e.1.name.now × All (IsNumbered w) e.1.rest.now)),
 )

@@ -4,7 +4,7 @@ use Rattle.std.proofs.lemmas.List.Elements.{All-weaker}
 use Rattle.dae_tree.specs.Literals.{values_of, inside}
 use Rattle.dae_tree.specs.declared.pieces.PieceKind.{PieceKind}
 use Rattle.dae_tree.specs.declared.pieces.PieceKind.TheVariants as kinds
-use Rattle.dae_lex.specs.declared.numbers.Numbers.{Numbers}
+use Rattle.dae_lex.specs.declared.numbers.WordNumbers.{WordNumbers}
 use Rattle.dae_lex.specs.declared.numbers.NumberedPiece.{NumberedPiece}
 use Rattle.dae_lex.specs.declared.macros.Macros.{Macros}
 use Rattle.dae_lex.specs.declared.output.Meaning.{Meaning as Meant}
@@ -13,16 +13,16 @@ use Rattle.dae_lex.specs.declared.output.Output.{Output}
 use Rattle.dae_lex.specs.Numbers.{IsName, IsNumberedBy, IsNumbered, Keeps, AreDefined}
 use Rattle.dae_lex.specs.Settling.{IsMeant, AreRead}
 
-pub keeps_same : (w : Numbers) → Keeps w w
+pub keeps_same : (w : WordNumbers) → Keeps w w
 keeps_same w = record { words = λ n s h. h; literals = λ n bs h. h }
 
-pub keeps_on : (u v w : Numbers) → Keeps u v → Keeps v w → Keeps u w
+pub keeps_on : (u v w : WordNumbers) → Keeps u v → Keeps v w → Keeps u w
 keeps_on u v w a b = record {
   words = λ n s h. b.words n s (a.words n s h);
   literals = λ n bs h. b.literals n bs (a.literals n bs h);
 }
 
-module _ (v w : Numbers) (keeps : Keeps v w) where
+module _ (v w : WordNumbers) (keeps : Keeps v w) where
   numbered_by : (kind : PieceKind) (n : ℕ) (spelling : List ℕ) → IsNumberedBy kind v n spelling → IsNumberedBy kind w n spelling
   numbered_by kinds.Blank n s h = tt
   numbered_by kinds.LineEnd n s h = tt

@@ -5,31 +5,31 @@ use Rattle.std.proofs.lemmas.List.Sums.{sum_by-append}
 use Rattle.dae_tree.specs.declared.faults.LexError.{LexError}
 use Rattle.dae_tree.specs.declared.faults.LexError.TheVariants.{Refused}
 use Rattle.dae_tree.specs.declared.faults.Construct.TheVariants.{LiteralsTooLong}
-use Rattle.dae_tree.specs.Replacing.{Read, Item, taken, replaced, refused, Tested, token, failed, tested_one, literal_length, within_replacements, within_tokens, tested, within_literals, before_all, outcome}
+use Rattle.dae_tree.specs.Replacing.{TokenRead, TextItem, taken, replaced, refused, Tested, token, failed, tested_one, literal_length, within_replacements, within_tokens, tested, within_literals, before_all, outcome}
 use Rattle.dae_tree.specs.Tokens.{count_replaced}
-use Rattle.dae_lex.specs.Settling.{State, settle, step, keep}
+use Rattle.dae_lex.specs.Settling.{LexState, settle, step, keep}
 
 -- one list after another
-abbrev pub then_settle : Result State LexError → List Item → Result State LexError
+abbrev pub then_settle : Result LexState LexError → List TextItem → Result LexState LexError
 then_settle (Ok t) ys = settle t ys
 then_settle (Err e) ys = Err e
 
-abbrev pub state : List Read → ℕ → ℕ → ℕ → State
+abbrev pub state : List TokenRead → ℕ → ℕ → ℕ → LexState
 state reads t r l = record { tokens = reads; room = record { tokens = t; replacements = r; literal_bytes = l } }
 
-abbrev size : Read → ℕ
+abbrev size : TokenRead → ℕ
 size t = literal_length t.meaning
 
 -- what the definition gives, where these tokens came before
-abbrev pub answer : List Read → ℕ → ℕ → ℕ → Result (List Read) LexError → ℕ → Result State LexError
+abbrev pub answer : List TokenRead → ℕ → ℕ → ℕ → Result (List TokenRead) LexError → ℕ → Result LexState LexError
 answer before t r l (Ok reads) used =
     Ok (state (before ++ reads) (t - length reads) (r - used) (l - sum_by (λ t. literal_length t.meaning) reads))
 answer before t r l (Err e) used = Err e
 
-abbrev ok_state : List Read → ℕ → ℕ → ℕ → Result State LexError
+abbrev ok_state : List TokenRead → ℕ → ℕ → ℕ → Result LexState LexError
 ok_state reads t r l = Ok (state reads t r l)
 
-take_more : (before : List Read) (u : Read) (t r l used : ℕ) (x : Result (List Read) LexError)
+take_more : (before : List TokenRead) (u : TokenRead) (t r l used : ℕ) (x : Result (List TokenRead) LexError)
     → answer (before ++ u ∷ []) t r (l - size u) x used ≡ answer before (suc t) r l (before_all u x) used
 take_more before u t r l used (Ok reads) =
     let a : t - length reads ≡ suc t - suc (length reads) = omega arith in
@@ -39,14 +39,14 @@ take_more before u t r l used (Ok reads) =
     ∙ ap (λ n. ok_state (before ++ u ∷ reads) (suc t - suc (length reads)) (r - used) n) b
 take_more before u t r l used (Err e) = refl
 
-one_more : (before : List Read) (t r l used : ℕ) (x : Result (List Read) LexError) → answer before t r l x used ≡ answer before t (suc r) l x (suc used)
+one_more : (before : List TokenRead) (t r l used : ℕ) (x : Result (List TokenRead) LexError) → answer before t r l x used ≡ answer before t (suc r) l x (suc used)
 one_more before t r l used (Ok reads) = let left : r - used ≡ suc r - suc used = omega arith in rw left refl
 one_more before t r l used (Err e) = refl
 
-module _ (before : List Read) (t r l used : ℕ) (is : List Item) (ys : List Tested)
-    (rest : (after : List Read) (k : ℕ) → settle (state after t r k) is ≡ answer after t r k (outcome (within_literals k ys)) used) where
-  fits : (u : Read) (b : Bool)
-      → ◌≡◌ {A = Result State LexError}
+module _ (before : List TokenRead) (t r l used : ℕ) (is : List TextItem) (ys : List Tested)
+    (rest : (after : List TokenRead) (k : ℕ) → settle (state after t r k) is ≡ answer after t r k (outcome (within_literals k ys)) used) where
+  fits : (u : TokenRead) (b : Bool)
+      → ◌≡◌ {A = Result LexState LexError}
       (elim (if b then Ok (state (before ++ u ∷ []) t r (l - size u)) else Err (Refused LiteralsTooLong u.place)) [ Ok s ↦ settle s is | Err e ↦ Err e ])
       (answer before (suc t) r l (outcome (if b then token u ∷ within_literals (l - size u) ys else failed (Refused LiteralsTooLong u.place) ∷ within_literals l ys)) used)
   fits u true = rest (before ++ u ∷ []) (l - size u) ∙ take_more before u t r l used (outcome (within_literals (l - size u) ys))
@@ -54,20 +54,20 @@ module _ (before : List Read) (t r l used : ℕ) (is : List Item) (ys : List Tes
 
   -- a token that is tested: it is put out, or refused
   test_one : (x : Tested)
-      → ◌≡◌ {A = Result State LexError}
+      → ◌≡◌ {A = Result LexState LexError}
       (elim (keep (state before (suc t) r l) t x) [ Ok s ↦ settle s is | Err e ↦ Err e ])
       (answer before (suc t) r l (outcome (within_literals l (x ∷ ys))) used)
   test_one (token u) = fits u (nat_le (size u) l)
   test_one (failed e) = refl
 
-ended : (before : List Read) (t r l : ℕ) → Ok (state before t r l) ≡ answer before t r l (Ok []) 0
+ended : (before : List TokenRead) (t r l : ℕ) → Ok (state before t r l) ≡ answer before t r l (Ok []) 0
 ended before t r l =
     let a : t - 0 ≡ t = omega arith in
     let b : r - 0 ≡ r = omega arith in
     let d : l - 0 ≡ l = omega arith in
     rw (append-nil before, a, b, d) refl
 
-pub settle_is : (items : List Item) (before : List Read) (t r l : ℕ)
+pub settle_is : (items : List TextItem) (before : List TokenRead) (t r l : ℕ)
     → settle (state before t r l) items
     ≡ answer before t r l (outcome (within_literals l (tested (within_tokens t (within_replacements r items))))) (count_replaced items)
 settle_is [] before zero zero l = ended before zero zero l
@@ -89,12 +89,12 @@ settle_is (refused e ∷ is) before zero (suc r) l = refl
 settle_is (refused e ∷ is) before (suc t) zero l = refl
 settle_is (refused e ∷ is) before (suc t) (suc r) l = refl
 
-after_first : (x : Item) (xs ys : List Item) (s : State) (r : Result State LexError) → step s x ≡ r
-    → ((t : State) → settle t (xs ++ ys) ≡ then_settle (settle t xs) ys)
+after_first : (x : TextItem) (xs ys : List TextItem) (s : LexState) (r : Result LexState LexError) → step s x ≡ r
+    → ((t : LexState) → settle t (xs ++ ys) ≡ then_settle (settle t xs) ys)
     → settle s (x ∷ (xs ++ ys)) ≡ then_settle (settle s (x ∷ xs)) ys
 after_first x xs ys s (Ok t) e rest = rw (e, settle) (rest t)
 after_first x xs ys s (Err f) e rest = rw (e, settle) refl
 
-pub settle_append : (xs ys : List Item) (s : State) → settle s (xs ++ ys) ≡ then_settle (settle s xs) ys
+pub settle_append : (xs ys : List TextItem) (s : LexState) → settle s (xs ++ ys) ≡ then_settle (settle s xs) ys
 settle_append [] ys s = refl
 settle_append (x ∷ xs) ys s = after_first x xs ys s (step s x) refl (λ t. settle_append xs ys t)

@@ -7,7 +7,7 @@ use Rattle.dae_tree.specs.Pieces.{Cut}
 use Rattle.dae_tree.specs.Replacing.{Definition, expand}
 use Rattle.dae_tree.specs.Directives.{is_blank_kind, marks_of, is_end_kind, goes_on, lines_of, line_of, with_first, replaced_text, inclusion_of, is_of, includes}
 use Rattle.dae_tree.specs.declared.headers.Header.{Header}
-use Rattle.dae_lex_scan.specs.declared.pieces.Piece.{Piece}
+use Rattle.dae_lex_scan.specs.declared.pieces.SourcePiece.{SourcePiece}
 use Rattle.dae_lex_scan.specs.Cuts.{cut_of}
 
 -- the first line, by how far it goes
@@ -27,7 +27,7 @@ lines_first : (ps : List Cut) → 0 < length ps
 lines_first [] h = absurd (omega arith)
 lines_first (p ∷ ps) h = lines_step p ps (is_end_kind p.kind) refl (lines_first ps)
 
-pub line_more : (ps : List Piece) (at n : ℕ) → at < length ps → n ≡ prefix_len goes_on (map cut_of (drop at ps))
+pub line_more : (ps : List SourcePiece) (at n : ℕ) → at < length ps → n ≡ prefix_len goes_on (map cut_of (drop at ps))
     → lines_of (map cut_of (drop at ps)) ≡ map cut_of (take n (drop at ps)) ∷ lines_of (map cut_of (drop (at + (n + 1)) ps))
 line_more ps at n h e =
     let some : 0 < length (map cut_of (drop at ps)) = omega (arith, length-map (drop at ps) cut_of, length-drop at ps) in
@@ -38,10 +38,10 @@ line_more ps at n h e =
     (drop-map cut_of (suc n) (drop at ps) ∙ ap (map cut_of) (drop-drop (suc n) at ps ∙ ap (λ k. drop (at + k) ps) (sym (add-one n))))
 
 -- a text piece by piece
-abbrev pub nowhere : Piece
+abbrev pub nowhere : SourcePiece
 nowhere = record { kind = kinds.Blank; spelling = record { ref_ptr = (0, 0); now = [] }; start = 0; end = 0; place = record { file = 0; line = 0; col = 0 } }
 
-pub text_more : (n : ℕ) (macros : List Definition) (ps : List Piece) (i : ℕ) (d : Piece) → i < length ps
+pub text_more : (n : ℕ) (macros : List Definition) (ps : List SourcePiece) (i : ℕ) (d : SourcePiece) → i < length ps
     → replaced_text n macros (map cut_of (drop i ps))
     ≡ expand n macros [] (cut_of (get_or ps i d)) (cut_of (get_or ps i d)) ++ replaced_text n macros (map cut_of (drop (i + 1) ps))
 text_more n macros ps i d h = ap (λ qs. replaced_text n macros (map cut_of qs)) (drop_more ps i d h)
@@ -61,6 +61,6 @@ mark_by : (p : Cut) (ps : List Cut) (b : Bool) → is_blank_kind p.kind ≡ b �
 mark_by p ps true e = ap (λ b. cond (not b) (p ∷ marks_of ps) (marks_of ps)) e
 mark_by p ps false e = ap (λ b. cond (not b) (p ∷ marks_of ps) (marks_of ps)) e
 
-pub mark_more : (ps : List Piece) (i : ℕ) (d : Piece) (b : Bool) → i < length ps → is_blank_kind (get_or ps i d).kind ≡ b
+pub mark_more : (ps : List SourcePiece) (i : ℕ) (d : SourcePiece) (b : Bool) → i < length ps → is_blank_kind (get_or ps i d).kind ≡ b
     → marks_of (map cut_of (drop i ps)) ≡ (if b then marks_of (map cut_of (drop (i + 1) ps)) else cut_of (get_or ps i d) ∷ marks_of (map cut_of (drop (i + 1) ps)))
 mark_more ps i d b h e = ap (λ qs. marks_of (map cut_of qs)) (drop_more ps i d h) ∙ mark_by (cut_of (get_or ps i d)) (map cut_of (drop (i + 1) ps)) b e

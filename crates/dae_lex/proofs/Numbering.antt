@@ -13,10 +13,10 @@ use Rattle.dae_tree.specs.declared.signs.Sign.TheVariants as signs
 use Rattle.dae_tree.specs.declared.tokens.Token.{Token}
 use Rattle.dae_tree.specs.declared.words.Keyword.{Keyword}
 use Rattle.dae_tree.specs.declared.words.Keyword.TheVariants as keywords
-use Rattle.dae_tree.specs.Marks.{Mark, marks, mark_of, word_mark, sign_mark, literal_numbers}
-use Rattle.dae_tree.specs.Replacing.{Meaning, keyword, sign, name, constant, literal, Read}
+use Rattle.dae_tree.specs.Marks.{TokenMark, marks, mark_of, word_mark, sign_mark, literal_numbers}
+use Rattle.dae_tree.specs.Replacing.{Meaning, keyword, sign, name, constant, literal, TokenRead}
 use Rattle.dae_tree.specs.Reading.{IsSpan, IsNumbered, AreInOrder, IsReading}
-use Rattle.dae_tree.specs.Tokens.{joined, names_with, names_after, literals_with, literals_after, kind_of, numbered}
+use Rattle.dae_tree.specs.Tokens.{joined_literals, names_with, names_after, literals_with, literals_after, kind_of, numbered}
 use Rattle.dae_lex.specs.Whole.{span, SpansFrom}
 use Rattle.dae_lex.proofs.Spans.{joined_steps}
 use Rattle.dae_lex.proofs.Positions.{position_most, position_found}
@@ -43,11 +43,11 @@ literals_grow ls (name n) = omega arith
 literals_grow ls (constant c) = omega arith
 literals_grow ls (literal bs) = omega (arith, length-append ls (bs ∷ []))
 
-names_last : (ts : List Read) (ns : List (List ℕ)) → length ns ≤ length (names_after ns ts)
+names_last : (ts : List TokenRead) (ns : List (List ℕ)) → length ns ≤ length (names_after ns ts)
 names_last [] ns = omega arith
 names_last (t ∷ ts) ns = omega (arith, names_grow ns t.meaning, names_last ts (names_with ns t.meaning))
 
-literals_last : (ts : List Read) (ls : List (List ℕ)) → length ls ≤ length (literals_after ls ts)
+literals_last : (ts : List TokenRead) (ls : List (List ℕ)) → length ls ≤ length (literals_after ls ts)
 literals_last [] ls = omega arith
 literals_last (t ∷ ts) ls = omega (arith, literals_grow ls t.meaning, literals_last ts (literals_with ls t.meaning))
 
@@ -59,7 +59,7 @@ kind_within (name n) ns ls N L h l =
 kind_within (constant c) ns ls N L h l = tt
 kind_within (literal bs) ns ls N L h l = omega (arith, length-append ls (bs ∷ []))
 
-numbered_within : (ts : List Read) (ns ls : List (List ℕ)) (N L : ℕ) → length (names_after ns ts) ≤ N → length (literals_after ls ts) ≤ L
+numbered_within : (ts : List TokenRead) (ns ls : List (List ℕ)) (N L : ℕ) → length (names_after ns ts) ≤ N → length (literals_after ls ts) ≤ L
     → AllByRecursion (λ (t : Token). IsNumbered N L t.kind) (numbered ns ls ts)
 numbered_within [] ns ls N L h l = tt
 numbered_within (t ∷ ts) ns ls N L h l =
@@ -71,11 +71,11 @@ numbered_within (t ∷ ts) ns ls N L h l =
 
 -- ---- the literals have the numbers from 0 on
 
-word_passed : (k : Keyword) (p : Place) (ts : List Mark) → literal_numbers (word_mark k p ∷ ts) ≡ literal_numbers ts
+word_passed : (k : Keyword) (p : Place) (ts : List TokenMark) → literal_numbers (word_mark k p ∷ ts) ≡ literal_numbers ts
 word_passed keywords.Else p ts = refl
 word_passed _ p ts = refl
 
-sign_passed : (s : Sign) (p : Place) (ts : List Mark) → literal_numbers (sign_mark s p ∷ ts) ≡ literal_numbers ts
+sign_passed : (s : Sign) (p : Place) (ts : List TokenMark) → literal_numbers (sign_mark s p ∷ ts) ≡ literal_numbers ts
 sign_passed signs.RightParen p ts = refl
 sign_passed signs.RightBracket p ts = refl
 sign_passed signs.RightBrace p ts = refl
@@ -83,7 +83,7 @@ sign_passed signs.Comma p ts = refl
 sign_passed signs.Colon p ts = refl
 sign_passed _ p ts = refl
 
-literals_next : (m : Meaning) (p : Place) (ns ls : List (List ℕ)) (ts : List Mark) (end : ℕ) → length (literals_with ls m) ≤ end → literal_numbers ts ≡ range_with_len (length (literals_with ls m)) (end - length (literals_with ls m))
+literals_next : (m : Meaning) (p : Place) (ns ls : List (List ℕ)) (ts : List TokenMark) (end : ℕ) → length (literals_with ls m) ≤ end → literal_numbers ts ≡ range_with_len (length (literals_with ls m)) (end - length (literals_with ls m))
     → literal_numbers (mark_of (kind_of ns ls m) p ∷ ts) ≡ range_with_len (length ls) (end - length ls)
 literals_next (keyword k) p ns ls ts end le h = word_passed k p ts ∙ h
 literals_next (sign s) p ns ls ts end le h = sign_passed s p ts ∙ h
@@ -95,7 +95,7 @@ literals_next (literal bs) p ns ls ts end le h =
     let next : length (ls ++ bs ∷ []) ≡ length ls + 1 = omega arith in
     ap (λ (ks : List ℕ). length ls ∷ ks) (h ∙ ap (λ (k : ℕ). range_with_len k (end - length (ls ++ bs ∷ []))) next) ∙ ap (range_with_len (length ls)) left
 
-literals_counted : (ts : List Read) (ns ls : List (List ℕ)) → literal_numbers (marks (numbered ns ls ts)) ≡ range_with_len (length ls) (length (literals_after ls ts) - length ls)
+literals_counted : (ts : List TokenRead) (ns ls : List (List ℕ)) → literal_numbers (marks (numbered ns ls ts)) ≡ range_with_len (length ls) (length (literals_after ls ts) - length ls)
 literals_counted [] ns ls = let none : 0 ≡ length ls - length ls = omega arith in ap (range_with_len (length ls)) none
 literals_counted (t ∷ ts) ns ls =
     let ls1 = literals_with ls t.meaning in
@@ -116,31 +116,31 @@ distinct_names ns (name n) h = distinct_with ns n (list_any (bytes_eq n) ns) ref
 distinct_names ns (constant c) h = h
 distinct_names ns (literal bs) h = h
 
-distinct_after : (ts : List Read) (ns : List (List ℕ)) → IsDistinct bytes_eq ns → IsDistinct bytes_eq (names_after ns ts)
+distinct_after : (ts : List TokenRead) (ns : List (List ℕ)) → IsDistinct bytes_eq ns → IsDistinct bytes_eq (names_after ns ts)
 distinct_after [] ns h = h
 distinct_after (t ∷ ts) ns h = distinct_after ts (names_with ns t.meaning) (distinct_names ns t.meaning h)
 
-numbered_spans : (text : List ℕ) (ts : List Read) (ns ls : List (List ℕ)) (s e : ℕ) → SpansFrom s e (map span ts) (length text)
+numbered_spans : (text : List ℕ) (ts : List TokenRead) (ns ls : List (List ℕ)) (s e : ℕ) → SpansFrom s e (map span ts) (length text)
     → AllByRecursion (IsSpan text) (numbered ns ls ts)
 numbered_spans text [] ns ls s e h = tt
 numbered_spans text (t ∷ ts) ns ls s e h = ((h.2, h.3), numbered_spans text ts (names_with ns t.meaning) (literals_with ls t.meaning) t.start t.end h.4)
 
-numbered_order : (ts : List Read) (ns ls : List (List ℕ)) (s e b : ℕ) → SpansFrom s e (map span ts) b → AreInOrder s e (numbered ns ls ts)
+numbered_order : (ts : List TokenRead) (ns ls : List (List ℕ)) (s e b : ℕ) → SpansFrom s e (map span ts) b → AreInOrder s e (numbered ns ls ts)
 numbered_order [] ns ls s e b h = tt
 numbered_order (t ∷ ts) ns ls s e b h = (h.0, h.1, numbered_order ts (names_with ns t.meaning) (literals_with ls t.meaning) t.start t.end b h.4)
 
-pub is_reading : (text : List ℕ) (reads : List Read) (stdio stdlib : Bool) (end : Place) → SpansFrom 0 0 (map span reads) (length text)
+pub is_reading : (text : List ℕ) (reads : List TokenRead) (stdio stdlib : Bool) (end : Place) → SpansFrom 0 0 (map span reads) (length text)
     → IsReading (record {
       text = text;
-      tokens = numbered [] [] (joined reads);
-      names = names_after [] (joined reads);
-      literals = literals_after [] (joined reads);
+      tokens = numbered [] [] (joined_literals reads);
+      names = names_after [] (joined_literals reads);
+      literals = literals_after [] (joined_literals reads);
       stdio = stdio;
       stdlib = stdlib;
       end = end;
     })
 is_reading text reads stdio stdlib end h =
-    let ts = joined reads in
+    let ts = joined_literals reads in
     let spans = joined_steps reads 0 0 (length text) h in
     record {
       spans = All-from_recursion (IsSpan text) (numbered [] [] ts) (numbered_spans text ts [] [] 0 0 spans);

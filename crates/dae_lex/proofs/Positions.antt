@@ -6,7 +6,7 @@ use Rattle.std.proofs.lemmas.List.{length-append}
 use Rattle.std.proofs.lemmas.List.Sums.{passes_at_first}
 use Rattle.std.proofs.lemmas.Bool.Decides.{same_from_decides, Decides-like, Decides-eqb}
 use Rattle.std.proofs.lemmas.Slice.Eq.{bytes_eq-Decides}
-use Rattle.dae_lex.specs.declared.numbers.Numbers.{Numbers}
+use Rattle.dae_lex.specs.declared.numbers.WordNumbers.{WordNumbers}
 use Rattle.dae_lex.specs.Numbers.{words_of, IsName}
 
 position_one : (b : Bool) (k n : ℕ) → k ≤ n → cond (not b) (1 + k) 0 ≤ n + 1
@@ -75,7 +75,7 @@ word_at ns k n h =
     ap (λ i. get_or ns i []) h.0 ∙ sym ((bytes_eq-Decides n _).0 (passes_at_first (bytes_eq n) ns [] within))
 
 -- numbers of words are equal where the words are
-pub same_word : (w : Numbers) (j k : ℕ) (m n : List ℕ) → IsName w j m → IsName w k n → nat_eq j k ≡ bytes_eq m n
+pub same_word : (w : WordNumbers) (j k : ℕ) (m n : List ℕ) → IsName w j m → IsName w k n → nat_eq j k ≡ bytes_eq m n
 same_word w j k m n a b =
     let ws = words_of w in
     same_from_decides {P = m ≡ n} (nat_eq j k) (bytes_eq m n)

@@ -9,16 +9,16 @@ use Rattle.dae_tree.specs.declared.pieces.PieceKind.{PieceKind}
 use Rattle.dae_tree.specs.declared.pieces.PieceKind.TheVariants as kinds
 use Rattle.dae_tree.specs.declared.headers.Header.{Header}
 use Rattle.dae_tree.specs.declared.tokens.Room.{Room}
-use Rattle.dae_tree.specs.declared.faults.Fault.{Fault}
-use Rattle.dae_tree.specs.declared.faults.Fault.TheVariants as faults
+use Rattle.dae_tree.specs.declared.faults.TextFault.{TextFault}
+use Rattle.dae_tree.specs.declared.faults.TextFault.TheVariants as faults
 use Rattle.dae_tree.specs.declared.faults.Construct.{Construct}
 use Rattle.dae_tree.specs.declared.faults.Construct.TheVariants.{Directive, FunctionMacro, HashInMacro, LiteralsTooLong}
 use Rattle.dae_tree.specs.declared.faults.LexError.{LexError}
 use Rattle.dae_tree.specs.declared.faults.LexError.TheVariants.{BadByte, TooManyTokens, Refused, Memory}
 use Rattle.dae_tree.specs.Tables.{header_of}
 use Rattle.dae_tree.specs.Pieces.{Cut}
-use Rattle.dae_tree.specs.Replacing.{Meaning, Definition, Item, taken, replaced, refused, Read, Tested, token, failed, tested_one, error_at, items_by, items_of, replacement, expand, within_replacements, within_tokens, tested, literal_length, within_literals, before_all, outcome}
-use Rattle.dae_tree.specs.Directives.{Line, text, refuse, define, include, header_definitions, is_hash_kind, is_blank_kind, is_end_kind, lines_of, with_first, from_mark, stray, stray_by, body_fault_by, first_fault, begins_call, defined_unless, definition_in, header_in, alone, inclusion_in, directive_in, line_in, line_of, known_as, conflict_items, definition_items, with_definition, replaced_text, line_items, macros_after, replaced_lines}
+use Rattle.dae_tree.specs.Replacing.{Meaning, Definition, TextItem, taken, replaced, refused, TokenRead, Tested, token, failed, tested_one, error_at, items_by, items_of, replacement, expand, within_replacements, within_tokens, tested, literal_length, within_literals, before_all, outcome}
+use Rattle.dae_tree.specs.Directives.{DirectiveLine, text, refuse, define, include, header_definitions, is_hash_kind, is_blank_kind, is_end_kind, lines_of, with_first, from_mark, stray, stray_by, body_fault_by, first_fault, begins_call, defined_unless, definition_in, header_in, alone, inclusion_in, directive_in, line_in, line_of, known_as, conflict_items, definition_items, with_definition, replaced_text, line_items, macros_after, replaced_lines}
 use Rattle.dae_tree.specs.Tokens.{tested_of}
 use Rattle.dae_tree.specs.Order.{IsNoLater, place_of_error, refusals, HasLeastPlace}
 use Rattle.dae_lex_scan.specs.Cuts.{PlacesFrom}
@@ -27,13 +27,13 @@ use Rattle.dae_lex_scan.proofs.Laws.{same_place, later, places_earlier, places_a
 use Rattle.dae_lex.proofs.Spans.{concat, concat_first}
 
 -- the places of items
-abbrev item_places : List Item → List Place
+abbrev item_places : List TextItem → List Place
 item_places [] = []
 item_places (taken m o ∷ is) = o.place ∷ item_places is
 item_places (replaced o ∷ is) = o.place ∷ item_places is
 item_places (refused e ∷ is) = place_of_error e ++ item_places is
 
-items_append : (xs ys : List Item) → item_places (xs ++ ys) ≡ item_places xs ++ item_places ys
+items_append : (xs ys : List TextItem) → item_places (xs ++ ys) ≡ item_places xs ++ item_places ys
 items_append [] ys = refl
 items_append (taken m o ∷ xs) ys = ap (λ zs. o.place ∷ zs) (items_append xs ys)
 items_append (replaced o ∷ xs) ys = ap (λ zs. o.place ∷ zs) (items_append xs ys)
@@ -49,11 +49,11 @@ at_append : (r : Place) (xs ys : List Place) → AllAt r xs → AllAt r ys → A
 at_append r [] ys h k = k
 at_append r (x ∷ xs) ys h k = (h.0, at_append r xs ys h.1 k)
 
-error_at_place : (fault : Fault) (p : Place) → AllAt p (place_of_error (error_at fault p))
+error_at_place : (fault : TextFault) (p : Place) → AllAt p (place_of_error (error_at fault p))
 error_at_place faults.BadByte p = (refl, tt)
 error_at_place (faults.Named c) p = (refl, tt)
 
-refused_at : (fault : Fault) (p : Place) → AllAt p (item_places (refused (error_at fault p) ∷ []))
+refused_at : (fault : TextFault) (p : Place) → AllAt p (item_places (refused (error_at fault p) ∷ []))
 refused_at faults.BadByte p = (refl, tt)
 refused_at (faults.Named c) p = (refl, tt)
 
@@ -69,7 +69,7 @@ items_at (kinds.Late c) p o = (refl, tt)
 items_at (kinds.Faulty f) p o = refused_at f o.place
 items_at (kinds.FaultyComment f) p o = refused_at f o.place
 
-flat_at : (r : Place) (f : Cut → List Item) (ps : List Cut) → ((p : Cut) → AllAt r (item_places (f p))) → AllAt r (item_places (flat_map f ps))
+flat_at : (r : Place) (f : Cut → List TextItem) (ps : List Cut) → ((p : Cut) → AllAt r (item_places (f p))) → AllAt r (item_places (flat_map f ps))
 flat_at r f [] h = tt
 flat_at r f (p ∷ ps) h =
     subst (AllAt r) (sym (items_append (f p) (flat_map f ps))) (at_append r (item_places (f p)) (item_places (flat_map f ps)) (h p) (flat_at r f ps h))
@@ -79,7 +79,7 @@ expand_none_at : (r : Option (List Cut)) (c : Construct) (p o : Cut)
 expand_none_at None c p o = items_at p.kind p o
 expand_none_at (Some body) c p o = (refl, tt)
 
-expand_some_at : (r : Option (List Cut)) (f : Cut → List Item) (p o : Cut) → ((q : Cut) → AllAt o.place (item_places (f q)))
+expand_some_at : (r : Option (List Cut)) (f : Cut → List TextItem) (p o : Cut) → ((q : Cut) → AllAt o.place (item_places (f q)))
     → AllAt o.place (item_places (elim r [ None ↦ items_of p o | Some body ↦ replaced o ∷ flat_map f body ]))
 expand_some_at None f p o h = items_at p.kind p o
 expand_some_at (Some body) f p o h = (refl, flat_at o.place f body h)
@@ -164,20 +164,20 @@ fault_in (p ∷ ps) e h = fault_one p ps (body_fault_by p.kind p) e refl (fault_
 
 -- what a directive is refused for stands at its number sign or at one of these pieces
 module _ (n : ℕ) (macros : List Definition) (hash : Place) where
-  abbrev Located : List Cut → Line → Type 0
+  abbrev Located : List Cut → DirectiveLine → Type 0
   Located ps line = (r : Place) × (((r ≡ hash) ⊎ In r ps) × AllAt r (item_places (line_items n macros line)))
 
-  at_hash : (ps : List Cut) (line : Line) → AllAt hash (item_places (line_items n macros line)) → Located ps line
+  at_hash : (ps : List Cut) (line : DirectiveLine) → AllAt hash (item_places (line_items n macros line)) → Located ps line
   at_hash ps line h = (hash, (inl refl, h))
 
   wider_one : (ps qs : List Cut) (r : Place) → ((r : Place) → In r qs → In r ps) → ((r ≡ hash) ⊎ In r qs) → ((r ≡ hash) ⊎ In r ps)
   wider_one ps qs r f (inl e) = inl e
   wider_one ps qs r f (inr h) = inr (f r h)
 
-  wider : (ps qs : List Cut) (line : Line) → ((r : Place) → In r qs → In r ps) → Located qs line → Located ps line
+  wider : (ps qs : List Cut) (line : DirectiveLine) → ((r : Place) → In r qs → In r ps) → Located qs line → Located ps line
   wider ps qs line f l = (l.0, (wider_one ps qs l.0 f l.1.0, l.1.1))
 
-  located_if : (ps : List Cut) (b : Bool) (x y : Line) → Located ps x → Located ps y → Located ps (if b then x else y)
+  located_if : (ps : List Cut) (b : Bool) (x y : DirectiveLine) → Located ps x → Located ps y → Located ps (if b then x else y)
   located_if ps true x y h k = h
   located_if ps false x y h k = k
 
@@ -259,11 +259,11 @@ module _ (n : ℕ) (macros : List Definition) (hash : Place) where
 
 -- a line is text, or all that it gives stands at one of its pieces
 module _ (n : ℕ) (macros : List Definition) where
-  abbrev LineCase : List Cut → Line → Type 0
+  abbrev LineCase : List Cut → DirectiveLine → Type 0
   LineCase all line = (item_places (line_items n macros line) ≡ item_places (replaced_text n macros all))
       ⊎ ((item_places (line_items n macros line) ≡ []) ⊎ ((r : Place) × (In r all × AllAt r (item_places (line_items n macros line)))))
 
-  line_case_if : (all : List Cut) (b : Bool) (line : Line) → ((r : Place) × (In r all × AllAt r (item_places (line_items n macros line))))
+  line_case_if : (all : List Cut) (b : Bool) (line : DirectiveLine) → ((r : Place) × (In r all × AllAt r (item_places (line_items n macros line))))
       → LineCase all (if b then line else text all)
   line_case_if all true line h = inr (inr h)
   line_case_if all false line h = inl refl
@@ -308,7 +308,7 @@ tail_places : (xs ys zs : List Place) (q : Place) → PlacesFrom q (xs ++ ys) �
 tail_places [] ys zs q w more = more q w
 tail_places (x ∷ xs) ys zs q w more = (w.0, tail_places xs ys zs x w.1 more)
 
-replacements_places : (items : List Item) (n : ℕ) (q : Place) → PlacesFrom q (item_places items) → PlacesFrom q (item_places (within_replacements n items))
+replacements_places : (items : List TextItem) (n : ℕ) (q : Place) → PlacesFrom q (item_places items) → PlacesFrom q (item_places (within_replacements n items))
 replacements_places [] zero q w = tt
 replacements_places [] (suc n) q w = tt
 replacements_places (taken m o ∷ is) zero q w = (w.0, replacements_places is 0 o.place w.1)
@@ -318,7 +318,7 @@ replacements_places (replaced o ∷ is) (suc n) q w = places_earlier q o.place _
 replacements_places (refused e ∷ is) zero q w = tail_places (place_of_error e) (item_places is) _ q w (λ t v. replacements_places is 0 t v)
 replacements_places (refused e ∷ is) (suc n) q w = tail_places (place_of_error e) (item_places is) _ q w (λ t v. replacements_places is (suc n) t v)
 
-tokens_places : (items : List Item) (n : ℕ) (q : Place) → PlacesFrom q (item_places items) → PlacesFrom q (item_places (within_tokens n items))
+tokens_places : (items : List TextItem) (n : ℕ) (q : Place) → PlacesFrom q (item_places items) → PlacesFrom q (item_places (within_tokens n items))
 tokens_places [] zero q w = tt
 tokens_places [] (suc n) q w = tt
 tokens_places (taken m o ∷ is) zero q w = (w.0, tokens_places is 0 o.place w.1)
@@ -338,13 +338,13 @@ tested_first : (m : Result Meaning Construct) (o : Cut) (ts : List Tested) (q : 
 tested_first (Ok m) o ts q h w = (h, w)
 tested_first (Err c) o ts q h w = (h, w)
 
-tests_places : (items : List Item) (q : Place) → PlacesFrom q (item_places items) → PlacesFrom q (tested_places (tested items))
+tests_places : (items : List TextItem) (q : Place) → PlacesFrom q (item_places items) → PlacesFrom q (tested_places (tested items))
 tests_places [] q w = tt
 tests_places (taken m o ∷ is) q w = tested_first m o (tested is) q w.0 (tests_places is o.place w.1)
 tests_places (replaced o ∷ is) q w = places_earlier q o.place _ w.0 (tests_places is o.place w.1)
 tests_places (refused e ∷ is) q w = tail_places (place_of_error e) (item_places is) _ q w (λ t v. tests_places is t v)
 
-literal_first : (t : Read) (b : Bool) (us vs : List Tested) (q : Place) → IsNoLater q t.place → PlacesFrom t.place (tested_places us) → PlacesFrom t.place (tested_places vs)
+literal_first : (t : TokenRead) (b : Bool) (us vs : List Tested) (q : Place) → IsNoLater q t.place → PlacesFrom t.place (tested_places us) → PlacesFrom t.place (tested_places vs)
     → PlacesFrom q (tested_places (if b then token t ∷ us else failed (Refused LiteralsTooLong t.place) ∷ vs))
 literal_first t true us vs q h v w = (h, v)
 literal_first t false us vs q h v w = (h, w)
@@ -371,7 +371,7 @@ tested_chain room n ps q w =
     (tests_places (within_tokens room.tokens (within_replacements room.replacements items)) q b)
 
 -- the first refusal
-before_err : (t : Read) (x : Result (List Read) LexError) (e : LexError) → before_all t x ≡ Err e → x ≡ Err e
+before_err : (t : TokenRead) (x : Result (List TokenRead) LexError) (e : LexError) → before_all t x ≡ Err e → x ≡ Err e
 before_err t (Ok ts) e h = absurd (cc)
 before_err t (Err f) e h = h
 

@@ -9,9 +9,9 @@ use Rattle.dae_tree.specs.declared.pieces.PieceKind.TheVariants as kinds
 use Rattle.dae_tree.specs.declared.headers.Header.{Header}
 use Rattle.dae_tree.specs.declared.faults.LexError.{LexError}
 use Rattle.dae_tree.specs.Pieces.{Cut}
-use Rattle.dae_tree.specs.Replacing.{Definition, Item, taken, replaced, refused, Read, items_by, items_of, replacement, expand}
-use Rattle.dae_tree.specs.Directives.{Line, text, is_hash_kind, is_end_kind, lines_of, with_first, from_mark, stray, stray_by, first_fault, begins_call, defined_unless, definition_in, header_in, alone, inclusion_in, directive_in, line_in, line_of, known_as, conflict_items, definition_items, with_definition, replaced_text, line_items, macros_after, replaced_lines}
-use Rattle.dae_tree.specs.Tokens.{literal_of, before, before_by, joined}
+use Rattle.dae_tree.specs.Replacing.{Definition, TextItem, taken, replaced, refused, TokenRead, items_by, items_of, replacement, expand}
+use Rattle.dae_tree.specs.Directives.{DirectiveLine, text, is_hash_kind, is_end_kind, lines_of, with_first, from_mark, stray, stray_by, first_fault, begins_call, defined_unless, definition_in, header_in, alone, inclusion_in, directive_in, line_in, line_of, known_as, conflict_items, definition_items, with_definition, replaced_text, line_items, macros_after, replaced_lines}
+use Rattle.dae_tree.specs.Tokens.{literal_of, before, before_by, joined_literals}
 use Rattle.dae_lex_scan.specs.Cuts.{FollowEachOther}
 use Rattle.dae_lex.specs.Whole.{span, origins, SpansFrom}
 
@@ -28,7 +28,7 @@ same_append : (x : ℕ × ℕ) (xs ys : List (ℕ × ℕ)) → AllSame x xs → 
 same_append x [] ys h k = k
 same_append x (y ∷ xs) ys h k = (h.0, same_append x xs ys h.1 k)
 
-origins_append : (xs ys : List Item) → origins (xs ++ ys) ≡ origins xs ++ origins ys
+origins_append : (xs ys : List TextItem) → origins (xs ++ ys) ≡ origins xs ++ origins ys
 origins_append [] ys = refl
 origins_append (taken m o ∷ xs) ys = ap (λ zs. (o.start, o.end) ∷ zs) (origins_append xs ys)
 origins_append (replaced o ∷ xs) ys = origins_append xs ys
@@ -46,7 +46,7 @@ items_same (kinds.Late c) p o = (refl, tt)
 items_same (kinds.Faulty f) p o = tt
 items_same (kinds.FaultyComment f) p o = tt
 
-flat_same : (x : ℕ × ℕ) (f : Cut → List Item) (ps : List Cut) → ((p : Cut) → AllSame x (origins (f p))) → AllSame x (origins (flat_map f ps))
+flat_same : (x : ℕ × ℕ) (f : Cut → List TextItem) (ps : List Cut) → ((p : Cut) → AllSame x (origins (f p))) → AllSame x (origins (flat_map f ps))
 flat_same x f [] h = tt
 flat_same x f (p ∷ ps) h =
     subst (AllSame x) (sym (origins_append (f p) (flat_map f ps))) (same_append x (origins (f p)) (origins (flat_map f ps)) (h p) (flat_same x f ps h))
@@ -56,7 +56,7 @@ expand_none_same : (r : Option (List Cut)) (error : LexError) (p o : Cut)
 expand_none_same None error p o = items_same p.kind p o
 expand_none_same (Some body) error p o = tt
 
-expand_some_same : (r : Option (List Cut)) (f : Cut → List Item) (p o : Cut) → ((q : Cut) → AllSame (o.start, o.end) (origins (f q)))
+expand_some_same : (r : Option (List Cut)) (f : Cut → List TextItem) (p o : Cut) → ((q : Cut) → AllSame (o.start, o.end) (origins (f q)))
     → AllSame (o.start, o.end) (origins (elim r [ None ↦ items_of p o | Some body ↦ replaced o ∷ flat_map f body ]))
 expand_some_same None f p o h = items_same p.kind p o
 expand_some_same (Some body) f p o h = flat_same (o.start, o.end) f body h
@@ -122,7 +122,7 @@ text_steps n macros (p ∷ ps) rest ys s e b h k more =
 
 -- a directive gives no tokens
 module _ (n : ℕ) (macros : List Definition) where
-  abbrev Silent : Line → Type 0
+  abbrev Silent : DirectiveLine → Type 0
   Silent line = origins (line_items n macros line) ≡ []
 
   silent_conflict : (known : Option Bool) (hash : Place) → origins (conflict_items known hash) ≡ []
@@ -130,7 +130,7 @@ module _ (n : ℕ) (macros : List Definition) where
   silent_conflict (Some true) hash = refl
   silent_conflict (Some false) hash = refl
 
-  silent_if : (b : Bool) (x y : Line) → Silent x → Silent y → Silent (if b then x else y)
+  silent_if : (b : Bool) (x y : DirectiveLine) → Silent x → Silent y → Silent (if b then x else y)
   silent_if true x y h k = h
   silent_if false x y h k = k
 
@@ -186,7 +186,7 @@ module _ (n : ℕ) (macros : List Definition) (hash : Place) where
       (silent_inclusion (from_mark ps)) (silent_stray n macros p.kind p hash))
 
 -- a line is text or gives no tokens
-hash_or_text : (n : ℕ) (macros : List Definition) (all : List Cut) (b : Bool) (line : Line) → Silent n macros line
+hash_or_text : (n : ℕ) (macros : List Definition) (all : List Cut) (b : Bool) (line : DirectiveLine) → Silent n macros line
     → (origins (line_items n macros (if b then line else text all)) ≡ []) ⊎ (origins (line_items n macros (if b then line else text all)) ≡ origins (replaced_text n macros all))
 hash_or_text n macros all true line h = inl h
 hash_or_text n macros all false line h = inr refl
@@ -215,7 +215,7 @@ pub pieces_steps : (n : ℕ) (ps : List Cut) (b : ℕ) → FollowEachOther 0 ps 
 pieces_steps n ps b h = lines_steps n [] (lines_of ps) 0 0 b (follow_lines ps 0 b h) (omega arith)
 
 -- joined literals
-before_steps : (t u : Read) (us : List Read) (x y : Option (List ℕ)) (s e b : ℕ) → s ≤ t.start → e ≤ t.end → t.start < t.end → t.end ≤ b
+before_steps : (t u : TokenRead) (us : List TokenRead) (x y : Option (List ℕ)) (s e b : ℕ) → s ≤ t.start → e ≤ t.end → t.start < t.end → t.end ≤ b
     → SpansFrom t.start t.end (map span (u ∷ us)) b → SpansFrom s e (map span (before_by x y t u us)) b
 before_steps t u us None y s e b h k l m w = (h, k, l, m, w)
 before_steps t u us (Some x) None s e b h k l m w = (h, k, l, m, w)
@@ -224,11 +224,11 @@ before_steps t u us (Some x) (Some y) s e b h k l m w =
     let g = w.1 in
     (h, omega arith, omega arith, w.3, earlier u.start u.end t.start u.end (map span us) b f (omega arith) w.4)
 
-before_all_steps : (t : Read) (us : List Read) (s e b : ℕ) → s ≤ t.start → e ≤ t.end → t.start < t.end → t.end ≤ b
+before_all_steps : (t : TokenRead) (us : List TokenRead) (s e b : ℕ) → s ≤ t.start → e ≤ t.end → t.start < t.end → t.end ≤ b
     → SpansFrom t.start t.end (map span us) b → SpansFrom s e (map span (before t us)) b
 before_all_steps t [] s e b h k l m w = (h, k, l, m, tt)
 before_all_steps t (u ∷ us) s e b h k l m w = before_steps t u us (literal_of t.meaning) (literal_of u.meaning) s e b h k l m w
 
-pub joined_steps : (ts : List Read) (s e b : ℕ) → SpansFrom s e (map span ts) b → SpansFrom s e (map span (joined ts)) b
+pub joined_steps : (ts : List TokenRead) (s e b : ℕ) → SpansFrom s e (map span ts) b → SpansFrom s e (map span (joined_literals ts)) b
 joined_steps [] s e b h = tt
-joined_steps (t ∷ ts) s e b h = before_all_steps t (joined ts) s e b h.0 h.1 h.2 h.3 (joined_steps ts t.start t.end b h.4)
+joined_steps (t ∷ ts) s e b h = before_all_steps t (joined_literals ts) s e b h.0 h.1 h.2 h.3 (joined_steps ts t.start t.end b h.4)

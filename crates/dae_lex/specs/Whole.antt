@@ -2,10 +2,10 @@
 use Rattle.std.specs.Prelude.{◌≡◌, ℕ, ◌<◌, ◌≤◌, Bool, List, [], ◌∷◌, map, length, Result, Ok, Err}
 use Rattle.dae_base.specs.declared.Place.{Place}
 use Rattle.dae_tree.specs.Pieces.{Cut}
-use Rattle.dae_tree.specs.Replacing.{Item, taken, replaced, refused, Read}
+use Rattle.dae_tree.specs.Replacing.{TextItem, taken, replaced, refused, TokenRead}
 use Rattle.dae_tree.specs.Directives.{lines_of, replaced_lines, includes}
 use Rattle.dae_tree.specs.Reading.{Reading}
-use Rattle.dae_tree.specs.Tokens.{joined, numbered, names_after, literals_after, reads_of, room_after}
+use Rattle.dae_tree.specs.Tokens.{joined_literals, numbered, names_after, literals_after, reads_of, room_after}
 use Rattle.dae_tree.specs.declared.headers.Header.TheVariants.{Stdio, Stdlib}
 use Rattle.dae_tree.specs.declared.tokens.Includes.{Includes}
 use Rattle.dae_tree.specs.declared.tokens.Room.{Room}
@@ -13,14 +13,14 @@ use Rattle.dae_tree.specs.declared.faults.LexError.{LexError}
 use Rattle.dae_lex.specs.declared.output.Output.{Output}
 use Rattle.dae_lex.specs.Settling.{read_of, Fails}
 
-abbrev pub items_of_pieces : Room → List Cut → List Item
+abbrev pub items_of_pieces : Room → List Cut → List TextItem
 items_of_pieces room pieces = replaced_lines room.replacements [] (lines_of pieces)
 
 -- the spans of tokens, and of the pieces that the items come from
-abbrev pub span : Read → ℕ × ℕ
+abbrev pub span : TokenRead → ℕ × ℕ
 span t = (t.start, t.end)
 
-abbrev pub origins : List Item → List (ℕ × ℕ)
+abbrev pub origins : List TextItem → List (ℕ × ℕ)
 origins [] = []
 origins (taken meaning origin ∷ items) = (origin.start, origin.end) ∷ origins items
 origins (replaced origin ∷ items) = origins items
@@ -41,12 +41,12 @@ pub record HasRead (room : Room) (pieces : List Cut) (seen : Includes) (out : Ou
   pub few : length out.tokens.items ≤ room.tokens
 
 -- a text with the tokens that were read of it, its literals joined
-abbrev pub reading_with : List ℕ → List Read → Bool → Bool → Place → Reading
+abbrev pub reading_with : List ℕ → List TokenRead → Bool → Bool → Place → Reading
 reading_with text rs stdio stdlib end = record {
   text = text;
-  tokens = numbered [] [] (joined rs);
-  names = names_after [] (joined rs);
-  literals = literals_after [] (joined rs);
+  tokens = numbered [] [] (joined_literals rs);
+  names = names_after [] (joined_literals rs);
+  literals = literals_after [] (joined_literals rs);
   stdio = stdio;
   stdlib = stdlib;
   end = end;

@@ -9,25 +9,25 @@ ghost use Rattle.dae_tree.specs.declared.headers.Header.TheVariants.{Stdio, Stdl
 ghost use Rattle.dae_tree.specs.declared.faults.LexError.TheVariants.{Memory};
 ghost use Rattle.dae_lex_scan.specs.Cuts.{cut_of};
 ghost use Rattle.dae_lex.specs.Numbers.{IsName, IsNumbered, Keeps, AreDefined, cuts_of, definition_of, definitions_of};
-ghost use Rattle.dae_lex.specs.Settling.{State, Settles, AreRead, state_of, settle};
-ghost use Rattle.dae_lex.specs.declared.numbers.Numbers.{Numbers as Numbers_};
+ghost use Rattle.dae_lex.specs.Settling.{LexState, Settles, AreRead, state_of, settle};
+ghost use Rattle.dae_lex.specs.declared.numbers.WordNumbers.{WordNumbers as Numbers_};
 ghost use Rattle.dae_lex.specs.Rows.{rows_of};
 
 use crate::macros::{Macro, Macros};
-use crate::numbers::{NumberedPiece, Numbers};
+use crate::numbers::{NumberedPiece, WordNumbers};
 use crate::output::{Output, fixed_meaning};
 use crate::replace::replace_piece;
 use dae_base::Place;
-use dae_lex_scan::{Piece, ReadLine, blank_kind, line_length, number_kind, read_line};
+use dae_lex_scan::{ReadLine, SourcePiece, blank_kind, line_length, number_kind, read_line};
 use dae_tree::{Construct, Header, Includes, LexError, STDIO_MACROS, STDLIB_MACROS};
 use std::alloc::Global;
 
 /// Appends a piece, with its number.
 fn push_numbered<'j>(
     alloc: Global,
-    numbers: &mut Numbers<'j>,
+    numbers: &mut WordNumbers<'j>,
     body: &mut Vec<NumberedPiece<'j>>,
-    piece: Piece<'j>,
+    piece: SourcePiece<'j>,
 ) -> Result<(), LexError>
     requires { All (IsNumbered numbers.old) body.old.items }
     ensures pieces { OnOk result
@@ -46,8 +46,8 @@ fn push_numbered<'j>(
 /// The pieces that are no blanks, with their numbers. Only memory can be wanting.
 fn marks<'j>(
     alloc: Global,
-    numbers: &mut Numbers<'j>,
-    pieces: &[Piece<'j>],
+    numbers: &mut WordNumbers<'j>,
+    pieces: &[SourcePiece<'j>],
 ) -> Result<Vec<NumberedPiece<'j>>, LexError>
     ensures ok { IfOk result (λ v. cuts_of v.items ≡ marks_of (map cut_of pieces.now)) }
     ensures numbered { IfOk result (λ v. All (IsNumbered numbers.new) v.items) }
@@ -92,14 +92,14 @@ fn redefined<'j>(macros: &Macros<'j>, number: usize, new: &Macro<'j>) -> Option<
 
 /// Takes a definition.
 fn define<'j>(
-    numbers: &mut Numbers<'j>,
+    numbers: &mut WordNumbers<'j>,
     macros: &mut Macros<'j>,
     hash: Place,
     new: Macro<'j>,
 ) -> Result<(), LexError>
     requires defined { AreDefined numbers.old macros.old }
     requires numbered { All (IsNumbered numbers.old) new.body.items }
-    ensures settles { (s : State) → Settles s result
+    ensures settles { (s : LexState) → Settles s result
         (settle s (conflict_items
         (known_as (definitions_of macros.old) (definition_of new.entry)) hash)) }
     ensures macros { OnOk result
@@ -119,7 +119,7 @@ fn define<'j>(
 /// A number as the whole replacement of a macro.
 fn number_body<'j>(
     alloc: Global,
-    numbers: &mut Numbers<'j>,
+    numbers: &mut WordNumbers<'j>,
     hash: Place,
     digits: &'j [u8],
 ) -> Result<Vec<NumberedPiece<'j>>, LexError>
@@ -130,7 +130,7 @@ fn number_body<'j>(
     ensures err { IfErr result (λ e. e ≡ Memory) }
 {
     let mut body = Vec::new(alloc);
-    let piece = Piece {
+    let piece = SourcePiece {
         kind: number_kind(digits),
         spelling: digits,
         start: 0,
@@ -144,13 +144,13 @@ fn number_body<'j>(
 /// Takes the macros of a header.
 fn define_numbers<'j>(
     alloc: Global,
-    numbers: &mut Numbers<'j>,
+    numbers: &mut WordNumbers<'j>,
     macros: &mut Macros<'j>,
     hash: Place,
     rows: &[(&'static [u8], &'static [u8])],
 ) -> Result<(), LexError>
     requires { AreDefined numbers.old macros.old }
-    ensures settles { (s : State) → Settles s result
+    ensures settles { (s : LexState) → Settles s result
         (settle s (definition_items hash (definitions_of macros.old)
         (map (number_macro hash) (rows_of rows.now)))) }
     ensures macros { OnOk result
@@ -173,13 +173,13 @@ fn define_numbers<'j>(
 /// Takes an include of a header.
 fn include<'j>(
     alloc: Global,
-    numbers: &mut Numbers<'j>,
+    numbers: &mut WordNumbers<'j>,
     macros: &mut Macros<'j>,
     hash: Place,
     header: Header,
 ) -> Result<(), LexError>
     requires { AreDefined numbers.old macros.old }
-    ensures settles { (s : State) → Settles s result
+    ensures settles { (s : LexState) → Settles s result
         (settle s (definition_items hash (definitions_of macros.old)
         (header_definitions hash header))) }
     ensures macros { OnOk result
@@ -197,14 +197,14 @@ fn include<'j>(
 /// Takes a define whose replacement has no fault.
 fn define_pieces<'j>(
     alloc: Global,
-    numbers: &mut Numbers<'j>,
+    numbers: &mut WordNumbers<'j>,
     macros: &mut Macros<'j>,
     hash: Place,
-    name: Piece<'j>,
-    rest: &[Piece<'j>],
+    name: SourcePiece<'j>,
+    rest: &[SourcePiece<'j>],
 ) -> Result<(), LexError>
     requires { AreDefined numbers.old macros.old }
-    ensures settles { (s : State) → Settles s result
+    ensures settles { (s : LexState) → Settles s result
         (settle s (definition_items hash (definitions_of macros.old)
         (record { name = name.entry.spelling.now; body = marks_of (map cut_of rest.now) }
         ∷ []))) }
@@ -226,9 +226,9 @@ fn define_pieces<'j>(
 /// Puts out what a piece of the text becomes, with its number where it is a word or a literal.
 fn take_numbered<'j>(
     alloc: Global,
-    numbers: &mut Numbers<'j>,
+    numbers: &mut WordNumbers<'j>,
     macros: &Macros<'j>,
-    piece: &Piece<'j>,
+    piece: &SourcePiece<'j>,
     out: &mut Output<'j>,
 ) -> Result<(), LexError>
     requires defined { AreDefined numbers.old macros.now }
@@ -248,9 +248,9 @@ fn take_numbered<'j>(
 /// Puts out what a piece of the text becomes. Most pieces are blanks, signs and constants, which need no look-up.
 fn take_piece<'j>(
     alloc: Global,
-    numbers: &mut Numbers<'j>,
+    numbers: &mut WordNumbers<'j>,
     macros: &Macros<'j>,
-    piece: &Piece<'j>,
+    piece: &SourcePiece<'j>,
     out: &mut Output<'j>,
 ) -> Result<(), LexError>
     requires defined { AreDefined numbers.old macros.now }
@@ -275,9 +275,9 @@ fn take_piece<'j>(
 /// Puts out what a line of text becomes.
 fn take_text<'j>(
     alloc: Global,
-    numbers: &mut Numbers<'j>,
+    numbers: &mut WordNumbers<'j>,
     macros: &Macros<'j>,
-    pieces: &[Piece<'j>],
+    pieces: &[SourcePiece<'j>],
     out: &mut Output<'j>,
 ) -> Result<(), LexError>
     requires defined { AreDefined numbers.old macros.now }
@@ -302,9 +302,9 @@ fn take_text<'j>(
 /// Takes one line, and says which header it includes.
 fn take_line<'j>(
     alloc: Global,
-    numbers: &mut Numbers<'j>,
+    numbers: &mut WordNumbers<'j>,
     macros: &mut Macros<'j>,
-    pieces: &[Piece<'j>],
+    pieces: &[SourcePiece<'j>],
     out: &mut Output<'j>,
 ) -> Result<Option<Header>, LexError>
     requires defined { AreDefined numbers.old macros.old }
@@ -365,8 +365,8 @@ fn with_header(seen: Includes, found: Option<Header>) -> Includes
 /// Puts out what the lines become, and says which headers they include.
 pub fn take_lines<'j>(
     alloc: Global,
-    numbers: &mut Numbers<'j>,
-    pieces: &[Piece<'j>],
+    numbers: &mut WordNumbers<'j>,
+    pieces: &[SourcePiece<'j>],
     out: &mut Output<'j>,
 ) -> Result<Includes, LexError>
     requires { AreRead numbers.old out.old }

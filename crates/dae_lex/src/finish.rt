@@ -3,18 +3,18 @@
 ghost use Rattle.std.specs.Prelude.{◌≡◌, ◌≤◌, ◌<◌, ◌+◌, ◌-◌, ◌^◌, ◌++◌, ℕ, [], ◌∷◌, List, None, length, map, IfOk, OnOk, IfErr, All};
 ghost use Rattle.std.specs.List.{position_or_len};
 ghost use Rattle.std.specs.Str.{bytes_eq};
-ghost use Rattle.dae_tree.specs.Replacing.{Read, name as Name};
-ghost use Rattle.dae_tree.specs.Tokens.{literal_of, names_with, kind_of, before, joined};
+ghost use Rattle.dae_tree.specs.Replacing.{TokenRead, name as Name};
+ghost use Rattle.dae_tree.specs.Tokens.{literal_of, names_with, kind_of, before, joined_literals};
 ghost use Rattle.dae_tree.specs.declared.faults.LexError.TheVariants.{Memory};
 ghost use Rattle.dae_lex.specs.Numbers.{IsName};
 ghost use Rattle.dae_lex.specs.Settling.{IsMeant, meaning_of, read_of};
 ghost use Rattle.dae_lex.specs.Finishing.{AreNamed, names_in, built_of, read_literal, longer_of, waiting, finished, added, closed};
-ghost use Rattle.dae_lex.specs.declared.numbers.Numbers.{Numbers as Numbers_};
+ghost use Rattle.dae_lex.specs.declared.numbers.WordNumbers.{WordNumbers as Numbers_};
 
-use crate::numbers::{Numbers, push_bytes};
+use crate::numbers::{WordNumbers, push_bytes};
 use crate::output::{Meaning, ReadToken, literal_bytes};
 use dae_base::{Items, Place};
-use dae_tree::{Kind, LexError, Token};
+use dae_tree::{LexError, Token, TokenKind};
 use indexmap::IndexMap;
 use std::alloc::Global;
 
@@ -62,7 +62,7 @@ fn name_number<'j>(
 fn plain_kind<'j>(
     names: &mut IndexMap<usize, &'j [u8]>,
     meaning: Meaning<'j>,
-) -> Result<Kind, LexError>
+) -> Result<TokenKind, LexError>
     requires plain { literal_of (meaning_of meaning) ≡ None }
     requires room { length names.old.entries < 2 ^ 32 - 1 }
     ensures kind { (w : Numbers_) → AreNamed w names.old.entries → IsMeant w meaning.entry →
@@ -77,13 +77,13 @@ fn plain_kind<'j>(
     ensures err { IfErr result (λ e. e ≡ Memory) }
 {
     match meaning {
-        Meaning::Keyword(keyword) => Ok(Kind::Keyword(keyword)),
-        Meaning::Sign(sign) => Ok(Kind::Sign(sign)),
+        Meaning::Keyword(keyword) => Ok(TokenKind::Keyword(keyword)),
+        Meaning::Sign(sign) => Ok(TokenKind::Sign(sign)),
         Meaning::Name(number, name) => {
             let number = name_number(names, number, name)?;
-            Ok(Kind::Name(number))
+            Ok(TokenKind::Name(number))
         }
-        Meaning::Constant(constant) => Ok(Kind::Constant(constant)),
+        Meaning::Constant(constant) => Ok(TokenKind::Constant(constant)),
         Meaning::Literal(_, _) => unreachable!(),
     }
 }
@@ -156,7 +156,7 @@ impl<'j> Builder<'j> {
                     place,
                 } = literal;
                 let token = Token {
-                    kind: Kind::Literal(self.literals.len() as u32),
+                    kind: TokenKind::Literal(self.literals.len() as u32),
                     start,
                     end,
                     place,
@@ -211,7 +211,7 @@ fn longer<'j>(
 /// Adds a token, or makes a literal longer.
 fn step<'j>(
     alloc: Global,
-    numbers: &Numbers<'j>,
+    numbers: &WordNumbers<'j>,
     builder: &mut Builder<'j>,
     held: Option<OpenLiteral>,
     read: ReadToken<'j>,
@@ -220,7 +220,7 @@ fn step<'j>(
     requires named { AreNamed numbers.now builder.old.names.entries }
     requires names { length builder.old.names.entries < 2 ^ 32 - 1 }
     requires literals { length builder.old.literals.items < 2 ^ 32 }
-    ensures ok { IfOk result (λ after. (rest : List Read) →
+    ensures ok { IfOk result (λ after. (rest : List TokenRead) →
         finished (built_of builder.new) (waiting after rest)
         ≡ finished (built_of builder.old) (waiting held (before (read_of read.entry) rest))) }
     ensures named { OnOk result (AreNamed numbers.now builder.new.names.entries) }
@@ -246,7 +246,7 @@ fn step<'j>(
 /// The tokens with adjacent literals joined, and the names and literals that they number. Only memory can be wanting.
 pub fn build<'j>(
     alloc: Global,
-    numbers: &Numbers<'j>,
+    numbers: &WordNumbers<'j>,
     reads: &[ReadToken<'j>],
 ) -> Result<Builder<'j>, LexError>
     requires few { length reads.now < 2 ^ 32 }
@@ -254,7 +254,7 @@ pub fn build<'j>(
     ensures ok { IfOk result
         (λ builder. built_of builder
         ≡ finished (record { tokens = []; names = []; literals = [] })
-        (joined (map read_of reads.now))) }
+        (joined_literals (map read_of reads.now))) }
     ensures err { IfErr result (λ e. e ≡ Memory) }
 {
     let mut builder = Builder::new(alloc);

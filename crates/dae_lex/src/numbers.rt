@@ -6,7 +6,7 @@ ghost use Rattle.dae_lex.specs.Numbers.{IsName, IsLiteral, IsNumbered, Keeps};
 ghost use Rattle.dae_tree.specs.declared.faults.LexError.TheVariants.{Memory};
 
 use dae_base::Items;
-use dae_lex_scan::{Piece, append_values};
+use dae_lex_scan::{SourcePiece, append_values};
 use dae_tree::{LexError, PieceKind};
 use indexmap::IndexSet;
 use std::alloc::Global;
@@ -14,7 +14,7 @@ use std::alloc::Global;
 /// The words and literals that have numbers: a word has its place among the different words, and a literal the place
 /// of the bytes that it spells.
 #[derive(Drop)]
-pub struct Numbers<'j> {
+pub struct WordNumbers<'j> {
     pub words: IndexSet<&'j [u8]>,
     pub literals: Vec<Items<u8>>,
 }
@@ -22,7 +22,7 @@ pub struct Numbers<'j> {
 /// A piece, with the number of a word or a literal, and 0 for another.
 #[derive(Clone, Copy)]
 pub struct NumberedPiece<'j> {
-    pub piece: Piece<'j>,
+    pub piece: SourcePiece<'j>,
     pub number: usize,
 }
 
@@ -60,12 +60,12 @@ pub fn push_bytes(lists: &mut Vec<Items<u8>>, bytes: Vec<u8>) -> Result<(), LexE
     }
 }
 
-impl<'j> Numbers<'j> {
+impl<'j> WordNumbers<'j> {
     /// No words and no literals.
-    pub fn new(alloc: Global) -> Numbers<'j>
+    pub fn new(alloc: Global) -> WordNumbers<'j>
         ensures { (result.words.keys ≡ []) × (result.literals.items ≡ []) }
     {
-        Numbers {
+        WordNumbers {
             words: IndexSet::new(alloc),
             literals: Vec::new(alloc),
         }
@@ -96,7 +96,11 @@ impl<'j> Numbers<'j> {
     }
 
     /// A piece with its number. Only memory can be wanting.
-    pub fn piece(&mut self, alloc: Global, piece: Piece<'j>) -> Result<NumberedPiece<'j>, LexError>
+    pub fn piece(
+        &mut self,
+        alloc: Global,
+        piece: SourcePiece<'j>,
+    ) -> Result<NumberedPiece<'j>, LexError>
         ensures same { IfOk result (λ p. p.piece ≡ piece.entry) }
         ensures number { IfOk result (IsNumbered self.new) }
         ensures keeps { OnOk result (Keeps self.old self.new) }

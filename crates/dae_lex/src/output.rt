@@ -6,12 +6,12 @@ ghost use Rattle.dae_tree.specs.Replacing.{items_of, taken, replaced, word_meani
 ghost use Rattle.dae_lex_scan.specs.Cuts.{cut_of};
 ghost use Rattle.dae_lex.specs.Numbers.{IsName, IsNumbered};
 ghost use Rattle.dae_lex.specs.Settling.{Settles, AreRead, IsMeant, IsFixed, state_of, settle, meaning_of, meant};
-ghost use Rattle.dae_lex.specs.declared.numbers.Numbers.{Numbers as Numbers_};
+ghost use Rattle.dae_lex.specs.declared.numbers.WordNumbers.{WordNumbers as Numbers_};
 ghost use Rattle.dae_tree.specs.declared.faults.LexError.TheVariants.{Memory};
 
-use crate::numbers::{NumberedPiece, Numbers, between_quotes};
+use crate::numbers::{NumberedPiece, WordNumbers, between_quotes};
 use dae_base::Place;
-use dae_lex_scan::{Piece, fault_at, find_keyword, find_refused_word};
+use dae_lex_scan::{SourcePiece, fault_at, find_keyword, find_refused_word};
 use dae_tree::{Constant, Construct, Keyword, LexError, PieceKind, Room, Sign};
 use std::alloc::Global;
 
@@ -69,7 +69,7 @@ pub fn fixed_meaning<'j>(kind: PieceKind) -> Option<Meaning<'j>>
 }
 
 /// The bytes of a token that is a literal.
-pub fn literal_bytes<'n>(numbers: &'n Numbers<'_>, meaning: Meaning<'_>) -> Option<&'n [u8]>
+pub fn literal_bytes<'n>(numbers: &'n WordNumbers<'_>, meaning: Meaning<'_>) -> Option<&'n [u8]>
     requires { IsMeant numbers.now meaning }
     ensures { option_map (λ bytes. bytes.now) result ≡ literal_of (meaning_of meaning.entry) }
 {
@@ -80,7 +80,7 @@ pub fn literal_bytes<'n>(numbers: &'n Numbers<'_>, meaning: Meaning<'_>) -> Opti
 }
 
 /// How many bytes a token has of the room of literals.
-fn bytes_in_literals(numbers: &Numbers<'_>, meaning: Meaning<'_>) -> usize
+fn bytes_in_literals(numbers: &WordNumbers<'_>, meaning: Meaning<'_>) -> usize
     requires { IsMeant numbers.now meaning }
     ensures { result ≡ literal_length (meaning_of meaning.entry) }
 {
@@ -104,9 +104,9 @@ impl<'j> Output<'j> {
     /// Takes a piece that isn't replaced, which comes from a piece of the text.
     pub fn take(
         &mut self,
-        numbers: &Numbers<'j>,
+        numbers: &WordNumbers<'j>,
         next: NumberedPiece<'j>,
-        origin: Piece<'j>,
+        origin: SourcePiece<'j>,
     ) -> Result<(), LexError>
         requires numbered { IsNumbered numbers.now next }
         requires read { AreRead numbers.now self.old }
@@ -139,9 +139,9 @@ impl<'j> Output<'j> {
     /// Puts out a token that comes from a piece of the text, or refuses it.
     pub fn put(
         &mut self,
-        numbers: &Numbers<'j>,
+        numbers: &WordNumbers<'j>,
         meaning: Result<Meaning<'j>, Construct>,
-        origin: Piece<'j>,
+        origin: SourcePiece<'j>,
     ) -> Result<(), LexError>
         requires numbered { IfOk meaning (IsMeant numbers.now) }
         requires read { AreRead numbers.now self.old }
@@ -178,7 +178,7 @@ impl<'j> Output<'j> {
     }
 
     /// Counts one more replacement, of a name of the text.
-    pub fn count_replacement(&mut self, origin: Piece<'j>) -> Result<(), LexError>
+    pub fn count_replacement(&mut self, origin: SourcePiece<'j>) -> Result<(), LexError>
         ensures settles { Settles (state_of self.new) result
             (settle (state_of self.old) (replaced (cut_of origin.entry) ∷ [])) }
         ensures left { OnOk result (self.new.room.replacements + 1 ≡ self.old.room.replacements) }

@@ -10,10 +10,10 @@ ghost use Rattle.dae_lex.specs.Whole.{items_of_pieces, HasRead, Meets, SpansFrom
 
 use crate::directives::take_lines;
 use crate::finish::{Builder, build, own_names};
-use crate::numbers::Numbers;
+use crate::numbers::WordNumbers;
 use crate::output::{Output, ReadToken};
 use dae_base::{Items, Place};
-use dae_lex_scan::{Piece, cut_pieces, join_lines};
+use dae_lex_scan::{SourcePiece, cut_pieces, join_lines};
 use dae_tree::{Includes, LexError, Room, Tokens};
 use std::alloc::Global;
 
@@ -21,15 +21,15 @@ use std::alloc::Global;
 /// their names and literals.
 fn read_pieces<'j>(
     alloc: Global,
-    pieces: &[Piece<'j>],
+    pieces: &[SourcePiece<'j>],
     room: Room,
-) -> Result<(Includes, Output<'j>, Numbers<'j>), LexError>
+) -> Result<(Includes, Output<'j>, WordNumbers<'j>), LexError>
     ensures ok { IfOk result (λ r. HasRead room (map cut_of pieces.now) r.0 r.1) }
     ensures read { IfOk result (λ r. AreRead r.2 r.1) }
     ensures err { IfErr result
         (λ e. Fails e (reads_of room (items_of_pieces room (map cut_of pieces.now)))) }
 {
-    let mut numbers = Numbers::new(alloc);
+    let mut numbers = WordNumbers::new(alloc);
     let mut out = Output::new(alloc, room);
     match take_lines(alloc, &mut numbers, pieces, &mut out) {
         Ok(seen) => Ok((seen, out, numbers)),
@@ -42,7 +42,7 @@ fn finish_text<'t>(
     alloc: Global,
     text: &'t [u8],
     seen: Includes,
-    numbers: &Numbers<'_>,
+    numbers: &WordNumbers<'_>,
     reads: &[ReadToken<'_>],
     end: Place,
 ) -> Result<Tokens<'t>, LexError>

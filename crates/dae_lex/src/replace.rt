@@ -7,20 +7,20 @@ ghost use Rattle.dae_lex_scan.specs.Cuts.{cut_of};
 ghost use Rattle.dae_lex.specs.Numbers.{IsName, IsNumbered, AreDefined, cuts_of, definitions_of};
 ghost use Rattle.dae_lex.specs.Settling.{Settles, AreRead, state_of, settle};
 ghost use Rattle.dae_lex.specs.Pending.{AreOpen, frames_of, replacement_in, settling, work_of, Follows};
-ghost use Rattle.dae_lex.specs.declared.numbers.Numbers.{Numbers as Numbers_};
+ghost use Rattle.dae_lex.specs.declared.numbers.WordNumbers.{WordNumbers as Numbers_};
 ghost use Rattle.dae_tree.specs.declared.faults.LexError.TheVariants.{Memory};
 
 use crate::macros::Macros;
-use crate::numbers::{NumberedPiece, Numbers};
+use crate::numbers::{NumberedPiece, WordNumbers};
 use crate::output::Output;
-use dae_lex_scan::Piece;
+use dae_lex_scan::SourcePiece;
 use dae_tree::{LexError, PieceKind};
 use indexmap::IndexMap;
 use std::alloc::Global;
 
 /// A replacement that isn't over: the name of its macro, and the rest of its body.
 #[derive(Clone, Copy)]
-pub struct Open<'m, 'j> {
+pub struct OpenReplacement<'m, 'j> {
     pub name: &'j [u8],
     pub rest: &'m [NumberedPiece<'j>],
 }
@@ -28,7 +28,7 @@ pub struct Open<'m, 'j> {
 /// The replacements that aren't over, the outermost first, by the numbers of their macros' names.
 #[derive(Drop)]
 pub struct Stack<'m, 'j> {
-    pub frames: IndexMap<usize, Open<'m, 'j>>,
+    pub frames: IndexMap<usize, OpenReplacement<'m, 'j>>,
 }
 
 impl<'m, 'j> Stack<'m, 'j> {
@@ -68,14 +68,14 @@ impl<'m, 'j> Stack<'m, 'j> {
             ++ (number, record { name = name.entry; rest = rest.entry }) ∷ []) }
         ensures err { IfErr result (λ e. e ≡ Memory) }
     {
-        match self.frames.insert(number, Open { name, rest }) {
+        match self.frames.insert(number, OpenReplacement { name, rest }) {
             Ok(_) => Ok(()),
             Err(_) => Err(LexError::Memory),
         }
     }
 
     /// Takes the innermost replacement out, after which none of its name is open.
-    pub fn pop(&mut self) -> Option<(usize, Open<'m, 'j>)>
+    pub fn pop(&mut self) -> Option<(usize, OpenReplacement<'m, 'j>)>
         ensures taken { MatchOption result (self.old.frames.entries ≡ [])
             (λ f. self.old.frames.entries ≡ self.new.frames.entries ++ f ∷ []) }
         ensures over { IfSome result (λ f. lookup (nat_eq f.0) self.new.frames.entries ≡ None) }
@@ -129,7 +129,7 @@ fn begin<'m, 'j>(
     stack: &mut Stack<'m, 'j>,
     next: NumberedPiece<'j>,
     body: &'m [NumberedPiece<'j>],
-    origin: Piece<'j>,
+    origin: SourcePiece<'j>,
     out: &mut Output<'j>,
 ) -> Result<(), LexError>
     requires { lookup (nat_eq next.number) stack.old.frames.entries ≡ None }
@@ -150,10 +150,10 @@ fn begin<'m, 'j>(
 
 /// One turn: what stands next in the innermost replacement is replaced, taken or refused.
 fn turn<'m, 'j>(
-    numbers: &Numbers<'j>,
+    numbers: &WordNumbers<'j>,
     macros: &'m Macros<'j>,
     stack: &mut Stack<'m, 'j>,
-    origin: Piece<'j>,
+    origin: SourcePiece<'j>,
     out: &mut Output<'j>,
 ) -> Result<(), LexError>
     requires some { 0 < length stack.old.frames.entries }
@@ -188,7 +188,7 @@ fn turn<'m, 'j>(
 /// Puts out what a piece of the text becomes.
 pub fn replace_piece<'m, 'j>(
     alloc: Global,
-    numbers: &Numbers<'j>,
+    numbers: &WordNumbers<'j>,
     macros: &'m Macros<'j>,
     first: NumberedPiece<'j>,
     out: &mut Output<'j>,

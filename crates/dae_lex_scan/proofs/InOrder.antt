@@ -3,7 +3,7 @@ use Rattle.std.proofs.Common.{◌≡◌, ℕ, zero, suc, ◌+◌, ◌-◌, ◌<�
 use Rattle.std.specs.List.{AllByRecursion}
 use Rattle.std.proofs.lemmas.Bool.Decides.{eqb_tells}
 use Rattle.dae_base.specs.declared.Place.{Place}
-use Rattle.dae_tree.specs.declared.pieces.Spot.{Spot}
+use Rattle.dae_tree.specs.declared.pieces.TextSpot.{TextSpot}
 use Rattle.dae_tree.specs.Lines.{Char, spots_of, start_of, spot_after, placed, join_left, without_joins, joined_lines}
 use Rattle.dae_tree.specs.Order.{IsNoLater}
 use Rattle.dae_lex_scan.specs.Cuts.{SpotsFrom, PlacesFrom}
@@ -27,16 +27,16 @@ places_all p [] w = tt
 places_all p (q ∷ qs) w = (w.0, places_all p qs (places_earlier p q qs w.0 w.1))
 
 -- characters
-spots_earlier : (p q : Place) (ss : List Spot) → IsNoLater p q → SpotsFrom q ss → SpotsFrom p ss
+spots_earlier : (p q : Place) (ss : List TextSpot) → IsNoLater p q → SpotsFrom q ss → SpotsFrom p ss
 spots_earlier p q [] h w = tt
 spots_earlier p q (s ∷ ss) h w = (later p q s.place h w.0, w.1)
 
-pub spots_low : (ss : List Spot) (p : Place) (j : ℕ) → SpotsFrom p ss → j < length ss → IsNoLater p (get_or ss j (start_of 0)).place
+pub spots_low : (ss : List TextSpot) (p : Place) (j : ℕ) → SpotsFrom p ss → j < length ss → IsNoLater p (get_or ss j (start_of 0)).place
 spots_low [] p j w h = absurd (omega arith)
 spots_low (s ∷ ss) p zero w h = w.0
 spots_low (s ∷ ss) p (suc j) w h = later p s.place (get_or ss j (start_of 0)).place w.0 (spots_low ss s.place j w.1 (omega arith))
 
-pub spots_within : (ss : List Spot) (p : Place) (i j : ℕ) → SpotsFrom p ss → i ≤ j → j < length ss
+pub spots_within : (ss : List TextSpot) (p : Place) (i j : ℕ) → SpotsFrom p ss → i ≤ j → j < length ss
     → IsNoLater (get_or ss i (start_of 0)).place (get_or ss j (start_of 0)).place
 spots_within [] p i j w h k = absurd (omega arith)
 spots_within (s ∷ ss) p zero zero w h k = same_place s.place
@@ -44,19 +44,19 @@ spots_within (s ∷ ss) p (suc i) zero w h k = absurd (omega arith)
 spots_within (s ∷ ss) p zero (suc j) w h k = spots_low ss s.place j w.1 (omega arith)
 spots_within (s ∷ ss) p (suc i) (suc j) w h k = spots_within ss s.place i j w.1 (omega arith) (omega arith)
 
-after_later : (b : ℕ) (s : Spot) → IsNoLater s.place (spot_after b s).place
+after_later : (b : ℕ) (s : TextSpot) → IsNoLater s.place (spot_after b s).place
 after_later b s =
     elim (eqb_tells b 10) [
       | inl e ↦ rw (e.0) (inl (omega arith))
       | inr e ↦ rw (e.0) (inr (refl, omega arith))
     ]
 
-spots_next : (s t : Spot) (c k : ℕ) (cs : List Char) → IsNoLater s.place t.place → ((m : ℕ) → SpotsFrom t.place (spots_of (without_joins m cs)))
+spots_next : (s t : TextSpot) (c k : ℕ) (cs : List Char) → IsNoLater s.place t.place → ((m : ℕ) → SpotsFrom t.place (spots_of (without_joins m cs)))
     → SpotsFrom s.place (spots_of (next k (record { byte = c; spot = s }) cs))
 spots_next s t c zero cs h rest = (same_place s.place, spots_earlier s.place t.place (spots_of (without_joins 0 cs)) h (rest 0))
 spots_next s t c (suc m) cs h rest = spots_earlier s.place t.place (spots_of (without_joins m cs)) h (rest m)
 
-spots_from : (text : List ℕ) (n : ℕ) (s : Spot) → SpotsFrom s.place (spots_of (without_joins n (placed s text)))
+spots_from : (text : List ℕ) (n : ℕ) (s : TextSpot) → SpotsFrom s.place (spots_of (without_joins n (placed s text)))
 spots_from [] n s = tt
 spots_from (c ∷ cs) n s =
     subst (λ xs. SpotsFrom s.place (spots_of xs)) (sym (front n (join_left n (c ∷ cs)) s c cs refl))
@@ -83,13 +83,13 @@ places_from p [] b w = tt
 places_from p (q ∷ qs) b w = (w.0, places_from q qs b w.1)
 
 -- the place of the character before place i
-abbrev pub place_before : Place → List Spot → ℕ → Place
+abbrev pub place_before : Place → List TextSpot → ℕ → Place
 place_before p ss zero = p
 place_before p ss (suc k) = (get_or ss k (start_of 0)).place
 
-pub before_low : (ss : List Spot) (p : Place) (i j : ℕ) → SpotsFrom p ss → i ≤ j → j < length ss → IsNoLater (place_before p ss i) (get_or ss j (start_of 0)).place
+pub before_low : (ss : List TextSpot) (p : Place) (i j : ℕ) → SpotsFrom p ss → i ≤ j → j < length ss → IsNoLater (place_before p ss i) (get_or ss j (start_of 0)).place
 before_low ss p zero j w h k = spots_low ss p j w k
 before_low ss p (suc i) j w h k = spots_within ss p i j w (omega arith) k
 
-pub before_next : (ss : List Spot) (p : Place) (i n : ℕ) → 0 < n → (get_or ss (i + (n - 1)) (start_of 0)).place ≡ place_before p ss (i + n)
+pub before_next : (ss : List TextSpot) (p : Place) (i n : ℕ) → 0 < n → (get_or ss (i + (n - 1)) (start_of 0)).place ≡ place_before p ss (i + n)
 before_next ss p i n h = let e : i + n ≡ suc (i + (n - 1)) = omega arith in ap (place_before p ss) (sym e)

@@ -8,10 +8,10 @@ ghost use Rattle.dae_tree.specs.Directives.{is_blank_kind, is_end_kind, is_hash_
 ghost use Rattle.dae_lex_scan.specs.Cuts.{cut_of};
 ghost use Rattle.dae_lex_scan.specs.ReadLines.{line_from};
 
-use crate::pieces::{Piece, next_of};
+use crate::pieces::{SourcePiece, next_of};
 use crate::tables::find_header;
 use dae_base::Place;
-use dae_tree::{Construct, Fault, Header, LexError, PieceKind, Sign};
+use dae_tree::{Construct, Header, LexError, PieceKind, Sign, TextFault};
 
 /// What a line is. A directive has the place of its number sign.
 #[derive(Clone, Copy)]
@@ -19,7 +19,7 @@ pub enum ReadLine<'p, 'j> {
     Text,
     Nothing,
     Include(Place, Header),
-    Define(Place, Piece<'j>, &'p [Piece<'j>]),
+    Define(Place, SourcePiece<'j>, &'p [SourcePiece<'j>]),
     Refuse(LexError),
 }
 
@@ -55,7 +55,7 @@ fn paren_kind(kind: PieceKind) -> bool
 }
 
 /// The pieces from the first that is no blank.
-fn skip_blanks<'p, 'j>(pieces: &'p [Piece<'j>]) -> &'p [Piece<'j>]
+fn skip_blanks<'p, 'j>(pieces: &'p [SourcePiece<'j>]) -> &'p [SourcePiece<'j>]
     ensures { map cut_of result.now ≡ from_mark (map cut_of pieces.now) }
 {
     for i in 0..pieces.len() {
@@ -67,17 +67,17 @@ fn skip_blanks<'p, 'j>(pieces: &'p [Piece<'j>]) -> &'p [Piece<'j>]
 }
 
 /// A fault at a place, as the reason why a text has no tokens.
-pub fn fault_at(fault: Fault, place: Place) -> LexError
+pub fn fault_at(fault: TextFault, place: Place) -> LexError
     ensures { result ≡ error_at fault place }
 {
     match fault {
-        Fault::BadByte => LexError::BadByte(place),
-        Fault::Named(construct) => LexError::Refused(construct, place),
+        TextFault::BadByte => LexError::BadByte(place),
+        TextFault::Named(construct) => LexError::Refused(construct, place),
     }
 }
 
 /// What a directive is refused for at a piece that may not stand there.
-fn stray_piece<'p, 'j>(hash: Place, piece: Piece<'j>) -> ReadLine<'p, 'j>
+fn stray_piece<'p, 'j>(hash: Place, piece: SourcePiece<'j>) -> ReadLine<'p, 'j>
     ensures { (all : List Cut) → line_from all result ≡ stray hash (cut_of piece.entry) }
 {
     match piece.kind {
@@ -87,7 +87,7 @@ fn stray_piece<'p, 'j>(hash: Place, piece: Piece<'j>) -> ReadLine<'p, 'j>
 }
 
 /// The first of the pieces that may not stand in a replacement, as the reason for a refusal.
-fn fault_in_body(pieces: &[Piece<'_>]) -> Option<LexError>
+fn fault_in_body(pieces: &[SourcePiece<'_>]) -> Option<LexError>
     ensures { result ≡ first_fault (map cut_of pieces.now) }
 {
     for piece in pieces {
@@ -105,7 +105,7 @@ fn fault_in_body(pieces: &[Piece<'_>]) -> Option<LexError>
 }
 
 /// What stands behind the word define.
-fn read_definition<'p, 'j>(hash: Place, pieces: &'p [Piece<'j>]) -> ReadLine<'p, 'j>
+fn read_definition<'p, 'j>(hash: Place, pieces: &'p [SourcePiece<'j>]) -> ReadLine<'p, 'j>
     ensures { (all : List Cut) → line_from all result ≡ definition_in hash (map cut_of pieces.now) }
 {
     let Some((name, rest)) = next_of(pieces) else {
@@ -124,7 +124,7 @@ fn read_definition<'p, 'j>(hash: Place, pieces: &'p [Piece<'j>]) -> ReadLine<'p,
 }
 
 /// Whether a parenthesis stands at the front.
-fn call_begins(pieces: &[Piece<'_>]) -> bool
+fn call_begins(pieces: &[SourcePiece<'_>]) -> bool
     ensures { result ≡ begins_call (map cut_of pieces.now) }
 {
     match next_of(pieces) {
@@ -134,7 +134,7 @@ fn call_begins(pieces: &[Piece<'_>]) -> bool
 }
 
 /// The header that these pieces name, and what stands behind it.
-fn read_header<'p, 'j>(pieces: &'p [Piece<'j>]) -> Option<(Header, &'p [Piece<'j>])>
+fn read_header<'p, 'j>(pieces: &'p [SourcePiece<'j>]) -> Option<(Header, &'p [SourcePiece<'j>])>
     ensures { option_map (λ f. (f.0, map cut_of f.1.now)) result
         ≡ header_in (map cut_of pieces.now) }
 {
@@ -156,7 +156,7 @@ fn read_header<'p, 'j>(pieces: &'p [Piece<'j>]) -> Option<(Header, &'p [Piece<'j
 }
 
 /// What stands behind the word include.
-fn read_inclusion<'p, 'j>(hash: Place, pieces: &'p [Piece<'j>]) -> ReadLine<'p, 'j>
+fn read_inclusion<'p, 'j>(hash: Place, pieces: &'p [SourcePiece<'j>]) -> ReadLine<'p, 'j>
     ensures { (all : List Cut) → line_from all result ≡ inclusion_in hash (map cut_of pieces.now) }
 {
     let Some((first, _)) = next_of(pieces) else {
@@ -172,7 +172,7 @@ fn read_inclusion<'p, 'j>(hash: Place, pieces: &'p [Piece<'j>]) -> ReadLine<'p, 
 }
 
 /// What stands behind a number sign.
-fn read_directive<'p, 'j>(hash: Place, pieces: &'p [Piece<'j>]) -> ReadLine<'p, 'j>
+fn read_directive<'p, 'j>(hash: Place, pieces: &'p [SourcePiece<'j>]) -> ReadLine<'p, 'j>
     ensures { (all : List Cut) → line_from all result ≡ directive_in hash (map cut_of pieces.now) }
 {
     let Some((word, rest)) = next_of(pieces) else {
@@ -188,7 +188,7 @@ fn read_directive<'p, 'j>(hash: Place, pieces: &'p [Piece<'j>]) -> ReadLine<'p, 
 }
 
 /// What a line is.
-pub fn read_line<'p, 'j>(pieces: &'p [Piece<'j>]) -> ReadLine<'p, 'j>
+pub fn read_line<'p, 'j>(pieces: &'p [SourcePiece<'j>]) -> ReadLine<'p, 'j>
     ensures { line_from (map cut_of pieces.now) result ≡ line_of (map cut_of pieces.now) }
 {
     match next_of(skip_blanks(pieces)) {
@@ -202,7 +202,7 @@ pub fn read_line<'p, 'j>(pieces: &'p [Piece<'j>]) -> ReadLine<'p, 'j>
 }
 
 /// How many pieces stand before the end of the line.
-pub fn line_length(pieces: &[Piece<'_>]) -> usize
+pub fn line_length(pieces: &[SourcePiece<'_>]) -> usize
     ensures value { result ≡ prefix_len goes_on (map cut_of pieces.now) }
     ensures within { result ≤ length pieces.now }
 {

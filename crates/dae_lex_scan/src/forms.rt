@@ -10,32 +10,32 @@ use crate::bytes::{
 use crate::literals::{first_fault, first_value, values_length};
 use crate::numbers::number_kind;
 use crate::tables::sign_at;
-use dae_tree::{Constant, Construct, Fault, Form, PieceKind};
+use dae_tree::{Constant, Construct, Lexeme, PieceKind, TextFault};
 
-fn plain_form(kind: PieceKind, length: usize) -> Form
+fn plain_form(kind: PieceKind, length: usize) -> Lexeme
     ensures { result ≡ plain kind length }
 {
-    Form {
+    Lexeme {
         kind,
         length,
         at: 0,
     }
 }
 
-fn wrong_form(fault: Fault, at: usize, bytes: &[u8]) -> Form
+fn wrong_form(fault: TextFault, at: usize, bytes: &[u8]) -> Lexeme
     ensures { result ≡ wrong fault at bytes.now }
 {
-    Form {
+    Lexeme {
         kind: PieceKind::Faulty(fault),
         length: bytes.len(),
         at,
     }
 }
 
-fn wrong_comment_form(fault: Fault, at: usize, bytes: &[u8]) -> Form
+fn wrong_comment_form(fault: TextFault, at: usize, bytes: &[u8]) -> Lexeme
     ensures { result ≡ wrong_comment fault at bytes.now }
 {
-    Form {
+    Lexeme {
         kind: PieceKind::FaultyComment(fault),
         length: bytes.len(),
         at,
@@ -126,7 +126,7 @@ fn comment_close(bytes: &[u8]) -> usize
 }
 
 #[tactic(auto, unfolding(dae_tree::specs::Forms::word_form))]
-fn word_at(bytes: &[u8]) -> Form
+fn word_at(bytes: &[u8]) -> Lexeme
     requires { IsTrue (is_letter (slice_index bytes.now 0)) }
     ensures value { result ≡ word_form bytes.now }
     ensures within { IsWithin result bytes.now }
@@ -136,13 +136,13 @@ fn word_at(bytes: &[u8]) -> Form
         && byte_at(bytes, 0) == b'L'
         && (byte_at(bytes, 1) == b'"' || byte_at(bytes, 1) == b'\'')
     {
-        return wrong_form(Fault::Named(Construct::WideLiteral), 0, bytes);
+        return wrong_form(TextFault::Named(Construct::WideLiteral), 0, bytes);
     }
     plain_form(PieceKind::Word, length)
 }
 
 #[tactic(auto, unfolding(dae_tree::specs::Forms::number_form))]
-fn number_at(bytes: &[u8]) -> Form
+fn number_at(bytes: &[u8]) -> Lexeme
     requires { IsTrue (begins_number bytes.now) }
     ensures value { result ≡ number_form bytes.now }
     ensures within { IsWithin result bytes.now }
@@ -152,12 +152,12 @@ fn number_at(bytes: &[u8]) -> Form
 }
 
 /// What is wrong between the quotes of a literal, and how far behind its first quote.
-fn fault_inside(quote: u8, inside: &[u8]) -> Option<(Fault, usize)>
+fn fault_inside(quote: u8, inside: &[u8]) -> Option<(TextFault, usize)>
     ensures value { result ≡ literal_fault quote inside.now }
     ensures within { IfSome result (λ f. f.1 < length inside.now + 1) }
 {
     if quote == b'\'' && values_length(inside) != 1 {
-        return Some((Fault::Named(Construct::LongCharacter), 0));
+        return Some((TextFault::Named(Construct::LongCharacter), 0));
     }
     match first_fault(inside) {
         Some((fault, at)) => Some((fault, 1 + at)),
@@ -179,7 +179,7 @@ fn kind_inside(quote: u8, inside: &[u8]) -> PieceKind
 }
 
 #[tactic(auto, unfolding(dae_tree::specs::Forms::literal_form))]
-fn literal_at(bytes: &[u8]) -> Form
+fn literal_at(bytes: &[u8]) -> Lexeme
     requires some { 0 < length bytes.now }
     requires quote { 0 < slice_index bytes.now 0 }
     ensures value { result ≡ literal_form bytes.now }
@@ -188,7 +188,7 @@ fn literal_at(bytes: &[u8]) -> Form
     let quote = bytes[0];
     let stop = stop_of_literal(quote, &bytes[1..]);
     if byte_at(bytes, 1 + stop) != quote {
-        return wrong_form(Fault::Named(Construct::Unterminated), 0, bytes);
+        return wrong_form(TextFault::Named(Construct::Unterminated), 0, bytes);
     }
     let inside = &bytes[1..1 + stop];
     match fault_inside(quote, inside) {
@@ -198,24 +198,24 @@ fn literal_at(bytes: &[u8]) -> Form
 }
 
 #[tactic(auto, unfolding(dae_tree::specs::Forms::comment_form))]
-fn comment_at(bytes: &[u8]) -> Form
+fn comment_at(bytes: &[u8]) -> Lexeme
     requires { 2 ≤ length bytes.now }
     ensures value { result ≡ comment_form bytes.now }
     ensures within { IsWithin result bytes.now }
 {
     let close = comment_close(&bytes[2..]);
     if bytes.len() <= 2 + close {
-        return wrong_comment_form(Fault::Named(Construct::Unterminated), 0, bytes);
+        return wrong_comment_form(TextFault::Named(Construct::Unterminated), 0, bytes);
     }
     let at = nowhere_place(&bytes[..close + 4]);
     if at < close + 4 {
-        return wrong_comment_form(Fault::BadByte, at, bytes);
+        return wrong_comment_form(TextFault::BadByte, at, bytes);
     }
     plain_form(PieceKind::Blank, close + 4)
 }
 
 #[tactic(auto, unfolding(dae_tree::specs::Forms::line_comment_form))]
-fn line_comment_at(bytes: &[u8]) -> Form
+fn line_comment_at(bytes: &[u8]) -> Lexeme
     requires { 0 < place_of ends_line bytes.now }
     ensures value { result ≡ line_comment_form bytes.now }
     ensures within { IsWithin result bytes.now }
@@ -223,27 +223,27 @@ fn line_comment_at(bytes: &[u8]) -> Form
     let end = line_end_place(bytes);
     let at = nowhere_place(&bytes[..end]);
     if at < end {
-        return wrong_comment_form(Fault::BadByte, at, bytes);
+        return wrong_comment_form(TextFault::BadByte, at, bytes);
     }
     plain_form(PieceKind::Blank, end)
 }
 
 #[tactic(auto, unfolding(dae_tree::specs::Forms::sign_form))]
-fn sign_or_fault(bytes: &[u8]) -> Form
+fn sign_or_fault(bytes: &[u8]) -> Lexeme
     requires { 0 < length bytes.now }
     ensures value { result ≡ sign_form bytes.now }
     ensures within { IsWithin result bytes.now }
 {
     match sign_at(bytes) {
         Some((length, kind)) => plain_form(kind, length),
-        None => wrong_form(Fault::BadByte, 0, bytes),
+        None => wrong_form(TextFault::BadByte, 0, bytes),
     }
 }
 
 /// What stands at the front of the bytes: its kind and length, at least one byte. A fault takes all the bytes, and says
 /// how far on it stands.
 #[tactic(auto, unfolding(dae_tree::specs::Forms::form))]
-pub fn form_at(bytes: &[u8]) -> Form
+pub fn form_at(bytes: &[u8]) -> Lexeme
     requires { 0 < length bytes.now }
     ensures value { result ≡ form bytes.now }
     ensures within { IsWithin result bytes.now }
@@ -265,7 +265,7 @@ pub fn form_at(bytes: &[u8]) -> Form
     } else if a == b'/' && b == b'/' {
         line_comment_at(bytes)
     } else if begins_trigraph(bytes) {
-        wrong_form(Fault::Named(Construct::Trigraph), 0, bytes)
+        wrong_form(TextFault::Named(Construct::Trigraph), 0, bytes)
     } else {
         sign_or_fault(bytes)
     }

@@ -7,7 +7,7 @@ pub use directives::{ReadLine, blank_kind, fault_at, line_length, read_line};
 pub use lines::{Joined, join_lines};
 pub use literals::{append_values, values_length};
 pub use numbers::{number_kind, read_constant};
-pub use pieces::{Piece, cut_pieces};
+pub use pieces::{SourcePiece, cut_pieces};
 pub use tables::{find_keyword, find_refused_word};
 
 mod bytes;

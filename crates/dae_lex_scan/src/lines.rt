@@ -5,14 +5,14 @@ ghost use Rattle.dae_tree.specs.Lines.{bytes_of, spots_of, start_of, spot_after,
 ghost use Rattle.dae_tree.specs.declared.faults.LexError.TheVariants.{Memory};
 
 use dae_base::Place;
-use dae_tree::{LexError, Spot};
+use dae_tree::{LexError, TextSpot};
 use std::alloc::Global;
 
 /// The characters of a text with its lines joined: their bytes, and where each stands. The text ends at a place.
 #[derive(Drop)]
 pub struct Joined {
     pub bytes: Vec<u8>,
-    pub spots: Vec<Spot>,
+    pub spots: Vec<TextSpot>,
     pub end: Place,
 }
 
@@ -37,7 +37,7 @@ fn left_of_join(left: usize, rest: &[u8]) -> usize
 }
 
 /// The spot after the byte that stands at a spot.
-fn spot_behind_byte(spot: Spot, byte: u8) -> Spot
+fn spot_behind_byte(spot: TextSpot, byte: u8) -> TextSpot
     requires { (spot.offset < 2 ^ 31) × (spot.place.line < 2 ^ 31) × (spot.place.col < 2 ^ 31) }
     ensures { result ≡ spot_after byte spot }
 {
@@ -55,7 +55,7 @@ fn spot_behind_byte(spot: Spot, byte: u8) -> Spot
             col: col + 1,
         }
     };
-    Spot {
+    TextSpot {
         offset: spot.offset + 1,
         place,
     }
@@ -74,7 +74,7 @@ pub fn join_lines(alloc: Global, file: u16, text: &[u8]) -> Result<Joined, LexEr
 {
     let mut bytes = Vec::new(alloc);
     let mut spots = Vec::new(alloc);
-    let mut spot = Spot {
+    let mut spot = TextSpot {
         offset: 0,
         place: Place {
             file,
@@ -111,7 +111,7 @@ fn push_byte(bytes: &mut Vec<u8>, byte: u8) -> Result<(), LexError>
     }
 }
 
-fn push_spot(spots: &mut Vec<Spot>, spot: Spot) -> Result<(), LexError>
+fn push_spot(spots: &mut Vec<TextSpot>, spot: TextSpot) -> Result<(), LexError>
     ensures ok { OnOk result (spots.new.items ≡ spots.old.items ++ spot ∷ []) }
     ensures err { IfErr result (λ e. e ≡ Memory) }
 {

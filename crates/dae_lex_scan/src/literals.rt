@@ -6,7 +6,7 @@ ghost use Rattle.dae_tree.specs.Literals.{letter_in, letter_of, escape_of, unit_
 
 use crate::bytes::{begins_trigraph, byte_at, bytes_from, is_nowhere_byte};
 use crate::numbers::{digits_length, value_of};
-use dae_tree::{Construct, ESCAPES, Fault};
+use dae_tree::{Construct, ESCAPES, TextFault};
 use std::alloc::AllocError;
 
 fn find_letter(rows: &[(u8, u8)], b: u8) -> Option<u8>
@@ -119,26 +119,26 @@ pub fn first_value(inside: &[u8]) -> u8
 }
 
 /// What is wrong at the front, where `left` bytes are left of a unit before, or how many are left then.
-fn check(left: usize, bytes: &[u8]) -> Result<usize, Fault>
+fn check(left: usize, bytes: &[u8]) -> Result<usize, TextFault>
     ensures { result ≡ checked left bytes.now }
 {
     if begins_trigraph(bytes) {
-        return Err(Fault::Named(Construct::Trigraph));
+        return Err(TextFault::Named(Construct::Trigraph));
     }
     if is_nowhere_byte(byte_at(bytes, 0)) {
-        return Err(Fault::BadByte);
+        return Err(TextFault::BadByte);
     }
     if left > 0 {
         return Ok(left - 1);
     }
     match unit_at(bytes) {
         (Some(_), n) => Ok(n - 1),
-        (None, _) => Err(Fault::Named(Construct::BadEscape)),
+        (None, _) => Err(TextFault::Named(Construct::BadEscape)),
     }
 }
 
 /// The first fault in the inside of a literal, and how far on it stands.
-pub fn first_fault(inside: &[u8]) -> Option<(Fault, usize)>
+pub fn first_fault(inside: &[u8]) -> Option<(TextFault, usize)>
     ensures value { result ≡ fault_from 0 inside.now }
     ensures within { IfSome result (λ f. f.1 < length inside.now) }
 {

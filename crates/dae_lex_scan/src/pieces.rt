@@ -11,12 +11,12 @@ ghost use Rattle.dae_tree.specs.declared.faults.LexError.TheVariants.{Memory};
 use crate::forms::form_at;
 use crate::lines::Joined;
 use dae_base::Place;
-use dae_tree::{Form, LexError, PieceKind};
+use dae_tree::{LexError, Lexeme, PieceKind};
 use std::alloc::Global;
 
 /// What a piece is, its bytes with lines joined, and where it stands in the text.
 #[derive(Clone, Copy)]
-pub struct Piece<'j> {
+pub struct SourcePiece<'j> {
     pub kind: PieceKind,
     pub spelling: &'j [u8],
     pub start: u32,
@@ -25,7 +25,7 @@ pub struct Piece<'j> {
 }
 
 /// The piece of this form that stands at a place of the joined text.
-fn piece_at<'j>(joined: &'j Joined, at: usize, form: Form) -> Piece<'j>
+fn piece_at<'j>(joined: &'j Joined, at: usize, form: Lexeme) -> SourcePiece<'j>
     requires same { length joined.now.bytes.items ≡ length joined.now.spots.items }
     requires within { IsWithin form (drop at joined.now.bytes.items) }
     requires small { All (λ s. s.offset < 2 ^ 31) joined.now.spots.items }
@@ -35,7 +35,7 @@ fn piece_at<'j>(joined: &'j Joined, at: usize, form: Form) -> Piece<'j>
     let first = joined.spots[at];
     let last = joined.spots[at + (form.length - 1)];
     let faulty = joined.spots[at + form.at];
-    Piece {
+    SourcePiece {
         kind: form.kind,
         spelling: &joined.bytes[at..at + form.length],
         start: first.offset,
@@ -45,7 +45,7 @@ fn piece_at<'j>(joined: &'j Joined, at: usize, form: Form) -> Piece<'j>
 }
 
 /// The text cut into pieces. Only memory can be wanting.
-pub fn cut_pieces<'j>(alloc: Global, joined: &'j Joined) -> Result<Vec<Piece<'j>>, LexError>
+pub fn cut_pieces<'j>(alloc: Global, joined: &'j Joined) -> Result<Vec<SourcePiece<'j>>, LexError>
     requires same { length joined.now.bytes.items ≡ length joined.now.spots.items }
     requires small { All (λ s. s.offset < 2 ^ 31) joined.now.spots.items }
     ensures ok { IfOk result
@@ -72,7 +72,10 @@ pub fn cut_pieces<'j>(alloc: Global, joined: &'j Joined) -> Result<Vec<Piece<'j>
 }
 
 /// Appends a piece.
-pub fn push_piece<'j>(pieces: &mut Vec<Piece<'j>>, piece: Piece<'j>) -> Result<(), LexError>
+pub fn push_piece<'j>(
+    pieces: &mut Vec<SourcePiece<'j>>,
+    piece: SourcePiece<'j>,
+) -> Result<(), LexError>
     ensures ok { OnOk result (pieces.new.items ≡ pieces.old.items ++ piece.entry ∷ []) }
     ensures err { IfErr result (λ e. e ≡ Memory) }
 {
@@ -83,7 +86,9 @@ pub fn push_piece<'j>(pieces: &mut Vec<Piece<'j>>, piece: Piece<'j>) -> Result<(
 }
 
 /// The first of these pieces, and the others.
-pub fn next_of<'m, 'j>(pieces: &'m [Piece<'j>]) -> Option<(Piece<'j>, &'m [Piece<'j>])>
+pub fn next_of<'m, 'j>(
+    pieces: &'m [SourcePiece<'j>],
+) -> Option<(SourcePiece<'j>, &'m [SourcePiece<'j>])>
     ensures { MatchOption result (pieces.now ≡ []) (λ next. pieces.now ≡ next.0 ∷ next.1.now) }
 {
     match pieces {

@@ -16,7 +16,7 @@ use Rattle.dae_select_blocks.specs.Sizes.{calls_in, is_leaf}
 use Rattle.dae_select_blocks.specs.Wanted.{IsRight}
 use Rattle.dae_regalloc.specs.Seen.{AreBelow}
 use Rattle.dae_select_values.specs.Tables.{IsNear}
-use Rattle.dae_select_calls.specs.Layouts.{homes_at, variables_at, entry_at, frame_at, leaf_at, bare_at, has_home, spares_at}
+use Rattle.dae_select_calls.specs.Layouts.{homes_at, variables_at, entry_at, frame_at, leaf_at, frameless_at, has_home, spares_at}
 use Rattle.dae_select_calls.specs.declared.layouts.FunctionLayout.{FunctionLayout}
 use Rattle.dae_link.specs.Settled.{IsLayoutOf, IsFrameWithin, have_registers}
 use Rattle.dae_link.specs.Sides.{body_in, parameters_in, frame_in}
@@ -117,18 +117,18 @@ calls_at None (Some l) is e = absurd is
 calls_at (Some f) None is e = absurd is
 calls_at (Some f) (Some l) is e = none_below_one (calls_in (actions_of f.body)) (sym is.leaf ∙ e)
 
--- a bare one is a leaf with registers for all variables
-pub bare_is_leaf : (f : Option StreamFunction) (l : Option FunctionLayout) → IsLayoutAt f l → bare_at l ≡ true → leaf_at l ≡ true
-bare_is_leaf None None is e = absurd (let no : false ≡ true = e in cc)
-bare_is_leaf None (Some l) is e = absurd is
-bare_is_leaf (Some f) None is e = absurd is
-bare_is_leaf (Some f) (Some l) is e = is.leaf ∙ (and_parts (is_leaf (actions_of f.body)) (have_registers l.homes) (sym is.bare ∙ e)).0
+-- a frameless one is a leaf with registers for all variables
+pub frameless_is_leaf : (f : Option StreamFunction) (l : Option FunctionLayout) → IsLayoutAt f l → frameless_at l ≡ true → leaf_at l ≡ true
+frameless_is_leaf None None is e = absurd (let no : false ≡ true = e in cc)
+frameless_is_leaf None (Some l) is e = absurd is
+frameless_is_leaf (Some f) None is e = absurd is
+frameless_is_leaf (Some f) (Some l) is e = is.leaf ∙ (and_parts (is_leaf (actions_of f.body)) (have_registers l.homes) (sym is.frameless ∙ e)).0
 
-pub bare_in_registers : (f : Option StreamFunction) (l : Option FunctionLayout) → IsLayoutAt f l → bare_at l ≡ true → have_registers (homes_at l) ≡ true
-bare_in_registers None None is e = absurd (let no : false ≡ true = e in cc)
-bare_in_registers None (Some l) is e = absurd is
-bare_in_registers (Some f) None is e = absurd is
-bare_in_registers (Some f) (Some l) is e = (and_parts (is_leaf (actions_of f.body)) (have_registers l.homes) (sym is.bare ∙ e)).1
+pub frameless_in_registers : (f : Option StreamFunction) (l : Option FunctionLayout) → IsLayoutAt f l → frameless_at l ≡ true → have_registers (homes_at l) ≡ true
+frameless_in_registers None None is e = absurd (let no : false ≡ true = e in cc)
+frameless_in_registers None (Some l) is e = absurd is
+frameless_in_registers (Some f) None is e = absurd is
+frameless_in_registers (Some f) (Some l) is e = (and_parts (is_leaf (actions_of f.body)) (have_registers l.homes) (sym is.frameless ∙ e)).1
 
 -- and where a function spares a register it is a leaf with no variable there
 pub spares_as_leaf : (l : Option FunctionLayout) (r : ℕ) → spares_at l r ≡ true → leaf_at l ≡ true

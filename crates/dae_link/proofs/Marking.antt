@@ -10,7 +10,7 @@ use Rattle.dae_base.specs.declared.Side.{Side}
 use Rattle.dae_base.specs.declared.Side.TheVariants.{A, E}
 use Rattle.dae_image.specs.Contents.{follows, code_length, is_line, are_lines}
 use Rattle.dae_image.specs.declared.LineMark.{LineMark}
-use Rattle.dae_image.specs.declared.header.Header.{Header}
+use Rattle.dae_image.specs.declared.header.ImageHeader.{ImageHeader}
 use Rattle.dae_image.proofs.Laws.{are_lines-push}
 use Rattle.dae_select.specs.declared.growing.PlacedWord.{PlacedWord}
 use Rattle.dae_link.specs.declared.marks.MarkRoom.{MarkRoom}
@@ -20,11 +20,11 @@ use Rattle.dae_link.specs.Marked.{HasSizes, words_in, is_mark, mark_at, is_anoth
 abbrev the_room : ℕ → ℕ → ℕ → MarkRoom
 the_room a e n = record { words_a = a; words_e = e; files = n }
 
-same_words : (room : MarkRoom) (h : Header) → HasSizes room h → (s : Side) → words_in room s ≡ code_length h s
+same_words : (room : MarkRoom) (h : ImageHeader) → HasSizes room h → (s : Side) → words_in room s ≡ code_length h s
 same_words room h has A = sym has.words_a
 same_words room h has E = sym has.words_e
 
-same_mark : (room : MarkRoom) (h : Header) → HasSizes room h → (last : Option LineMark) (m : LineMark) → is_mark room last m ≡ is_line h last m
+same_mark : (room : MarkRoom) (h : ImageHeader) → HasSizes room h → (last : Option LineMark) (m : LineMark) → is_mark room last m ≡ is_line h last m
 same_mark room h has last m =
     ap (λ (w : ℕ). follows last m && (nat_lt m.word w && (nat_lt m.file room.files && nat_lt 0 m.line))) (same_words room h has m.side)
     ∙ ap (λ (k : ℕ). follows last m && (nat_lt m.word (code_length h m.side) && (nat_lt m.file k && nat_lt 0 m.line))) (sym has.files)
@@ -34,8 +34,8 @@ last_pushed last [] m = refl
 last_pushed last (x ∷ xs) m = last_pushed (Some x) xs m
 
 pub good_pushed : (room : MarkRoom) (last : Option LineMark) (ms : List LineMark) (m : LineMark)
-    → ((h : Header) → HasSizes room h → are_lines h None ms ≡ true) → last ≡ last_or None ms → is_mark room last m ≡ true
-    → (h : Header) → HasSizes room h → are_lines h None (ms ++ m ∷ []) ≡ true
+    → ((h : ImageHeader) → HasSizes room h → are_lines h None ms ≡ true) → last ≡ last_or None ms → is_mark room last m ≡ true
+    → (h : ImageHeader) → HasSizes room h → are_lines h None (ms ++ m ∷ []) ≡ true
 good_pushed room last ms m good is_last next h has =
     are_lines-push h None ms m (good h has) (subst (λ (l : Option LineMark). is_line h l m ≡ true) is_last (sym (same_mark room h has last m) ∙ next))
 

@@ -10,7 +10,7 @@ use Rattle.dae_ir.specs.declared.form.Check.TheVariants.{Place, InBounds, Zero, 
 use Rattle.dae_ir.specs.declared.stream.Argument.{Argument}
 use Rattle.dae_ir.specs.declared.stream.Action.{Action}
 use Rattle.dae_ir.specs.declared.stream.Action.TheVariants.{Set as Compute, Issue, Own, Receive, Address, Datum, Offer, Accept, Emit, Probe, Tell, Hear, Stop, Break, Continue, Call, Return}
-use Rattle.dae_select_walks.specs.Live.{Ways, behind, live, nowhere, step_ways, body_ways}
+use Rattle.dae_select_walks.specs.Live.{LiveWays, behind, live, nowhere, step_ways, body_ways}
 use Rattle.dae_select_walks.specs.Facts.{Facts, unknown, facts_behind, facts_in_first, facts_in_second, facts_past_if, facts_at_turn, facts_at_step, facts_past_loop, need_of}
 use Rattle.dae_select_walks.specs.declared.Need.{Need}
 use Rattle.dae_select_walks.specs.declared.Need.TheVariants.{All, Ends, Nothing}
@@ -19,8 +19,8 @@ use Rattle.dae_select_walks.specs.declared.Home.TheVariants.{Register, Slot}
 use Rattle.dae_select_walks.specs.Agrees.{Plan}
 use Rattle.dae_select_blocks.specs.Blocks.{arguments_code, argument_code, save_code, deeper_code, check_code, enter_code, jump_words, jump_over, jump_back, argument_to, parameter_to, parameter_code, parameters_code}
 use Rattle.dae_select_blocks.specs.Sizes.{calls_in, is_short, one_call}
-use Rattle.dae_select_walks.specs.declared.Standing.{Standing}
-use Rattle.dae_select_walks.specs.declared.Standing.TheVariants.{Settled, Early, Late}
+use Rattle.dae_select_walks.specs.declared.VariableStanding.{VariableStanding}
+use Rattle.dae_select_walks.specs.declared.VariableStanding.TheVariants.{Settled, Early, Late}
 use Rattle.dae_select_blocks.specs.Code.{registers_in, standing_behind, is_dead, needed_code, block_code, action_code, branch_code, does_nothing, past_code, call_code, back_branch, has_bottom, loop_code, bottom_code, code_of, function_code, entry_code, unspared}
 use Rattle.dae_select.specs.Grown.{Grown, acting, from_front, glue, in_front}
 use Rattle.dae_select.specs.Growing.{bottom_of, function_places, marked_code, marked_tail, turned, words_behind}
@@ -67,7 +67,7 @@ at_words p entry start finish = record {
   words = p.words;
   frame = p.frame;
   leaf = p.leaf;
-  bare = p.bare;
+  frameless = p.frameless;
   spares = p.spares;
   near = p.near;
   finish = finish;
@@ -151,7 +151,7 @@ module _ (p : Plan) (entry start : ℕ → ℕ) (finish : ℕ) (variables : ℕ 
     either_long true xs xs' ys ys' h k = h
     either_long false xs xs' ys ys' h k = k
 
-    block_long : (need : Need) (g : Standing) (a : Action) (g' : Standing) (k : VariableSet) (l s m t : ℕ) → length (block_code q variables f need g a g' k (jump_over short l) (jump_over short s)) ≡ length (block_code p variables f need g a g' k (jump_over short m) (jump_over short t))
+    block_long : (need : Need) (g : VariableStanding) (a : Action) (g' : VariableStanding) (k : VariableSet) (l s m t : ℕ) → length (block_code q variables f need g a g' k (jump_over short l) (jump_over short s)) ≡ length (block_code p variables f need g a g' k (jump_over short m) (jump_over short t))
     block_long need Settled a Settled k l s m t = either_long (is_dead a k) [] [] _ _ refl (settled_long need a k l s m t)
     block_long need Settled a (Early v x) k l s m t = refl
     block_long need Settled a (Late v x) k l s m t = refl
@@ -182,7 +182,7 @@ module _ (p : Plan) (entry start : ℕ → ℕ) (finish : ℕ) (variables : ℕ 
         (both_long turned turned' (again ++ (test n ++ rest)) (again' ++ (test n' ++ rest')) e1
         (both_long again again' (test n ++ rest) (test n' ++ rest') e2 (both_long (test n) (test n') rest rest' (ap (λ (w : ℕ). length (test w)) same) more)))
 
-    code_long : (g : Standing) (known : Facts) (code : Actions) (x : Ways) (l s m t : ℕ) → length (code_of short q variables f g known code x l s) ≡ length (code_of short p variables f g known code x m t)
+    code_long : (g : VariableStanding) (known : Facts) (code : Actions) (x : LiveWays) (l s m t : ℕ) → length (code_of short q variables f g known code x l s) ≡ length (code_of short p variables f g known code x m t)
     code_long g known Done x l s m t = refl
     code_long g known (Do mark a k) x l s m t = both_long _ _ _ _ (block_long (need_of p.memory known a k) g a (standing_behind a k x) (live k x) _ _ _ _) (code_long (standing_behind a k x) (facts_behind p.memory a known) k x l s m t)
     code_long g known (If mark b y n k) x l s m t =
@@ -257,7 +257,7 @@ module _ (p : Plan) (entry start : ℕ → ℕ) (finish : ℕ) (variables : ℕ 
   needed_same Ends a k l s h = refl
   needed_same All a k l s h = action_same a k l s h
 
-  block_same : (need : Need) (g : Standing) (a : Action) (g' : Standing) (k : VariableSet) (l s : List Inst) → one_call a ≡ 0 → block_code q variables f need g a g' k l s ≡ block_code p variables f need g a g' k l s
+  block_same : (need : Need) (g : VariableStanding) (a : Action) (g' : VariableStanding) (k : VariableSet) (l s : List Inst) → one_call a ≡ 0 → block_code q variables f need g a g' k l s ≡ block_code p variables f need g a g' k l s
   block_same need Settled a Settled k l s h = ap (λ (is : List Inst). if is_dead a k then [] else is) (needed_same need a k l s h)
   block_same need Settled a (Early v x) k l s h = refl
   block_same need Settled a (Late v x) k l s h = refl
@@ -289,7 +289,7 @@ module _ (p : Plan) (entry start : ℕ → ℕ) (finish : ℕ) (variables : ℕ 
         ∙ ap (λ (z : Grown). turned (p.home f) short test z again' rest') h
 
     mutual
-      marked_same : (g : Standing) (known : Facts) (code : Actions) (x : Ways) → calls_in code ≡ 0 → (l s : ℕ) → marked_code short q variables f g known code x l s ≡ marked_code short p variables f g known code x l s
+      marked_same : (g : VariableStanding) (known : Facts) (code : Actions) (x : LiveWays) → calls_in code ≡ 0 → (l s : ℕ) → marked_code short q variables f g known code x l s ≡ marked_code short p variables f g known code x l s
       marked_same g known Done x none l s = refl
       marked_same g known (Do m a k) x none l s =
           let need = need_of p.memory known a k in let next = standing_behind a k x in let after = facts_behind p.memory a known in
@@ -331,7 +331,7 @@ module _ (p : Plan) (entry start : ℕ → ℕ) (finish : ℕ) (variables : ℕ 
           (marked_code short q variables f Settled S step z) (marked_code short p variables f Settled S step z) (marked_code short q variables f Settled K k x l s) (marked_code short p variables f Settled K k x l s)
           (λ l s. tail_same T body y in_body l s) (λ l s. marked_same Settled T body y in_body l s) (λ l s. marked_same Settled S step z in_step l s) (marked_same Settled K k x (rest_none (calls_in step) (calls_in k) behind_turn) l s)
 
-      tail_same : (known : Facts) (code : Actions) (x : Ways) → calls_in code ≡ 0 → (l s : ℕ) → marked_tail short q variables f known code x l s ≡ marked_tail short p variables f known code x l s
+      tail_same : (known : Facts) (code : Actions) (x : LiveWays) → calls_in code ≡ 0 → (l s : ℕ) → marked_tail short q variables f known code x l s ≡ marked_tail short p variables f known code x l s
       tail_same known Done x none l s = refl
       tail_same known (Do m a k) x none l s = refl
       tail_same known (If m b c d k) x none l s =

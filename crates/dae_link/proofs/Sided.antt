@@ -22,7 +22,7 @@ use Rattle.dae_select_walks.specs.Agrees.{Plan}
 use Rattle.dae_select_walks.proofs.LawsOfWalks.{number_home}
 use Rattle.dae_select_walks.specs.declared.Home.{Home}
 use Rattle.dae_select_blocks.specs.Blocks.{number_code, residents_code, enter_code}
-use Rattle.dae_select_walks.specs.declared.Standing.TheVariants.{Settled}
+use Rattle.dae_select_walks.specs.declared.VariableStanding.TheVariants.{Settled}
 use Rattle.dae_select_blocks.specs.Code.{entry_code, code_of, function_code, start_code, finish_code}
 use Rattle.dae_select_blocks.specs.Sizes.{is_short}
 use Rattle.dae_select_blocks.specs.Fits.{Fits}
@@ -31,7 +31,7 @@ use Rattle.dae_select_blocks.specs.Laws.{opened_with}
 use Rattle.dae_select_blocks.proofs.LawsOfBlocks.{words_are_code, fit_append, function_fits, start_fits, finish_fits, code_take, code_drop, opening_short}
 use Rattle.dae_select_values.specs.Tables.{IsNear}
 use Rattle.dae_select_values.specs.Sides.{is_a}
-use Rattle.dae_select_calls.specs.Layouts.{homes_at, variables_at, entry_at, start_at, frame_at, leaf_at, bare_at, spares_at, plan_of, variables_of, AreSmall}
+use Rattle.dae_select_calls.specs.Layouts.{homes_at, variables_at, entry_at, start_at, frame_at, leaf_at, frameless_at, spares_at, plan_of, variables_of, AreSmall}
 use Rattle.dae_select.specs.declared.functions.FunctionCode.{FunctionCode}
 use Rattle.dae_select_calls.specs.declared.layouts.FunctionLayout.{FunctionLayout}
 use Rattle.dae_select_calls.specs.declared.layouts.Layouts.{Layouts}
@@ -45,7 +45,7 @@ use Rattle.dae_link.proofs.Same.{both_long, enter_same, at_words, function_long,
 use Rattle.dae_link.proofs.Standing.{placed_long, placed_same, start_behind, functions_long, ends_within, entries_within, stands_there}
 use Rattle.dae_link.proofs.Sizes.{functions_length}
 use Rattle.dae_link.proofs.Residing.{residents_few, residents_within, residents_apart, among_is_home, among_no_slot}
-use Rattle.dae_link.proofs.Looked.{zip_long, layout_at, IsLayoutAt, each_home, is_near, is_few, is_first, same_frame, frame_within, right_at, parameters_at, apart_at, calls_at, bare_is_leaf, bare_in_registers, spares_as_leaf, spares_apart}
+use Rattle.dae_link.proofs.Looked.{zip_long, layout_at, IsLayoutAt, each_home, is_near, is_few, is_first, same_frame, frame_within, right_at, parameters_at, apart_at, calls_at, frameless_is_leaf, frameless_in_registers, spares_as_leaf, spares_apart}
 
 pub same_side : (s : Side) → side (is_a s) ≡ s
 same_side A = refl
@@ -108,7 +108,7 @@ module _ (stream : Stream) (old : Layouts) (unplaced : AreUnplaced stream old) w
   Q = at_words P (λ g. entry_at (slice_get news g)) (λ g. start_at (slice_get news g)) (length (start_code P stream.main stream.frames))
 
   abbrev with_parts : ℕ → (ℕ → ℕ → Home) → (ℕ → ℕ) → (ℕ → ℕ) → (ℕ → Bool) → (ℕ → Bool) → (ℕ → ℕ → Bool) → Plan
-  with_parts n home words frame leaf bare spares = record {
+  with_parts n home words frame leaf frameless spares = record {
     by_a = P.by_a;
     functions = n;
     home = home;
@@ -117,7 +117,7 @@ module _ (stream : Stream) (old : Layouts) (unplaced : AreUnplaced stream old) w
     words = words;
     frame = frame;
     leaf = leaf;
-    bare = bare;
+    frameless = frameless;
     spares = spares;
     near = P.near;
     finish = Q.finish;
@@ -136,15 +136,15 @@ module _ (stream : Stream) (old : Layouts) (unplaced : AreUnplaced stream old) w
       let words : new.words ≡ P.words = fun_ext (λ g. ap frame_words (placed_same P variables variables_at (λ l entry start. refl) fs old.functions first 0 g long)) in
       let frame : new.frame ≡ P.frame = fun_ext (λ g. placed_same P variables frame_at (λ l entry start. refl) fs old.functions first 0 g long) in
       let leaf : new.leaf ≡ P.leaf = fun_ext (λ g. placed_same P variables leaf_at (λ l entry start. refl) fs old.functions first 0 g long) in
-      let bare : new.bare ≡ P.bare = fun_ext (λ g. placed_same P variables bare_at (λ l entry start. refl) fs old.functions first 0 g long) in
+      let frameless : new.frameless ≡ P.frameless = fun_ext (λ g. placed_same P variables frameless_at (λ l entry start. refl) fs old.functions first 0 g long) in
       let spares : new.spares ≡ P.spares = fun_ext (λ g. placed_same P variables spares_at (λ l entry start. refl) fs old.functions first 0 g long) in
-      ap (λ (k : ℕ). with_parts k new.home new.words new.frame new.leaf new.bare new.spares) n
-      ∙ ap (λ (h : ℕ → ℕ → Home). with_parts P.functions h new.words new.frame new.leaf new.bare new.spares) home
-      ∙ ap (λ (w : ℕ → ℕ). with_parts P.functions P.home w new.frame new.leaf new.bare new.spares) words
-      ∙ ap (λ (r : ℕ → ℕ). with_parts P.functions P.home P.words r new.leaf new.bare new.spares) frame
-      ∙ ap (λ (b : ℕ → Bool). with_parts P.functions P.home P.words P.frame b new.bare new.spares) leaf
-      ∙ ap (λ (b : ℕ → Bool). with_parts P.functions P.home P.words P.frame P.leaf b new.spares) bare
-      ∙ ap (λ (b : ℕ → ℕ → Bool). with_parts P.functions P.home P.words P.frame P.leaf P.bare b) spares
+      ap (λ (k : ℕ). with_parts k new.home new.words new.frame new.leaf new.frameless new.spares) n
+      ∙ ap (λ (h : ℕ → ℕ → Home). with_parts P.functions h new.words new.frame new.leaf new.frameless new.spares) home
+      ∙ ap (λ (w : ℕ → ℕ). with_parts P.functions P.home w new.frame new.leaf new.frameless new.spares) words
+      ∙ ap (λ (r : ℕ → ℕ). with_parts P.functions P.home P.words r new.leaf new.frameless new.spares) frame
+      ∙ ap (λ (b : ℕ → Bool). with_parts P.functions P.home P.words P.frame b new.frameless new.spares) leaf
+      ∙ ap (λ (b : ℕ → Bool). with_parts P.functions P.home P.words P.frame P.leaf b new.spares) frameless
+      ∙ ap (λ (b : ℕ → ℕ → Bool). with_parts P.functions P.home P.words P.frame P.leaf P.frameless b) spares
 
   pub variables_are : variables_of (at_places stream old) ≡ variables
   variables_are = fun_ext (λ g. placed_same P variables variables_at (λ l entry start. refl) fs old.functions first 0 g long)
@@ -246,10 +246,10 @@ module _ (stream : Stream) (old : Layouts) (unplaced : AreUnplaced stream old) w
         apart = (λ f v n r l e. let few = few_variables f in residents_apart old.functions old.residents unplaced.residents.free f v n r (omega arith) e);
         few = few_residents;
         small = unplaced.residents.small;
-        leaves = (λ f e. bare_is_leaf (slice_get fs f) (slice_get old.functions f) (at f) e);
+        leaves = (λ f e. frameless_is_leaf (slice_get fs f) (slice_get old.functions f) (at f) e);
         spares = (λ f r e. spares_as_leaf (slice_get old.functions f) r e);
         spared = (λ f v r l e. spares_apart old.residents (slice_get fs f) (slice_get old.functions f) (at f) v r l e);
-        bare = (λ f v i e. among_no_slot (homes_at (slice_get old.functions f)) old.residents (bare_in_registers (slice_get fs f) (slice_get old.functions f) (at f) e) v i);
+        frameless = (λ f v i e. among_no_slot (homes_at (slice_get old.functions f)) old.residents (frameless_in_registers (slice_get fs f) (slice_get old.functions f) (at f) e) v i);
       }
 
       is_plan : IsPlanOf p Q

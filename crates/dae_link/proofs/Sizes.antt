@@ -14,7 +14,7 @@ use Rattle.dae_select_walks.specs.Facts.{unknown}
 use Rattle.dae_select_walks.specs.Live.{nowhere}
 use Rattle.dae_select_walks.specs.Agrees.{Plan}
 use Rattle.dae_select_blocks.specs.Blocks.{residents_code}
-use Rattle.dae_select_walks.specs.declared.Standing.TheVariants.{Settled}
+use Rattle.dae_select_walks.specs.declared.VariableStanding.TheVariants.{Settled}
 use Rattle.dae_select_blocks.specs.Code.{code_of, function_code, entry_code, start_code, finish_code}
 use Rattle.dae_select_blocks.specs.Sizes.{most_words_in, is_short}
 use Rattle.dae_select_blocks.proofs.LawsOfBlocks.{append_short, code_length, entry_short, opening_short}

@@ -26,7 +26,7 @@ module _ (p : Plan) (variables : ℕ → ℕ) where
   placed_long (f ∷ fs) (l ∷ ls) word k e = let rest = placed_long fs ls (word + length (function_code p variables k (actions_of f.body))) (k + 1) (omega arith) in omega arith
 
   -- whatever is asked of a layout that its place doesn't change
-  pub placed_same : {T : Type 0} (what : Option FunctionLayout → T) → ((l : FunctionLayout) (entry start : ℕ) → what (Some (record { homes = l.homes; variables = l.variables; frame = l.frame; leaf = l.leaf; bare = l.bare; entry = entry; start = start })) ≡ what (Some l))
+  pub placed_same : {T : Type 0} (what : Option FunctionLayout → T) → ((l : FunctionLayout) (entry start : ℕ) → what (Some (record { homes = l.homes; variables = l.variables; frame = l.frame; leaf = l.leaf; frameless = l.frameless; entry = entry; start = start })) ≡ what (Some l))
       → (fs : List StreamFunction) (ls : List FunctionLayout) (word k g : ℕ) → length ls ≡ length fs → what (slice_get (placed p variables word k fs ls) g) ≡ what (slice_get ls g)
   placed_same what same [] [] word k g e = refl
   placed_same what same [] (l ∷ ls) word k g e = absurd (omega arith)

@@ -5,13 +5,13 @@ use Rattle.dae_base.specs.declared.Side.{Side}
 use Rattle.dae_base.specs.declared.Side.TheVariants.{A, E}
 use Rattle.dae_image.specs.Contents.{are_lines, follows}
 use Rattle.dae_image.specs.declared.LineMark.{LineMark}
-use Rattle.dae_image.specs.declared.header.Header.{Header}
+use Rattle.dae_image.specs.declared.header.ImageHeader.{ImageHeader}
 use Rattle.dae_select.specs.declared.growing.PlacedWord.{PlacedWord}
 use Rattle.dae_link.specs.declared.marks.MarkRoom.{MarkRoom}
 use Rattle.dae_link.specs.declared.marks.LineMarks.{LineMarks}
 
 -- the header of an image with so many words and files
-pub record HasSizes (room : MarkRoom) (h : Header) : Type 0 where
+pub record HasSizes (room : MarkRoom) (h : ImageHeader) : Type 0 where
   pub words_a : h.words_a ≡ room.words_a
   pub words_e : h.words_e ≡ room.words_e
   pub files : h.names ≡ room.files
@@ -75,7 +75,7 @@ line_marks room a e = up_to 262144 (marks_a room a) (marks_after room E (last_or
 
 -- the marks are in order, and of words and files that are there
 pub record IsMarked (room : MarkRoom) (marks : LineMarks) : Type 0 where
-  pub good : (h : Header) → HasSizes room h → are_lines h None marks.lines.items ≡ true
+  pub good : (h : ImageHeader) → HasSizes room h → are_lines h None marks.lines.items ≡ true
   pub last : marks.last ≡ last_or None marks.lines.items
   pub numbers : All (λ m. m.line < 2 ^ 32) marks.lines.items
 
@@ -94,7 +94,7 @@ HasMarksOf room most side places old new =
 
 -- and no more than an image can have; and those of the words at which actions begin
 pub record AreMarks (room : MarkRoom) (a e : List PlacedWord) (lines : List LineMark) : Type 0 where
-  pub good : (h : Header) → HasSizes room h → are_lines h None lines ≡ true
+  pub good : (h : ImageHeader) → HasSizes room h → are_lines h None lines ≡ true
   pub numbers : All (λ m. m.line < 2 ^ 32) lines
   pub few : length lines ≤ 262144
   pub made : lines ≡ line_marks room a e

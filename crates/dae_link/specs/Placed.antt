@@ -24,7 +24,7 @@ whole_code plan variables main frames fs = opening_code plan main frames ++ func
 
 -- the layout of a function that is entered at a word, with so many words before its actions
 abbrev pub moved : FunctionLayout → ℕ → ℕ → FunctionLayout
-moved l word entry = record { homes = l.homes; variables = l.variables; frame = l.frame; leaf = l.leaf; bare = l.bare; entry = word; start = word + entry }
+moved l word entry = record { homes = l.homes; variables = l.variables; frame = l.frame; leaf = l.leaf; frameless = l.frameless; entry = word; start = word + entry }
 
 -- the layouts of the functions from the k-th on, where the first of them is entered at a word
 abbrev pub placed : Plan → (ℕ → ℕ) → ℕ → ℕ → List StreamFunction → List FunctionLayout → List FunctionLayout

@@ -61,7 +61,7 @@ KeepsInRegisters f l =
     AreFew 18 (function_lives f.parameters (actions_of f.body)) → (v : ℕ) → IsRegister (home_in l.homes v)
 
 -- the homes are right, a variable that is live anywhere has one of them, and each has a register where these are enough. It is
--- said whether the function is a leaf, and whether it is bare. The function is at word 0
+-- said whether the function is a leaf, and whether it is frameless. The function is at word 0
 pub record IsLayoutOf (f : StreamFunction) (l : FunctionLayout) : Type 0 where
   pub count : l.variables ≡ length l.homes
   pub few : l.variables < 2 ^ 26 - 19
@@ -71,7 +71,7 @@ pub record IsLayoutOf (f : StreamFunction) (l : FunctionLayout) : Type 0 where
   pub registers : KeepsInRegisters f l
   pub frame : l.frame ≡ f.frame
   pub leaf : l.leaf ≡ is_leaf (actions_of f.body)
-  pub bare : l.bare ≡ is_frameless f l.homes
+  pub frameless : l.frameless ≡ is_frameless f l.homes
   pub entry : l.entry ≡ 0
 
 abbrev pub IsFrameWithin : ℕ → FunctionLayout → Type 0

@@ -149,13 +149,13 @@ fn layout_of(alloc: Global, function: &StreamFunction) -> Result<FunctionLayout,
     ensures private { IfErr result (λ e. e ≡ errors.Private → AreTooMany (function.now ∷ [])) }
 {
     let homes = function_homes(alloc, function)?;
-    let bare = is_frameless(function, homes.as_slice());
+    let frameless = is_frameless(function, homes.as_slice());
     Ok(FunctionLayout {
         variables: count_of(homes.len())?,
         homes: Items::from_vec(homes),
         frame: function.frame,
         leaf: is_leaf_function(function),
-        bare,
+        frameless,
         entry: 0,
         start: 0,
     })

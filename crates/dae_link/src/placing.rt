@@ -45,7 +45,7 @@ fn layout_at(
         variables: layout.variables,
         frame: layout.frame,
         leaf: layout.leaf,
-        bare: layout.bare,
+        frameless: layout.frameless,
         entry: word,
         start: word + entry,
     })

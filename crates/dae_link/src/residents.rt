@@ -23,7 +23,7 @@ const TURNS: u32 = 8;
 
 /// A number, and how many instructions it saves where it stays in a register.
 #[derive(Clone, Copy)]
-struct Counted {
+struct NumberSaving {
     number: u32,
     saves: u32,
 }
@@ -31,7 +31,7 @@ struct Counted {
 // ---- what numbers save
 
 /// Where a number stands among those that are counted, or how many these are.
-fn place_of(counts: &[Counted], number: u32) -> usize {
+fn place_of(counts: &[NumberSaving], number: u32) -> usize {
     for index in 0..counts.len() {
         if counts[index].number == number {
             return index;
@@ -41,17 +41,17 @@ fn place_of(counts: &[Counted], number: u32) -> usize {
 }
 
 /// A number saves so many instructions more.
-fn count(counts: &mut Vec<Counted>, number: u32, saves: u32) -> Result<(), AllocError> {
+fn count(counts: &mut Vec<NumberSaving>, number: u32, saves: u32) -> Result<(), AllocError> {
     let place = place_of(counts.as_slice(), number);
     if place < counts.len() {
         let before = counts[place].saves;
-        counts[place] = Counted {
+        counts[place] = NumberSaving {
             number,
             saves: before.saturating_add(saves),
         };
         Ok(())
     } else if counts.len() < MOST_COUNTED {
-        counts.push(Counted { number, saves })?;
+        counts.push(NumberSaving { number, saves })?;
         Ok(())
     } else {
         Ok(())
@@ -65,7 +65,7 @@ fn is_short(number: u32) -> bool {
 
 /// An operand that a block wants in a register.
 fn count_fetched(
-    counts: &mut Vec<Counted>,
+    counts: &mut Vec<NumberSaving>,
     operand: Operand,
     weight: u32,
 ) -> Result<(), AllocError> {
@@ -83,7 +83,7 @@ fn count_fetched(
 
 /// An operation whose number may be an immediate.
 fn count_binary(
-    counts: &mut Vec<Counted>,
+    counts: &mut Vec<NumberSaving>,
     operator: Operator,
     left: Operand,
     right: Operand,
@@ -108,7 +108,11 @@ fn count_binary(
 }
 
 /// A comparison whose right operand may be an immediate.
-fn count_compared(counts: &mut Vec<Counted>, test: Test, weight: u32) -> Result<(), AllocError> {
+fn count_compared(
+    counts: &mut Vec<NumberSaving>,
+    test: Test,
+    weight: u32,
+) -> Result<(), AllocError> {
     count_fetched(counts, test.left, weight)?;
     match test.right {
         Operand::Variable(_) => Ok(()),
@@ -123,7 +127,7 @@ fn count_compared(counts: &mut Vec<Counted>, test: Test, weight: u32) -> Result<
 }
 
 /// A test that is told: with an immediate behind `less` it takes an instruction more than with a register.
-fn count_told(counts: &mut Vec<Counted>, test: Test, weight: u32) -> Result<(), AllocError> {
+fn count_told(counts: &mut Vec<NumberSaving>, test: Test, weight: u32) -> Result<(), AllocError> {
     match test.comparison {
         Comparison::LessSigned | Comparison::LessUnsigned => {
             count_fetched(counts, test.left, weight)?;
@@ -133,7 +137,11 @@ fn count_told(counts: &mut Vec<Counted>, test: Test, weight: u32) -> Result<(), 
     }
 }
 
-fn count_branch(counts: &mut Vec<Counted>, branch: Branch, weight: u32) -> Result<(), AllocError> {
+fn count_branch(
+    counts: &mut Vec<NumberSaving>,
+    branch: Branch,
+    weight: u32,
+) -> Result<(), AllocError> {
     match branch {
         Branch::Silent(test) => {
             count_fetched(counts, test.left, weight)?;
@@ -144,7 +152,11 @@ fn count_branch(counts: &mut Vec<Counted>, branch: Branch, weight: u32) -> Resul
     }
 }
 
-fn count_value(counts: &mut Vec<Counted>, value: Value, weight: u32) -> Result<(), AllocError> {
+fn count_value(
+    counts: &mut Vec<NumberSaving>,
+    value: Value,
+    weight: u32,
+) -> Result<(), AllocError> {
     match value {
         Value::Same(_) => Ok(()),
         Value::Extended(_, operand) => count_fetched(counts, operand, weight),
@@ -157,7 +169,7 @@ fn count_value(counts: &mut Vec<Counted>, value: Value, weight: u32) -> Result<(
 }
 
 fn count_arguments(
-    counts: &mut Vec<Counted>,
+    counts: &mut Vec<NumberSaving>,
     arguments: &[Argument],
     weight: u32,
 ) -> Result<(), AllocError> {
@@ -167,7 +179,11 @@ fn count_arguments(
     Ok(())
 }
 
-fn count_action(counts: &mut Vec<Counted>, action: &Action, weight: u32) -> Result<(), AllocError> {
+fn count_action(
+    counts: &mut Vec<NumberSaving>,
+    action: &Action,
+    weight: u32,
+) -> Result<(), AllocError> {
     match action {
         Action::Set(_, value) => count_value(counts, *value, weight),
         Action::Issue(_, operand) => count_fetched(counts, *operand, weight),
@@ -179,7 +195,7 @@ fn count_action(counts: &mut Vec<Counted>, action: &Action, weight: u32) -> Resu
 }
 
 #[cycle(counting)]
-fn count_step(counts: &mut Vec<Counted>, step: &Step, weight: u32) -> Result<(), AllocError> {
+fn count_step(counts: &mut Vec<NumberSaving>, step: &Step, weight: u32) -> Result<(), AllocError> {
     match step {
         Step::Act(_, action) => count_action(counts, action, weight),
         Step::If(_, branch, first, second) => {
@@ -196,7 +212,11 @@ fn count_step(counts: &mut Vec<Counted>, step: &Step, weight: u32) -> Result<(),
 }
 
 #[cycle(counting)]
-fn count_steps(counts: &mut Vec<Counted>, steps: &[Step], weight: u32) -> Result<(), AllocError> {
+fn count_steps(
+    counts: &mut Vec<NumberSaving>,
+    steps: &[Step],
+    weight: u32,
+) -> Result<(), AllocError> {
     for step in steps {
         count_step(counts, step, weight)?;
     }
@@ -215,7 +235,7 @@ fn is_among(numbers: &[u32], number: u32) -> bool {
 }
 
 /// The number that saves most, but for these.
-fn best(counts: &[Counted], chosen: &[u32]) -> Option<u32> {
+fn best(counts: &[NumberSaving], chosen: &[u32]) -> Option<u32> {
     let mut found = None;
     let mut most: u32 = 1;
     for counted in counts {

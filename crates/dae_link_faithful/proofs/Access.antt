@@ -8,8 +8,8 @@ use Rattle.dae_base.specs.declared.Queue.TheVariants.{Ld, Al, Sa, Sd, Cq}
 use Rattle.dae_base.specs.declared.Width.{Width}
 use Rattle.dae_base.specs.declared.LoadKind.{LoadKind}
 use Rattle.dae_encode.specs.declared.Inst.{Inst}
-use Rattle.dae_encode.specs.declared.Form.{Form}
-use Rattle.dae_encode.specs.declared.Form.TheVariants.{Computes, Loads, Stores, Calls}
+use Rattle.dae_encode.specs.declared.InstructionForm.{InstructionForm}
+use Rattle.dae_encode.specs.declared.InstructionForm.TheVariants.{Computes, Loads, Stores, Calls}
 use Rattle.dae_encode.specs.Instructions.{effect, form_of, form}
 use Rattle.dae_encode.specs.Uses.{queue_use}
 use Rattle.dae_ir.specs.Deeds.{told_on, heard_on}
@@ -18,21 +18,21 @@ use Rattle.dae_select_blocks.proofs.LawsOfBlocks.{low}
 use Rattle.dae_link_faithful.specs.Uses.{queue_of, queue_in}
 
 -- an instruction of plain registers
-abbrev pub IsPlain : Form → Type 0
+abbrev pub IsPlain : InstructionForm → Type 0
 IsPlain (Computes rd x y) = (rd < 28) × (x < 28) × (y < 28)
 IsPlain (Loads kind rd base offset) = (rd < 28) × (base < 28)
 IsPlain (Stores width base source offset) = (base < 28) × (source < 28)
 IsPlain Calls = Unit {0}
 
 -- the queue of a form
-abbrev used : Side → Form → Option Queue
+abbrev used : Side → InstructionForm → Option Queue
 used s f = option_and_then queue_of (queue_use true s f)
 
-by_form : (s : Side) (i : Inst) (f : Form) (o : Option Queue) → form_of (effect i) ≡ f → used s f ≡ o → queue_in s i ≡ o
+by_form : (s : Side) (i : Inst) (f : InstructionForm) (o : Option Queue) → form_of (effect i) ≡ f → used s f ≡ o → queue_in s i ≡ o
 unfolding queue_in form
 by_form s i f o e h = ap (used s) e ∙ h
 
-plain_form : (s : Side) (f : Form) → IsPlain f → used s f ≡ None
+plain_form : (s : Side) (f : InstructionForm) → IsPlain f → used s f ≡ None
 unfolding queue_use
 plain_form s (Computes rd x y) h = rw (low rd h.0, low x h.1, low y h.2) refl
 plain_form s (Loads kind rd base offset) h = rw (low rd h.0, low base h.1) refl

@@ -9,11 +9,11 @@ use Rattle.dae_meaning.specs.Variables.{Env}
 use Rattle.dae_ir.specs.Form.{Program}
 use Rattle.dae_ir.specs.Classes.{VariableSet}
 use Rattle.dae_ir.specs.Streams.{Actions}
-use Rattle.dae_machine_rounds.specs.Spots.{Behind, Ends, After, Body, Turn, Spot, Waiting}
-use Rattle.dae_select_walks.specs.Walks.{Setting, Comes}
+use Rattle.dae_machine_rounds.specs.Spots.{Behind, Ends, After, Body, Turn, Spot, HeldCall}
+use Rattle.dae_select_walks.specs.Walks.{WalkSetting, Comes}
 use Rattle.dae_select_walks.specs.Live.{live, nowhere}
 use Rattle.dae_select_walks.specs.Facts.{Facts, Hold, Outs, outs, FactsGo}
-use Rattle.dae_select_walks.specs.Agrees.{Plan, Moment, Waiting as Waiting', IsWithin}
+use Rattle.dae_select_walks.specs.Agrees.{Plan, Moment, CallFrame as Waiting', IsWithin}
 use Rattle.dae_select_walks.specs.Compiled.{Exit, Exits, exits, with_result, IsAnswered, Lands, At as At', CodeDone, GoesBack, begins_told}
 use Rattle.dae_link_faithful.specs.Made.{IsFit, AnyBranch, IsTight, IsClosed, setting_of}
 
@@ -55,7 +55,7 @@ abbrev pub step_exits : Around → Exits
 step_exits l = exits l.end l.next l.end
 
 module _ (setup : Setup) (plan : Plan) (p : Program) (body : ℕ → Actions) (most widest functions : ℕ) (answered : ℕ → Bool) where
-  abbrev pub s : Setting
+  abbrev pub s : WalkSetting
   s = setting_of setup plan.by_a
 
   abbrev pub entries : ℕ → VariableSet
@@ -117,7 +117,7 @@ module _ (setup : Setup) (plan : Plan) (p : Program) (body : ℕ → Actions) (m
   moment f env frame ws = record { function = f; env = env; frame = frame; waiting = ws }
 
   -- a call of the function f waits
-  pub record Waits (f : ℕ) (c : Waiting) (w : Waiting') (ws : List Waiting') : Type 0 where
+  pub record Waits (f : ℕ) (c : HeldCall) (w : Waiting') (ws : List Waiting') : Type 0 where
     pub here : Exit
     pub exits' : Exits
     pub known : Facts
@@ -133,7 +133,7 @@ module _ (setup : Setup) (plan : Plan) (p : Program) (body : ℕ → Actions) (m
     pub resume : (result : Option ℕ) (q : Processor) → IsAnswered c.result result → Lands plan f w ws result q
         → Comes s (3 * most) q (GoesOn w.function here (moment w.function (with_result c.result result w.env) w.frame ws))
 
-  abbrev pub AreCalls : ℕ → List Waiting → List Waiting' → Type 0
+  abbrev pub AreCalls : ℕ → List HeldCall → List Waiting' → Type 0
   AreCalls f [] [] = Unit {0}
   AreCalls f [] (w ∷ ws) = ⊥
   AreCalls f (c ∷ cs) [] = ⊥
@@ -154,7 +154,7 @@ module _ (setup : Setup) (plan : Plan) (p : Program) (body : ℕ → Actions) (m
     pub calls : AreCalls function at'.calls waiting
 
   -- it has returned to a call, with the result that the call waits for
-  pub record HasReturned (x : ℕ) (c : Waiting) (cs : List Waiting) (q : Processor) : Type 0 where
+  pub record HasReturned (x : ℕ) (c : HeldCall) (cs : List HeldCall) (q : Processor) : Type 0 where
     pub function : ℕ
     pub first : Waiting'
     pub others : List Waiting'
@@ -165,7 +165,7 @@ module _ (setup : Setup) (plan : Plan) (p : Program) (body : ℕ → Actions) (m
     pub answer : is_some c.result ≡ true → result ≡ Some x
 
   -- where main has returned nothing is said
-  abbrev pub Landed : ℕ → List Waiting → Processor → Type 0
+  abbrev pub Landed : ℕ → List HeldCall → Processor → Type 0
   Landed x [] q = Unit {0}
   Landed x (c ∷ cs) q = HasReturned x c cs q
 

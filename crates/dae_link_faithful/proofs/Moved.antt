@@ -23,17 +23,17 @@ use Rattle.dae_ir.specs.declared.stream.Branch.{Branch}
 use Rattle.dae_ir.specs.declared.stream.Branch.TheVariants.{Silent, Tells, Hears}
 use Rattle.dae_machine.specs.Uses.{Use, Pushes}
 use Rattle.dae_machine.specs.Uses.{Takes}
-use Rattle.dae_machine_rounds.specs.Follows.{IsFit as IsFitUse, Outcome, Leaves, Quits, Follows, went, takes, pushes, reserves, sends, says, halts}
-use Rattle.dae_machine_rounds.specs.Spots.{turn_least, Behind, Ends, After, Body, Turn, Point, point, left, skipped, Spot, spot, Waiting, waits, put_some, resumed, given, with_result, weight, Came, came, Moves, acts, goes_behind, ends_body, ends_step, breaks, continues, branches, tells, hears, enters, calls_it, returns, goes_back}
-use Rattle.dae_machine_rounds.specs.Sides.{Walked, Agrees, Implements}
+use Rattle.dae_machine_rounds.specs.Follows.{IsFit as IsFitUse, DeedOutcome, Leaves, Quits, Follows, went, takes, pushes, reserves, sends, says, halts}
+use Rattle.dae_machine_rounds.specs.Spots.{turn_least, Behind, Ends, After, Body, Turn, Point, point, left, skipped, Spot, spot, HeldCall, waits, put_some, resumed, given, with_result, weight, Came, came, Moves, acts, goes_behind, ends_body, ends_step, breaks, continues, branches, tells, hears, enters, calls_it, returns, goes_back}
+use Rattle.dae_machine_rounds.specs.Sides.{SideWalked, Agrees, Implements}
 use Rattle.dae_select_walks.specs.Walks.{Comes}
 use Rattle.dae_select_walks.specs.Does.{Does}
 use Rattle.dae_select_walks.specs.Live.{none}
 use Rattle.dae_select_walks.specs.Facts.{Facts, Hold, LeavesOnly, unknown, facts_behind, facts_in_first, facts_in_second, facts_at_turn, facts_at_step, facts_past_if, facts_past_loop, Outs, outs, FactsGo}
 use Rattle.dae_select_walks.proofs.LawsOfWalks.{returned_facts, deed_facts, facts_go, Goes_by, branch_lies}
-use Rattle.dae_select_walks.specs.Agrees.{Plan, Moment, Waiting as Waiting', IsWithin, top_of}
-use Rattle.dae_select_walks.specs.declared.Standing.{Standing}
-use Rattle.dae_select_walks.specs.declared.Standing.TheVariants.{Settled, Early, Late}
+use Rattle.dae_select_walks.specs.Agrees.{Plan, Moment, CallFrame as Waiting', IsWithin, top_of}
+use Rattle.dae_select_walks.specs.declared.VariableStanding.{VariableStanding}
+use Rattle.dae_select_walks.specs.declared.VariableStanding.TheVariants.{Settled, Early, Late}
 use Rattle.dae_select_walks.specs.Compiled.{HoldsAt, Exit, Exits, exit, exits, with_env, GoesBack, begins_told, with_result as with_result', result_of, given as given', waiting_of, called, IsAnswered, Lands, IsWorldOf}
 use Rattle.dae_select_blocks.specs.Wanted.{IsPlanOf}
 use Rattle.dae_link_faithful.specs.Made.{IsTight, IsClosed, AreWhole}
@@ -56,7 +56,7 @@ branch_held b known env true h e = branch_lies b true known env h e
 branch_held b known env false h e = branch_lies b false known env h e
 
 -- what a deed leaves, whatever words the queues give
-follows_only : {d : Deed} {uses : List Use} {o : Outcome} (P : Env → Type 0) → Follows d uses o → LeavesOnly P d → (e : Env) → o ≡ Leaves e → P e
+follows_only : {d : Deed} {uses : List Use} {o : DeedOutcome} (P : Env → Type 0) → Follows d uses o → LeavesOnly P d → (e : Env) → o ≡ Leaves e → P e
 follows_only P (went {env}) h e same = let left : env ≡ e = cc in subst P left h
 follows_only P (takes x f) h e same = follows_only P f (h x) e same
 follows_only P (pushes f) h e same = follows_only P f h e same
@@ -79,12 +79,12 @@ same_given [] env = refl
 same_given (x ∷ xs) env = ap (λ (e : Env). put true x.parameter (value x.operand env) e) (same_given xs env)
 
 -- however what it holds stands to the moment, the moment is within the limits
-at_within : (plan : Plan) (standing : Standing) (live : VariableSet) (m : Moment) (word : ℕ) (q : Processor) → HoldsAt plan standing live m word q → IsWithin plan m
+at_within : (plan : Plan) (standing : VariableStanding) (live : VariableSet) (m : Moment) (word : ℕ) (q : Processor) → HoldsAt plan standing live m word q → IsWithin plan m
 at_within plan Settled live m word q h = h.agrees.within
 at_within plan (Early v x) live m word q h = (let w = h.agrees.within in record { depth = w.depth; frame = w.frame })
 at_within plan (Late v x) live m word q h = (let w = h.2.agrees.within in record { depth = w.depth; frame = w.frame })
 
-abbrev is_leaving : Outcome → Bool
+abbrev is_leaving : DeedOutcome → Bool
 is_leaving (Leaves env) = true
 is_leaving (Quits quit) = false
 
@@ -120,7 +120,7 @@ module _ (setup : Setup) (plan : Plan) (p : Program) (body : ℕ → Actions) (n
       let r0 = r.0 in let r1 = r.1 in let e = d.memory in let l = d.is_plan.limit in
       record { depth = omega arith; frame = omega arith }
 
-  call_moved : (q : Processor) {m : Mark} {v : Option ℕ} {f : ℕ} {xs : List Argument} {k : Actions} {b : Behind} {env : Env} {calls : List Waiting} (w : World) → IsDone → length w.memory ≡ setup.memory → passed (nat_lt p.limit (w.depth + 1) || nat_lt (length w.memory) (w.top + p.frame f)) ≡ None
+  call_moved : (q : Processor) {m : Mark} {v : Option ℕ} {f : ℕ} {xs : List Argument} {k : Actions} {b : Behind} {env : Env} {calls : List HeldCall} (w : World) → IsDone → length w.memory ≡ setup.memory → passed (nat_lt p.limit (w.depth + 1) || nat_lt (length w.memory) (w.top + p.frame f)) ≡ None
       → S (spot (point (Do m (Call v f xs) k) b) env w calls) q → To 0 (widest + 6 * length xs) q [] (A (spot (point (body f) Ends) (given xs env) (deeper p f w) (waits v (point k b) env w ∷ calls)))
   call_moved q {m} {v} {f} {xs} {k} {b} {env} {calls} w d size room h =
       let M : Moment = moment setup plan p body n widest functions answered h.function env w.frame h.waiting in
@@ -175,7 +175,7 @@ module _ (setup : Setup) (plan : Plan) (p : Program) (body : ℕ → Actions) (n
   has_result None env h = absurd cc
   has_result (Some x) env h = refl
 
-  returned : (q : Processor) (f : ℕ) (y : Option Operand) (env : Env) (calls : List Waiting) (ws : List Waiting') → AreCalls setup plan p body n widest functions answered f calls ws → (answered f ≡ true → is_some y ≡ true)
+  returned : (q : Processor) (f : ℕ) (y : Option Operand) (env : Env) (calls : List HeldCall) (ws : List Waiting') → AreCalls setup plan p body n widest functions answered f calls ws → (answered f ≡ true → is_some y ≡ true)
       → ((first : Waiting') (others : List Waiting') → ws ≡ first ∷ others → Comes (s setup plan p body n widest functions answered) n q (Lands plan f first others (result_of y env))) → To 0 n q [] (Landed setup plan p body n widest functions answered (with_result y env 0) calls)
   returned q f y env [] ws h ok back =
       walks_more setup plan.by_a {a = 0} {b = 0} (omega arith) (omega arith) (here_walks setup plan.by_a {p = q} {Q = λ (t : Processor). Unit {0}} tt)
@@ -183,7 +183,7 @@ module _ (setup : Setup) (plan : Plan) (p : Program) (body : ℕ → Actions) (n
   returned q f y env (c ∷ cs) (first ∷ others) h ok back =
       just_comes setup plan.by_a (back first others refl) (λ r lands. record { function = f; first = first; others = others; waits = h.0; calls = h.1; result = result_of y env; lands = lands; answer = λ e. has_result y env (ok (h.0.answer e)) }) (omega arith)
 
-  return_moved : (q : Processor) {m : Mark} {y : Option Operand} {k : Actions} {b : Behind} {env : Env} {calls : List Waiting} (w : World) → S (spot (point (Do m (Return y) k) b) env w calls) q → To 0 n q [] (A (spot (point Done Ends) (with_result y env) w calls))
+  return_moved : (q : Processor) {m : Mark} {y : Option Operand} {k : Actions} {b : Behind} {env : Env} {calls : List HeldCall} (w : World) → S (spot (point (Do m (Return y) k) b) env w calls) q → To 0 n q [] (A (spot (point Done Ends) (with_result y env) w calls))
   return_moved q {m} {y} {k} {b} {env} {calls} w h =
       let M : Moment = moment setup plan p body n widest functions answered h.function env w.frame h.waiting in
       returned q h.function y env calls h.waiting h.calls h.placed.fits.0 (h.placed.done.does.1 M q h.stands).1
@@ -200,7 +200,7 @@ module _ (setup : Setup) (plan : Plan) (p : Program) (body : ℕ → Actions) (n
   puts_result (Some v) None x env env' e h = (let f = h refl in absurd cc)
   puts_result (Some v) (Some y) x env env' e h = (let f : Some y ≡ Some x = h refl in let g : y ≡ x = cc in rw (g, e) refl)
 
-  back_moved : (q : Processor) (x : ℕ) {c : Waiting} {calls : List Waiting} → HasReturned setup plan p body n widest functions answered x c calls q → To 0 (3 * n) q [] (A (resumed c x calls))
+  back_moved : (q : Processor) (x : ℕ) {c : HeldCall} {calls : List HeldCall} → HasReturned setup plan p body n widest functions answered x c calls q → To 0 (3 * n) q [] (A (resumed c x calls))
   back_moved q x {c} {calls} h =
       let w = h.waits in
       let same : moment setup plan p body n widest functions answered h.first.function (with_result' c.result h.result h.first.env) h.first.frame h.others ≡ moment setup plan p body n widest functions answered h.first.function (put_some c.result x c.env) c.frame h.others =
@@ -224,7 +224,7 @@ module _ (setup : Setup) (plan : Plan) (p : Program) (body : ℕ → Actions) (n
 
   -- ---- branches and loops
 
-  chosen : {f : ℕ} (x y k : Actions) (b : Behind) (env : Env) (calls : List Waiting) (w : World) (ws : List Waiting') (first second next : Exit) (z : Exits) (kx ky kk : Facts) (out : Outs) (t : Bool) (q : Processor)
+  chosen : {f : ℕ} (x y k : Actions) (b : Behind) (env : Env) (calls : List HeldCall) (w : World) (ws : List Waiting') (first second next : Exit) (z : Exits) (kx ky kk : Facts) (out : Outs) (t : Bool) (q : Processor)
       → CodeAt setup plan p body n widest functions answered f kx x first (record z { next = next }) (record out { next = kk }) → CodeAt setup plan p body n widest functions answered f ky y second (record z { next = next }) (record out { next = kk }) → CodeAt setup plan p body n widest functions answered f kk k next z out → BehindDone setup plan p body n widest functions answered f b z out
       → FitsCode setup plan p body n widest functions answered f x → FitsCode setup plan p body n widest functions answered f y → FitsCode setup plan p body n widest functions answered f k → FitsBehind setup plan p body n widest functions answered f b → TightAt x b → TightAt y b → TightAt k b → ClosedAt k b
       → w.top ≡ w.frame + plan.frame f → w.depth ≡ length ws + 1 → AreCalls setup plan p body n widest functions answered f calls ws → Hold (if t then kx else ky) env
@@ -235,7 +235,7 @@ module _ (setup : Setup) (plan : Plan) (p : Program) (body : ℕ → Actions) (n
   chosen {f} x y k b env calls w ws first second next z kx ky kk out false q dx dy dk db fx fy fk fb tx ty tk ck top depth ac held g =
       agrees_at setup plan p body n widest functions answered y (After k b) env w.frame w.top w.depth calls q (record { function = f; waiting = ws; here = second; exits' = record z { next = next }; placed = record { done = dy; next = (next, z, refl, kk, out, refl, dk, db); fits = fy; fits_next = (fk, fb); tight = (ty, tk); closed = ck }; known = ky; out = record out { next = kk }; facts = held; stands = g; top = top; depth = depth; calls = ac })
 
-  silent_moved : (q : Processor) {m : Mark} {t : Test} {x y k : Actions} {b : Behind} {env : Env} {calls : List Waiting} (w : World) → S (spot (point (If m (Silent t) x y k) b) env w calls) q → To 0 n q [] (A (spot (point (if holds t env then x else y) (After k b)) env w calls))
+  silent_moved : (q : Processor) {m : Mark} {t : Test} {x y k : Actions} {b : Behind} {env : Env} {calls : List HeldCall} (w : World) → S (spot (point (If m (Silent t) x y k) b) env w calls) q → To 0 n q [] (A (spot (point (if holds t env then x else y) (After k b)) env w calls))
   silent_moved q {m} {t} {x} {y} {k} {b} {env} {calls} w h =
       let d = h.placed.done.does in let go = h.placed.done.goes in let z : Exits = h.exits' in let fits = h.placed.fits in
       let M : Moment = moment setup plan p body n widest functions answered h.function env w.frame h.waiting in
@@ -245,7 +245,7 @@ module _ (setup : Setup) (plan : Plan) (p : Program) (body : ℕ → Actions) (n
       let ck = closed_map (If m (Silent t) x y k) k b (λ u. u) h.placed.closed in
       just_comes setup plan.by_a (d.3 M q h.stands) (λ r g. chosen x y k b env calls w h.waiting d.0 d.1 d.2 z (facts_in_first (Silent t) h.known) (facts_in_second (Silent t) h.known) (facts_past_if (Silent t) x y h.known) h.out (holds t env) r (record { does = d.4; goes = go.0 }) (record { does = d.5; goes = go.1 }) (record { does = d.6; goes = go.2 }) h.placed.next fits.1 fits.2 fits.3 h.placed.fits_next tx ty tk ck h.top h.depth h.calls (branch_held (Silent t) h.known env (holds t env) h.facts refl) g) (omega arith)
 
-  tells_moved : (q : Processor) {m : Mark} {t : Test} {x y k : Actions} {b : Behind} {env : Env} {calls : List Waiting} (w : World) → S (spot (point (If m (Tells t) x y k) b) env w calls) q → To 1 n q (Pushes (told_on plan.by_a) (if holds t env then 1 else 0) ∷ []) (A (spot (point (if holds t env then x else y) (After k b)) env w calls))
+  tells_moved : (q : Processor) {m : Mark} {t : Test} {x y k : Actions} {b : Behind} {env : Env} {calls : List HeldCall} (w : World) → S (spot (point (If m (Tells t) x y k) b) env w calls) q → To 1 n q (Pushes (told_on plan.by_a) (if holds t env then 1 else 0) ∷ []) (A (spot (point (if holds t env then x else y) (After k b)) env w calls))
   tells_moved q {m} {t} {x} {y} {k} {b} {env} {calls} w h =
       let d = h.placed.done.does in let go = h.placed.done.goes in let z : Exits = h.exits' in let fits = h.placed.fits in
       let M : Moment = moment setup plan p body n widest functions answered h.function env w.frame h.waiting in
@@ -256,7 +256,7 @@ module _ (setup : Setup) (plan : Plan) (p : Program) (body : ℕ → Actions) (n
       let does = d.3 M q h.stands in
       used_walks setup plan.by_a (nears_walks setup plan.by_a does.1 (λ l r a. use_walks setup plan.by_a {k = l} (Pushes (told_on plan.by_a) (if holds t env then 1 else 0)) (if holds t env then 1 else 0) refl does.0 a (λ o c. just_comes setup plan.by_a c (λ e g. chosen x y k b env calls w h.waiting d.0 d.1 d.2 z (facts_in_first (Tells t) h.known) (facts_in_second (Tells t) h.known) (facts_past_if (Tells t) x y h.known) h.out (holds t env) e (record { does = d.4; goes = go.0 }) (record { does = d.5; goes = go.1 }) (record { does = d.6; goes = go.2 }) h.placed.next fits.1 fits.2 fits.3 h.placed.fits_next tx ty tk ck h.top h.depth h.calls (branch_held (Tells t) h.known env (holds t env) h.facts refl) g) (omega arith)) (omega arith)) (omega arith))
 
-  hears_moved : (q : Processor) {m : Mark} {x y k : Actions} {b : Behind} {env : Env} {calls : List Waiting} (w : World) (told : Bool) → S (spot (point (If m Hears x y k) b) env w calls) q → To 1 n q (Takes (heard_on plan.by_a) (if told then 1 else 0) ∷ []) (A (spot (point (if told then x else y) (After k b)) env w calls))
+  hears_moved : (q : Processor) {m : Mark} {x y k : Actions} {b : Behind} {env : Env} {calls : List HeldCall} (w : World) (told : Bool) → S (spot (point (If m Hears x y k) b) env w calls) q → To 1 n q (Takes (heard_on plan.by_a) (if told then 1 else 0) ∷ []) (A (spot (point (if told then x else y) (After k b)) env w calls))
   hears_moved q {m} {x} {y} {k} {b} {env} {calls} w told h =
       let d = h.placed.done.does in let go = h.placed.done.goes in let z : Exits = h.exits' in let fits = h.placed.fits in
       let M : Moment = moment setup plan p body n widest functions answered h.function env w.frame h.waiting in
@@ -275,7 +275,7 @@ module _ (setup : Setup) (plan : Plan) (p : Program) (body : ℕ → Actions) (n
       heard f i j M e true g = g
       heard f i j M e false g = g
 
-  enters_moved : (q : Processor) {m : Mark} {x y k : Actions} {b : Behind} {env : Env} {calls : List Waiting} (w : World) → S (spot (point (Loop m x y k) b) env w calls) q → To 0 2 q [] (A (spot (point x (Body x y k b)) env w calls))
+  enters_moved : (q : Processor) {m : Mark} {x y k : Actions} {b : Behind} {env : Env} {calls : List HeldCall} (w : World) → S (spot (point (Loop m x y k) b) env w calls) q → To 0 2 q [] (A (spot (point x (Body x y k b)) env w calls))
   enters_moved q {m} {x} {y} {k} {b} {env} {calls} w h =
       let d = h.placed.done.does in let go = h.placed.done.goes in let z : Exits = h.exits' in let fits = h.placed.fits in
       let M : Moment = moment setup plan p body n widest functions answered h.function env w.frame h.waiting in
@@ -300,13 +300,13 @@ module _ (setup : Setup) (plan : Plan) (p : Program) (body : ℕ → Actions) (n
   -- ---- ends of lists, and jumps
 
   -- where it goes on, it agrees
-  led : {f : ℕ} {from : Exit} {facts : Facts} (at' : Point) (env : Env) (w : World) (calls : List Waiting) (ws : List Waiting') (l : Leads_to setup plan p body n widest functions answered f from facts at') → w.top ≡ w.frame + plan.frame f → w.depth ≡ length ws + 1 → AreCalls setup plan p body n widest functions answered f calls ws → Hold facts env
+  led : {f : ℕ} {from : Exit} {facts : Facts} (at' : Point) (env : Env) (w : World) (calls : List HeldCall) (ws : List Waiting') (l : Leads_to setup plan p body n widest functions answered f from facts at') → w.top ≡ w.frame + plan.frame f → w.depth ≡ length ws + 1 → AreCalls setup plan p body n widest functions answered f calls ws → Hold facts env
       → (q : Processor) → On f from (moment setup plan p body n widest functions answered f env w.frame ws) q → To 0 2 q [] (A (spot at' env w calls))
   led {f} at' env w calls ws l top depth ac held q h =
       just_comes setup plan.by_a (l.walks (moment setup plan p body n widest functions answered f env w.frame ws) q h) (λ r g.
       agrees_at setup plan p body n widest functions answered at'.code at'.behind env w.frame w.top w.depth calls r (record { function = f; waiting = ws; here = l.here; exits' = l.exits'; placed = l.placed; known = l.known; out = l.out; facts = l.entails env held; stands = g; top = top; depth = depth; calls = ac })) (omega arith)
 
-  behind_moved : (q : Processor) {k : Actions} {b : Behind} {env : Env} {calls : List Waiting} (w : World) → S (spot (point Done (After k b)) env w calls) q → To 0 2 q [] (A (spot (point k b) env w calls))
+  behind_moved : (q : Processor) {k : Actions} {b : Behind} {env : Env} {calls : List HeldCall} (w : World) → S (spot (point Done (After k b)) env w calls) q → To 0 2 q [] (A (spot (point k b) env w calls))
   behind_moved q {k} {b} {env} {calls} w h =
       let M : Moment = moment setup plan p body n widest functions answered h.function env w.frame h.waiting in
       let x : Exits = h.exits' in
@@ -315,7 +315,7 @@ module _ (setup : Setup) (plan : Plan) (p : Program) (body : ℕ → Actions) (n
       just_comes setup plan.by_a (h.placed.done.does M q h.stands) (λ r c.
       agrees_at setup plan p body n widest functions answered k b env w.frame w.top w.depth calls r (record { function = h.function; waiting = h.waiting; here = g.0; exits' = g.1; placed = record { done = g.6; next = g.7; fits = fits.0; fits_next = fits.1; tight = h.placed.tight.1; closed = h.placed.closed }; known = g.3; out = g.4; facts = subst (λ (o : Outs). Hold o.next env) g.5 (h.placed.done.goes env h.facts); stands = subst (λ (e : Exits). On h.function e.next M r) g.2 c; top = h.top; depth = h.depth; calls = h.calls })) (omega arith)
 
-  body_moved : (q : Processor) {x y k : Actions} {b : Behind} {env : Env} {calls : List Waiting} (w : World) → S (spot (point Done (Body x y k b)) env w calls) q → To 0 2 q [] (A (spot (point y (Turn x y k b)) env w calls))
+  body_moved : (q : Processor) {x y k : Actions} {b : Behind} {env : Env} {calls : List HeldCall} (w : World) → S (spot (point Done (Body x y k b)) env w calls) q → To 0 2 q [] (A (spot (point y (Turn x y k b)) env w calls))
   body_moved q {x} {y} {k} {b} {env} {calls} w h =
       let M : Moment = moment setup plan p body n widest functions answered h.function env w.frame h.waiting in
       let g = h.placed.next in
@@ -337,7 +337,7 @@ module _ (setup : Setup) (plan : Plan) (p : Program) (body : ℕ → Actions) (n
   back_walks f true end begin M r Q back h to = just_comes setup plan.by_a (back M r h) to (omega arith)
   back_walks f false end begin M r Q back h to = (let a = back M r h in acts_walks setup plan.by_a {k = 1} a.1 (λ o c. just_comes setup plan.by_a c to (omega arith)) (omega arith))
 
-  step_moved : (q : Processor) {x y k : Actions} {b : Behind} {env : Env} {calls : List Waiting} (w : World) → S (spot (point Done (Turn x y k b)) env w calls) q → To (turn_least x) 4 q [] (A (spot (point x (Body x y k b)) env w calls))
+  step_moved : (q : Processor) {x y k : Actions} {b : Behind} {env : Env} {calls : List HeldCall} (w : World) → S (spot (point Done (Turn x y k b)) env w calls) q → To (turn_least x) 4 q [] (A (spot (point x (Body x y k b)) env w calls))
   step_moved q {x} {y} {k} {b} {env} {calls} w h =
       let M : Moment = moment setup plan p body n widest functions answered h.function env w.frame h.waiting in
       let g = h.placed.next in
@@ -361,13 +361,13 @@ module _ (setup : Setup) (plan : Plan) (p : Program) (body : ℕ → Actions) (n
         calls = h.calls;
       }))) (omega arith))
 
-  break_moved : (q : Processor) {m : Mark} {k : Actions} {b : Behind} {env : Env} {calls : List Waiting} (w : World) → S (spot (point (Do m Break k) b) env w calls) q → To 0 4 q [] (A (spot (left b) env w calls))
+  break_moved : (q : Processor) {m : Mark} {k : Actions} {b : Behind} {env : Env} {calls : List HeldCall} (w : World) → S (spot (point (Do m Break k) b) env w calls) q → To 0 4 q [] (A (spot (left b) env w calls))
   break_moved q {m} {k} {b} {env} {calls} w h =
       let M : Moment = moment setup plan p body n widest functions answered h.function env w.frame h.waiting in
       let l = left_leads setup plan p body n widest functions answered h.function b h.exits' h.out (Do m Break k) (Do m Break k) (λ u. u) h.placed.tight h.placed.closed h.placed.next h.placed.fits_next in
       comes_walks setup plan.by_a {k = 2} (h.placed.done.does.1 M q h.stands) (λ r c. led (left b) env w calls h.waiting l h.top h.depth h.calls (h.placed.done.goes env h.facts) r c) (omega arith)
 
-  continue_moved : (q : Processor) {m : Mark} {k : Actions} {b : Behind} {env : Env} {calls : List Waiting} (w : World) → S (spot (point (Do m Continue k) b) env w calls) q → To 1 4 q [] (A (spot (skipped b) env w calls))
+  continue_moved : (q : Processor) {m : Mark} {k : Actions} {b : Behind} {env : Env} {calls : List HeldCall} (w : World) → S (spot (point (Do m Continue k) b) env w calls) q → To 1 4 q [] (A (spot (skipped b) env w calls))
   continue_moved q {m} {k} {b} {env} {calls} w h =
       let M : Moment = moment setup plan p body n widest functions answered h.function env w.frame h.waiting in
       let l = skipped_leads setup plan p body n widest functions answered h.function b h.exits' h.out (Do m Continue k) (Do m Continue k) (λ u. u) h.placed.tight h.placed.closed h.placed.next h.placed.fits_next in
@@ -376,7 +376,7 @@ module _ (setup : Setup) (plan : Plan) (p : Program) (body : ℕ → Actions) (n
 
   -- ---- actions
 
-  acted : (q : Processor) {m : Mark} (x : Action) {k : Actions} {b : Behind} {env : Env} {calls : List Waiting} {uses : List Use} {o : Outcome} (w : World) → IsDone → length w.memory ≡ setup.memory → Follows (deed p plan.by_a x w env) uses o → AllByRecursion (IsFitUse setup.memory) uses
+  acted : (q : Processor) {m : Mark} (x : Action) {k : Actions} {b : Behind} {env : Env} {calls : List HeldCall} {uses : List Use} {o : DeedOutcome} (w : World) → IsDone → length w.memory ≡ setup.memory → Follows (deed p plan.by_a x w env) uses o → AllByRecursion (IsFitUse setup.memory) uses
       → (h : S (spot (point (Do m x k) b) env w calls) q)
       → ((M : Moment) (w : World) (r : Processor) → On h.function h.here M r → IsWorldOf plan M w → Hold h.known M.env → Does (s setup plan p body n widest functions answered) n (deed p plan.by_a x w M.env) (λ e. On h.function h.placed.done.does.0 (with_env e M)) r)
       → (FactsGo plan.memory h.known (Do m x k) h.out → FactsGo plan.memory (facts_behind plan.memory x h.known) k h.out)
@@ -390,7 +390,7 @@ module _ (setup : Setup) (plan : Plan) (p : Program) (body : ℕ → Actions) (n
       let r = does_walks setup plan.by_a n to (deed p plan.by_a x w env) q (done M w q h.stands world h.facts) follows fit in
       record { after = r.after; steps = r.steps; walks = r.walks; holds = by o r.after ways r.holds (follows_only (Hold (facts_behind plan.memory x h.known)) follows (deed_facts p plan.by_a x w env h.known plan.memory world.memory h.facts)); some = omega arith; few = r.few; words = r.words }
     where
-      by : (o : Outcome) (r : Processor) → (is_leaving o ≡ true → (IsTight (Do m x k) → IsTight k) × (IsClosed (Do m x k) → IsClosed k)) → Ended setup plan.by_a o (λ e. On h.function h.placed.done.does.0 (with_env e (moment setup plan p body n widest functions answered h.function env w.frame h.waiting))) r
+      by : (o : DeedOutcome) (r : Processor) → (is_leaving o ≡ true → (IsTight (Do m x k) → IsTight k) × (IsClosed (Do m x k) → IsClosed k)) → Ended setup plan.by_a o (λ e. On h.function h.placed.done.does.0 (with_env e (moment setup plan p body n widest functions answered h.function env w.frame h.waiting))) r
           → ((e : Env) → o ≡ Leaves e → Hold (facts_behind plan.memory x h.known) e)
           → Agrees A (came o (λ (e : Env). spot (point k b) e w calls)) r
       by (Leaves e) r f g only =
@@ -413,11 +413,11 @@ module _ (setup : Setup) (plan : Plan) (p : Program) (body : ℕ → Actions) (n
 
   -- ---- all moves
 
-  walked : {least most : ℕ} {q : Processor} {uses : List Use} {c : Came} (big : ℕ) → most ≤ big → To least most q uses (Agrees A c) → Walked setup plan.by_a A least big q uses c
+  walked : {least most : ℕ} {q : Processor} {uses : List Use} {c : Came} (big : ℕ) → most ≤ big → To least most q uses (Agrees A c) → SideWalked setup plan.by_a A least big q uses c
   walked big l r = let few = r.few in record { after = r.after; steps = r.steps; walks = r.walks; agrees = r.holds; some = r.some; few = omega arith; words = r.words }
 
   module _ (most : ℕ) (wide : n ≤ most) (call : widest ≤ 4 * most) (argument : 6 ≤ most) (d : IsDone) where
-    pub moved : {k : ℕ} {at' : Spot} {uses : List Use} {c : Came} (q : Processor) → A at' q → Moves p plan.by_a setup.memory body k at' uses c → AllByRecursion (IsFitUse setup.memory) uses → Walked setup plan.by_a A k (most * weight at') q uses c
+    pub moved : {k : ℕ} {at' : Spot} {uses : List Use} {c : Came} (q : Processor) → A at' q → Moves p plan.by_a setup.memory body k at' uses c → AllByRecursion (IsFitUse setup.memory) uses → SideWalked setup plan.by_a A k (most * weight at') q uses c
     moved q h (acts {x = Compute v y} w is size follows) fit = walked (most * 1) (omega arith) (acted q (Compute v y) w d size follows fit h h.placed.done.does.1 (λ g. g) (λ e. (λ t. t, λ t. t)))
     moved q h (acts {x = Issue kind y} w is size follows) fit = walked (most * 1) (omega arith) (acted q (Issue kind y) w d size follows fit h h.placed.done.does.1 (λ g. g) (λ e. (λ t. t, λ t. t)))
     moved q h (acts {x = Own v kind y} w is size follows) fit = walked (most * 1) (omega arith) (acted q (Own v kind y) w d size follows fit h h.placed.done.does.1 (λ g. g) (λ e. (λ t. t, λ t. t)))

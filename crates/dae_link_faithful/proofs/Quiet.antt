@@ -8,7 +8,7 @@ use Rattle.dae_base.specs.Words.{minus}
 use Rattle.dae_base.specs.declared.LoadKind.{LoadKind}
 use Rattle.dae_base.specs.declared.LoadKind.TheVariants.{I8, U8, I16, U16, I32}
 use Rattle.dae_encode.specs.Instructions.{effect, form_of}
-use Rattle.dae_encode.specs.declared.Form.TheVariants.{Computes}
+use Rattle.dae_encode.specs.declared.InstructionForm.TheVariants.{Computes}
 use Rattle.dae_encode.specs.declared.Inst.{Inst}
 use Rattle.dae_encode.specs.declared.Inst.TheVariants.{Lui, Addi, Slti, Sltiu, Xori, Ori, Andi, Slli, Srli, Srai, Add, Sub, Slt, Sltu, Jalr}
 use Rattle.dae_ir.specs.Classes.{VariableSet}
@@ -387,13 +387,13 @@ module _ (plan : Plan) (variables : ℕ → ℕ) (good : (f v : ℕ) → IsHome 
 
   deeper_plain : (f g : ℕ) → AllPlain (deeper_code plan f g)
   deeper_plain f g =
-      plain_append (more_code 3 (plan.frame f % 2 ^ 32)) (if plan.bare g then [] else more_code 2 (4 * plan.words f)) (more_plain 3 (plan.frame f % 2 ^ 32) (omega arith))
-      (plain_either (plan.bare g) [] (more_code 2 (4 * plan.words f)) tt (more_plain 2 (4 * plan.words f) (omega arith)))
+      plain_append (more_code 3 (plan.frame f % 2 ^ 32)) (if plan.frameless g then [] else more_code 2 (4 * plan.words f)) (more_plain 3 (plan.frame f % 2 ^ 32) (omega arith))
+      (plain_either (plan.frameless g) [] (more_code 2 (4 * plan.words f)) tt (more_plain 2 (4 * plan.words f) (omega arith)))
 
   back_plain : (f g : ℕ) → AllPlain (back_code plan f g)
   back_plain f g =
-      plain_append (less_code 3 (plan.frame f % 2 ^ 32)) (if plan.bare g then [] else less_code 2 (4 * plan.words f)) (less_plain 3 (plan.frame f % 2 ^ 32) (omega arith))
-      (plain_either (plan.bare g) [] (less_code 2 (4 * plan.words f)) tt (less_plain 2 (4 * plan.words f) (omega arith)))
+      plain_append (less_code 3 (plan.frame f % 2 ^ 32)) (if plan.frameless g then [] else less_code 2 (4 * plan.words f)) (less_plain 3 (plan.frame f % 2 ^ 32) (omega arith))
+      (plain_either (plan.frameless g) [] (less_code 2 (4 * plan.words f)) tt (less_plain 2 (4 * plan.words f) (omega arith)))
 
   pub call_plain : (f : ℕ) (v : Option ℕ) (g : ℕ) (xs : List Argument) (live : VariableSet) → AllPlain (call_code plan variables f v g xs live)
   call_plain f v g xs live =

@@ -12,7 +12,7 @@ use Rattle.dae_base.specs.declared.LoadKind.{LoadKind}
 use Rattle.dae_base.specs.declared.LoadKind.TheVariants.{I8, U8, I16, U16, I32}
 use Rattle.dae_base.proofs.Laws.{and_true}
 use Rattle.dae_encode.specs.Instructions.{effect, form_of}
-use Rattle.dae_encode.specs.declared.Form.TheVariants.{Computes, Loads, Stores}
+use Rattle.dae_encode.specs.declared.InstructionForm.TheVariants.{Computes, Loads, Stores}
 use Rattle.dae_encode.specs.declared.Inst.{Inst}
 use Rattle.dae_encode.specs.declared.Inst.TheVariants.{Addi, Add, Sub, Slt, Sltu, Slti, Sltiu, Xori, Slli, Srli, Srai, Andi, Beq, Bne, Bltu, Bgeu, Ecall}
 use Rattle.dae_ir.specs.Code.{Done, Do, If, Loop}
@@ -40,9 +40,9 @@ use Rattle.dae_meaning.specs.declared.Comparison.TheVariants.{Equal, NotEqual, L
 use Rattle.dae_select_walks.specs.declared.Home.{Home}
 use Rattle.dae_select_walks.specs.declared.Home.TheVariants.{Register}
 use Rattle.dae_select_walks.specs.Homes.{IsHome}
-use Rattle.dae_select_walks.specs.declared.Standing.{Standing}
-use Rattle.dae_select_walks.specs.declared.Standing.TheVariants.{Settled, Early, Late}
-use Rattle.dae_select_walks.specs.Live.{Ways, none, in_operand, live, behind, body_ways, step_ways, nowhere}
+use Rattle.dae_select_walks.specs.declared.VariableStanding.{VariableStanding}
+use Rattle.dae_select_walks.specs.declared.VariableStanding.TheVariants.{Settled, Early, Late}
+use Rattle.dae_select_walks.specs.Live.{LiveWays, none, in_operand, live, behind, body_ways, step_ways, nowhere}
 use Rattle.dae_select_walks.specs.Facts.{Facts, unknown, only_leaves, operand_bounds, is_aligned, is_good, tells_within, facts_behind, facts_in_first, facts_in_second, facts_past_if, facts_at_turn, facts_at_step, facts_past_loop, need_of}
 use Rattle.dae_select_walks.specs.declared.Need.TheVariants.{All, Ends, Nothing}
 use Rattle.dae_select_walks.specs.Agrees.{Plan, counted_depth}
@@ -522,10 +522,10 @@ module _ (plan : Plan) (variables : ℕ → ℕ) (good : (f v : ℕ) → IsHome 
         by false e = those_uses short known a k live leaves skips is
 
     -- the block of an action, where things stand so before it and so behind it
-    block_uses : (short : Bool) (known : Facts) (standing : Standing) (m : Mark) (x : Ways) (leaves skips : ℕ) (a : Action) (k : Actions) → Suits standing (Do m a k) x → IsOfSide by_a' a →
+    block_uses : (short : Bool) (known : Facts) (standing : VariableStanding) (m : Mark) (x : LiveWays) (leaves skips : ℕ) (a : Action) (k : Actions) → Suits standing (Do m a k) x → IsOfSide by_a' a →
         UsesBefore by_a' (tells_within 24 k) (action_queue by_a' a) (block_code plan variables f (need_of plan.memory known a k) standing a (standing_behind a k x) (live k x) (jump_over short leaves) (jump_over short skips))
     block_uses short known Settled m x leaves skips a k suits is =
-        by_pairs (λ (a : Action) (k : Actions) (standing : Standing). IsOfSide by_a' a → UsesBefore by_a' (tells_within 24 k) (action_queue by_a' a) (block_code plan variables f (need_of plan.memory known a k) Settled a standing (live k x) (jump_over short leaves) (jump_over short skips))) x
+        by_pairs (λ (a : Action) (k : Actions) (standing : VariableStanding). IsOfSide by_a' a → UsesBefore by_a' (tells_within 24 k) (action_queue by_a' a) (block_code plan variables f (need_of plan.memory known a k) Settled a standing (live k x) (jump_over short leaves) (jump_over short skips))) x
         (λ a k is. alone_uses short known a k (live k x) leaves skips is)
         (λ t y n b k e passes dead is. before_any (no_queue by_a' [] tt))
         (λ v n d y k e once dead is. before_any (early_uses (Some Ld) 30 (λ i t r form a b. on_e i (Some Ld) is (takes_load_left i t r form a b)) (λ i t r form a b. on_e i (Some Ld) is (takes_load_right i t r form a b)) v d y once))
@@ -650,7 +650,7 @@ module _ (plan : Plan) (variables : ℕ → ℕ) (good : (f v : ℕ) → IsHome 
       told_touches (suc n) (If m b p r k) e free same = absurd cc
       told_touches (suc n) (Loop m body step k) e free same = absurd cc
 
-      code_both : (short : Bool) (standing : Standing) (known : Facts) (code : Actions) (x : Ways) (leaves skips : ℕ) → Suits standing code x → AreOfSide by_a' code → Both code (code_of short plan variables f standing known code x leaves skips)
+      code_both : (short : Bool) (standing : VariableStanding) (known : Facts) (code : Actions) (x : LiveWays) (leaves skips : ℕ) → Suits standing code x → AreOfSide by_a' code → Both code (code_of short plan variables f standing known code x leaves skips)
       code_both short standing known Done x leaves skips suits is = ((λ h. tt), (λ h. tt))
       code_both short standing known (Do m a k) x leaves skips suits is =
           let standing' = standing_behind a k x in

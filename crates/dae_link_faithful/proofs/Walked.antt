@@ -13,10 +13,10 @@ use Rattle.dae_meaning.specs.Operations.{misplaced}
 use Rattle.dae_ir.specs.Programs.{side}
 use Rattle.dae_ir.specs.Deeds.{Quit, Plainly, WithStatus, WithTrap, Deed, Went, Take, Push, Reserve, Send, Say, Halts}
 use Rattle.dae_machine.specs.Uses.{Use, Takes, Pushes, Reserves, Sends, Says, access_of, said_by, given_by, Puts, PushesWord}
-use Rattle.dae_machine_rounds.specs.Follows.{IsFit, Outcome, Leaves, Quits, Follows, went, takes, pushes, reserves, sends, says, halts}
+use Rattle.dae_machine_rounds.specs.Follows.{IsFit, DeedOutcome, Leaves, Quits, Follows, went, takes, pushes, reserves, sends, says, halts}
 use Rattle.dae_machine.specs.Walks.{Goes, Walks, stays, quiet, makes}
 use Rattle.dae_machine_rounds.specs.Sides.{halt_of}
-use Rattle.dae_select_walks.specs.Walks.{Setting, Happens, Quietly, Stays, Moves, quiet_event, Comes, Nears, Acts}
+use Rattle.dae_select_walks.specs.Walks.{WalkSetting, Happens, Quietly, Stays, Moves, quiet_event, Comes, Nears, Acts}
 use Rattle.dae_link_faithful.specs.Made.{setting_of}
 use Rattle.dae_select_walks.specs.Does.{Does, event, halt_of as halt_of'}
 
@@ -39,7 +39,7 @@ same_halt (WithStatus n) = refl
 same_halt (WithTrap n) = refl
 
 module _ (setup : Setup) (by_a : Bool) where
-  abbrev pub s : Setting
+  abbrev pub s : WalkSetting
   s = setting_of setup by_a
 
   -- a walk with so many instructions at most, whose uses push words
@@ -97,7 +97,7 @@ module _ (setup : Setup) (by_a : Bool) where
       let r = f a.next a.holds in let few = r.few in
       record { after = r.after; steps = suc r.steps; walks = quiet (quietly {put = put} a.goes) r.walks; holds = r.holds; some = omega arith; few = omega arith; words = r.words }
 
-  abbrev pub Ended : Outcome → (Env → Processor → Type 0) → Processor → Type 0
+  abbrev pub Ended : DeedOutcome → (Env → Processor → Type 0) → Processor → Type 0
   Ended (Leaves env) to p = to env p
   Ended (Quits quit) to p = p.halt ≡ Some (halt_of quit)
 
@@ -107,7 +107,7 @@ module _ (setup : Setup) (by_a : Bool) where
       record { after = r.after; steps = c.steps + r.steps; walks = quiet_first c.quiet r.walks; holds = r.holds; some = omega arith; few = omega arith; words = r.words }
 
   -- a deed with the uses that follow it
-  pub does_walks : {uses : List Use} {o : Outcome} (n : ℕ) (to : Env → Processor → Type 0) (d : Deed) (p : Processor) → Does s n d to p → Follows d uses o → AllByRecursion (IsFit setup.memory) uses → Walks_to 0 n p uses (Ended o to)
+  pub does_walks : {uses : List Use} {o : DeedOutcome} (n : ℕ) (to : Env → Processor → Type 0) (d : Deed) (p : Processor) → Does s n d to p → Follows d uses o → AllByRecursion (IsFit setup.memory) uses → Walks_to 0 n p uses (Ended o to)
   does_walks n to (Went env) p c went fit = just_comes c (λ q h. h) (omega arith)
   does_walks n to (Take queue go) p c (takes x follows) fit =
       nears_walks c (λ l q h. let a = h x fit.0 in use_walks {k = l} (Takes queue x) a.0 tt tt a.1 (λ r g. does_walks l to (go x) r g follows fit.1) (omega arith)) (omega arith)

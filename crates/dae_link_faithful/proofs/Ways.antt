@@ -6,7 +6,7 @@ use Rattle.dae_ir.specs.Code.{Done, Do, If, Loop}
 use Rattle.dae_meaning.specs.Variables.{Env}
 use Rattle.dae_ir.specs.Form.{Program}
 use Rattle.dae_ir.specs.Streams.{Actions}
-use Rattle.dae_machine_rounds.specs.Spots.{Behind, Ends, After, Body, Turn, Point, point, left, skipped, Spot, Waiting}
+use Rattle.dae_machine_rounds.specs.Spots.{Behind, Ends, After, Body, Turn, Point, point, left, skipped, Spot, HeldCall}
 use Rattle.dae_select_walks.specs.Walks.{Comes}
 use Rattle.dae_select_walks.specs.Facts.{Facts, Hold, Outs, outs, Entails}
 use Rattle.dae_select_walks.specs.Agrees.{Plan, Moment}
@@ -41,7 +41,7 @@ module _ (setup : Setup) (plan : Plan) (p : Program) (body : ℕ → Actions) (m
   At_spot at' q = At setup plan p body most widest functions answered at' q
 
   -- where it stands in a function that ends with a return, it agrees
-  pub agrees_at : (code : Actions) (b : Behind) (env : Env) (frame top depth : ℕ) (calls : List Waiting) (q : Processor) → Stands_at (record { point = point code b; env = env; frame = frame; top = top; depth = depth; calls = calls }) q → At_spot (record { point = point code b; env = env; frame = frame; top = top; depth = depth; calls = calls }) q
+  pub agrees_at : (code : Actions) (b : Behind) (env : Env) (frame top depth : ℕ) (calls : List HeldCall) (q : Processor) → Stands_at (record { point = point code b; env = env; frame = frame; top = top; depth = depth; calls = calls }) q → At_spot (record { point = point code b; env = env; frame = frame; top = top; depth = depth; calls = calls }) q
   agrees_at Done Ends env frame top depth calls q h = absurd h.placed.closed
   agrees_at Done (After k b) env frame top depth calls q h = h
   agrees_at Done (Body x y k b) env frame top depth calls q h = h

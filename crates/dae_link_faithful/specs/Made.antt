@@ -26,12 +26,12 @@ use Rattle.dae_machine_rounds.specs.Promises.{DoesForm}
 use Rattle.dae_ir.specs.declared.stream.Action.{Action}
 use Rattle.dae_ir.specs.declared.stream.Action.TheVariants.{Break, Continue, Call, Return, Stop}
 use Rattle.dae_ir.specs.declared.stream.Branch.{Branch}
-use Rattle.dae_select_walks.specs.Walks.{Setting}
+use Rattle.dae_select_walks.specs.Walks.{WalkSetting}
 use Rattle.dae_select_walks.specs.Layout.{CodeAt}
 use Rattle.dae_select_walks.specs.Live.{lives, nowhere}
 use Rattle.dae_select_walks.specs.Facts.{unknown}
 use Rattle.dae_select_walks.specs.Agrees.{Plan}
-use Rattle.dae_select_walks.specs.declared.Standing.TheVariants.{Settled}
+use Rattle.dae_select_walks.specs.declared.VariableStanding.TheVariants.{Settled}
 use Rattle.dae_select_blocks.specs.Code.{code_of, start_code}
 use Rattle.dae_select_blocks.specs.Sizes.{calls_in, is_short}
 use Rattle.dae_select_blocks.specs.Fits.{Fits}
@@ -75,19 +75,19 @@ pub record AreWhole (functions : ℕ) (answered : ℕ → Bool) (body : ℕ → 
 
 -- ---- the code of one side
 
-abbrev pub setting_of : Setup → Bool → Setting
+abbrev pub setting_of : Setup → Bool → WalkSetting
 setting_of setup by_a = record { side = side by_a; copies = setup.copies; code = code setup (side by_a); memory = setup.memory }
 
 -- the code of a function stands where it starts, and what is live at each of its places are its variables, in homes apart. A leaf
 -- makes no call
-pub record HasCode (s : Setting) (plan : Plan) (variables : ℕ → ℕ) (f : ℕ) (code : Actions) : Type 0 where
+pub record HasCode (s : WalkSetting) (plan : Plan) (variables : ℕ → ℕ) (f : ℕ) (code : Actions) : Type 0 where
   pub right : AllByRecursion (IsRight (plan.home f) (variables f)) (lives code nowhere)
   pub leaf : plan.leaf f ≡ true → calls_in code ≡ 0
   pub there : CodeAt s.code (plan.start f) (code_of (is_short code) plan variables f Settled unknown code nowhere 0 0)
   pub small : plan.start f + length (code_of (is_short code) plan variables f Settled unknown code nowhere 0 0) < 2 ^ 29
 
 -- the code that begins stands at word 0, and there is room for the deepest calls
-pub record HasStart (s : Setting) (plan : Plan) (main frames : ℕ) : Type 0 where
+pub record HasStart (s : WalkSetting) (plan : Plan) (main frames : ℕ) : Type 0 where
   pub first : frames ≤ plan.memory
   pub deep : 1 ≤ plan.limit
   pub room : plan.limit * plan.largest ≤ plan.private

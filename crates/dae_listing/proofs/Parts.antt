@@ -3,7 +3,7 @@ use Rattle.std.proofs.Common.{◌≡◌, ◌==◌, false, ℕ, ◌≤◌, ◌<�
 use Rattle.std.specs.List.{flat_map}
 use Rattle.std.proofs.lemmas.List.{append-nil}
 use Rattle.std.proofs.lemmas.List.Concat.{flat_map-append}
-use Rattle.dae_image.specs.Contents.{Contents}
+use Rattle.dae_image.specs.Contents.{ImageContents}
 use Rattle.dae_listing.specs.Canon.{ended, row, word_text, head_rows, content_rows, mark_row, rows, canon}
 
 mapped : {X : Type 0} (f : X → List ℕ) (xs : List X) → flat_map ended (map f xs) ≡ flat_map (λ x. ended (f x)) xs
@@ -16,44 +16,44 @@ then_more xs ys x y e f = flat_map-append ended xs ys ∙ ap (λ (l : List ℕ).
 section : (first : List ℕ) (xs ys : List (List ℕ)) (x y : List ℕ) → flat_map ended xs ≡ x → flat_map ended ys ≡ y → flat_map ended (first ∷ (xs ++ ys)) ≡ (ended first ++ x) ++ y
 section first xs ys x y e f = ap (λ (l : List ℕ). ended first ++ l) (then_more xs ys x y e f) ∙ sym (append_assoc (ended first) x y)
 
-abbrev marks_and_names : Contents → List (List ℕ)
+abbrev marks_and_names : ImageContents → List (List ℕ)
 marks_and_names c = map mark_row c.lines ++ map (row (codes ".name")) c.names
 
-abbrev data_rows : Contents → List (List ℕ)
+abbrev data_rows : ImageContents → List (List ℕ)
 data_rows c = codes ".data" ∷ (content_rows c.content ++ marks_and_names c)
 
-abbrev code_e_rows : Contents → List (List ℕ)
+abbrev code_e_rows : ImageContents → List (List ℕ)
 code_e_rows c = codes ".e" ∷ (map word_text c.code_e ++ data_rows c)
 
-abbrev code_a_rows : Contents → List (List ℕ)
+abbrev code_a_rows : ImageContents → List (List ℕ)
 code_a_rows c = codes ".a" ∷ (map word_text c.code_a ++ code_e_rows c)
 
-abbrev tail_text : Contents → List ℕ
+abbrev tail_text : ImageContents → List ℕ
 tail_text c = flat_map (λ m. ended (mark_row m)) c.lines ++ flat_map (λ n. ended (row (codes ".name") n)) c.names
 
-abbrev data_text : Contents → List ℕ
+abbrev data_text : ImageContents → List ℕ
 data_text c = (ended (codes ".data") ++ flat_map ended (content_rows c.content)) ++ tail_text c
 
-abbrev code_e_text : Contents → List ℕ
+abbrev code_e_text : ImageContents → List ℕ
 code_e_text c = (ended (codes ".e") ++ flat_map (λ w. ended (word_text w)) c.code_e) ++ data_text c
 
-abbrev code_a_text : Contents → List ℕ
+abbrev code_a_text : ImageContents → List ℕ
 code_a_text c = (ended (codes ".a") ++ flat_map (λ w. ended (word_text w)) c.code_a) ++ code_e_text c
 
-tail_is : (c : Contents) → flat_map ended (marks_and_names c) ≡ tail_text c
+tail_is : (c : ImageContents) → flat_map ended (marks_and_names c) ≡ tail_text c
 tail_is c = then_more (map mark_row c.lines) (map (row (codes ".name")) c.names) (flat_map (λ m. ended (mark_row m)) c.lines) (flat_map (λ n. ended (row (codes ".name") n)) c.names) (mapped mark_row c.lines) (mapped (row (codes ".name")) c.names)
 
-data_is : (c : Contents) → flat_map ended (data_rows c) ≡ data_text c
+data_is : (c : ImageContents) → flat_map ended (data_rows c) ≡ data_text c
 data_is c = section (codes ".data") (content_rows c.content) (marks_and_names c) (flat_map ended (content_rows c.content)) (tail_text c) refl (tail_is c)
 
-code_e_is : (c : Contents) → flat_map ended (code_e_rows c) ≡ code_e_text c
+code_e_is : (c : ImageContents) → flat_map ended (code_e_rows c) ≡ code_e_text c
 code_e_is c = section (codes ".e") (map word_text c.code_e) (data_rows c) (flat_map (λ w. ended (word_text w)) c.code_e) (data_text c) (mapped word_text c.code_e) (data_is c)
 
-code_a_is : (c : Contents) → flat_map ended (code_a_rows c) ≡ code_a_text c
+code_a_is : (c : ImageContents) → flat_map ended (code_a_rows c) ≡ code_a_text c
 code_a_is c = section (codes ".a") (map word_text c.code_a) (code_e_rows c) (flat_map (λ w. ended (word_text w)) c.code_a) (code_e_text c) (mapped word_text c.code_a) (code_e_is c)
 
 -- the listing part by part
-parts : (c : Contents) → canon c ≡ flat_map ended (head_rows c) ++ code_a_text c
+parts : (c : ImageContents) → canon c ≡ flat_map ended (head_rows c) ++ code_a_text c
 unfolding canon
 parts c = then_more (head_rows c) (code_a_rows c) (flat_map ended (head_rows c)) (code_a_text c) refl (code_a_is c)
 
@@ -68,7 +68,7 @@ six h a e d m n v0 v1 v2 v3 v4 v5 v6 e0 e1 e2 e3 e4 e5 e6 =
     f6 ∙ simp append_assoc
 
 -- what is put part by part is the listing
-pub whole : (c : Contents) (v0 v1 v2 v3 v4 v5 v6 : List ℕ) → v0 ≡ [] → v1 ≡ v0 ++ flat_map ended (head_rows c) → v2 ≡ v1 ++ (ended (codes ".a") ++ flat_map (λ w. ended (word_text w)) c.code_a) → v3 ≡ v2 ++ (ended (codes ".e") ++ flat_map (λ w. ended (word_text w)) c.code_e) → v4 ≡ v3 ++ (ended (codes ".data") ++ flat_map ended (content_rows c.content)) → v5 ≡ v4 ++ flat_map (λ m. ended (mark_row m)) c.lines → v6 ≡ v5 ++ flat_map (λ n. ended (row (codes ".name") n)) c.names → v6 ≡ canon c
+pub whole : (c : ImageContents) (v0 v1 v2 v3 v4 v5 v6 : List ℕ) → v0 ≡ [] → v1 ≡ v0 ++ flat_map ended (head_rows c) → v2 ≡ v1 ++ (ended (codes ".a") ++ flat_map (λ w. ended (word_text w)) c.code_a) → v3 ≡ v2 ++ (ended (codes ".e") ++ flat_map (λ w. ended (word_text w)) c.code_e) → v4 ≡ v3 ++ (ended (codes ".data") ++ flat_map ended (content_rows c.content)) → v5 ≡ v4 ++ flat_map (λ m. ended (mark_row m)) c.lines → v6 ≡ v5 ++ flat_map (λ n. ended (row (codes ".name") n)) c.names → v6 ≡ canon c
 whole c v0 v1 v2 v3 v4 v5 v6 e0 e1 e2 e3 e4 e5 e6 =
     six (flat_map ended (head_rows c)) (ended (codes ".a") ++ flat_map (λ w. ended (word_text w)) c.code_a) (ended (codes ".e") ++ flat_map (λ w. ended (word_text w)) c.code_e) (ended (codes ".data") ++ flat_map ended (content_rows c.content)) (flat_map (λ m. ended (mark_row m)) c.lines) (flat_map (λ n. ended (row (codes ".name") n)) c.names) v0 v1 v2 v3 v4 v5 v6 e0 e1 e2 e3 e4 e5 e6
     ∙ sym (parts c)

@@ -7,7 +7,7 @@ use Rattle.dae_base.specs.declared.Depths.{Depths}
 use Rattle.dae_encode.specs.declared.Inst.{Inst}
 use Rattle.dae_encode.specs.Spelling.{decode}
 use Rattle.dae_image.specs.declared.LineMark.{LineMark}
-use Rattle.dae_image.specs.Contents.{Contents}
+use Rattle.dae_image.specs.Contents.{ImageContents}
 use Rattle.dae_asm_lines.specs.declared.Operands.{Operands}
 use Rattle.dae_asm_lines.specs.declared.Operands.TheVariants.{Registers, Immediate, Based, Branch, Upper, Jump, Alone}
 use Rattle.dae_asm_lines.specs.Names.{name_of, operands_of}
@@ -48,7 +48,7 @@ word_text w = word_or_instruction w (decode w)
 abbrev pub seven_depths : Depths → List ℕ
 seven_depths d = d.ld ∷ d.al ∷ d.sa ∷ d.sd ∷ d.ab ∷ d.eb ∷ d.cq ∷ []
 
-abbrev pub head_rows : Contents → List (List ℕ)
+abbrev pub head_rows : ImageContents → List (List ℕ)
 head_rows c =
     row (codes ".budget") (seven_depths c.budget) ∷ row (codes ".memory") (c.memory ∷ [])
     ∷ row (codes ".calls") (c.calls ∷ []) ∷ row (codes ".private") (c.private_a ∷ c.private_e ∷ [])
@@ -67,7 +67,7 @@ content_rows bytes = byte_row bytes ∷ []
 abbrev pub mark_row : LineMark → List ℕ
 mark_row m = row (codes ".line " ++ letter m.side) (m.word ∷ m.file ∷ m.line ∷ [])
 
-abbrev pub rows : Contents → List (List ℕ)
+abbrev pub rows : ImageContents → List (List ℕ)
 rows c =
     head_rows c ++ (codes ".a" ∷ (map word_text c.code_a ++ (codes ".e" ∷ (map word_text c.code_e
     ++ (codes ".data" ∷ (content_rows c.content
@@ -77,5 +77,5 @@ rows c =
 abbrev pub ended : List ℕ → List ℕ
 ended line = line ++ 10 ∷ []
 
-unfoldable pub canon : Contents → List ℕ
+unfoldable pub canon : ImageContents → List ℕ
 canon c = flat_map ended (rows c)

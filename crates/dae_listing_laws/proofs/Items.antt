@@ -12,8 +12,8 @@ use Rattle.dae_asm_lines.specs.declared.Operands.{Operands}
 use Rattle.dae_asm_lines.specs.declared.Operands.TheVariants.{Registers, Immediate, Based, Branch, Upper, Jump, Alone}
 use Rattle.dae_asm_lines.specs.Targets.{Given}
 use Rattle.dae_asm_lines.specs.Items as items
-use Rattle.dae_asm_lines.specs.Items.{Item, Says, beginning, letter}
-use Rattle.dae_asm_lines.specs.Tokens.{Token, Word, Number, is_blank, is_sign, token_of, tokens_of}
+use Rattle.dae_asm_lines.specs.Items.{LineItem, Says, beginning, letter}
+use Rattle.dae_asm_lines.specs.Tokens.{LineToken, Word, Number, is_blank, is_sign, token_of, tokens_of}
 use Rattle.dae_listing.specs.Canon.{row, spelled_operands, instruction_text, word_or_instruction}
 use Rattle.dae_listing_laws.proofs.Digits.{is_plain}
 use Rattle.dae_listing_laws.proofs.Words.{IsWord, word_blank}
@@ -31,7 +31,7 @@ record IsDirective (w : List ℕ) : Type 0 where
 -- ---- words and numbers
 
 said : (w ns : List ℕ) → IsDirective w → AreFew ns → tokens_of (row w ns) ≡ Word w ∷ map Number (map (λ n. pos n) ns)
-said w ns d few = row_tokens w ns d.word few ∙ ap (λ (t : Token). t ∷ map Number (map (λ n. pos n) ns)) d.token
+said w ns d few = row_tokens w ns d.word few ∙ ap (λ (t : LineToken). t ∷ map Number (map (λ n. pos n) ns)) d.token
 
 budget : IsDirective (codes ".budget")
 unfolding is_blank is_sign
@@ -132,13 +132,13 @@ mark_reads side w f l h k m =
     let ns : List ℕ = w ∷ f ∷ l ∷ [] in
     record {
       plain = ap (list_all is_plain) (side_row side ns) ∙ plain_join (codes ".line") (32 ∷ row (letter side) ns) refl (row_plain (letter side) ns d.plain (h, (k, (m, tt))));
-      says = ap tokens_of (side_row side ns) ∙ word_blank (codes ".line") (row (letter side) ns) line.word ∙ ap (λ (ts : List Token). Word (codes ".line") ∷ ts) (said (letter side) ns d (h, (k, (m, tt))));
+      says = ap tokens_of (side_row side ns) ∙ word_blank (codes ".line") (row (letter side) ns) line.word ∙ ap (λ (ts : List LineToken). Word (codes ".line") ∷ ts) (said (letter side) ns d (h, (k, (m, tt))));
     }
 
 -- ---- words of code
 
 -- what a listing says of a word, by the instruction that it spells
-abbrev pub item_for : ℕ → Option Inst → Item
+abbrev pub item_for : ℕ → Option Inst → LineItem
 item_for w (Some i) = items.Instruction (like_of i) (given (operands_of i))
 item_for w None = items.Plain (pos w)
 
@@ -158,11 +158,11 @@ instruction_reads i h =
     let n = name_of (like_of i) in
     let os = operands_of i in
     let o = reads_operands n os k.word (are_small i h) in
-    let item : Item = items.Instruction (like_of i) (given os) in
+    let item : LineItem = items.Instruction (like_of i) (given os) in
     let P : List ℕ → Type 0 = λ w. Reads (w ++ spelled_operands os) item in
     subst P (sym k.name) (record {
       plain = plain_join n (spelled_operands os) k.plain o.plain;
-      says = record { rest = o.rest; whole = o.tokens ∙ ap (λ (t : Token). t ∷ o.rest) k.token; known = k.known; alike = alike_given (operands_of (like_of i)) os k.alike; say = o.say };
+      says = record { rest = o.rest; whole = o.tokens ∙ ap (λ (t : LineToken). t ∷ o.rest) k.token; known = k.known; alike = alike_given (operands_of (like_of i)) os k.alike; say = o.say };
     })
 
 pub word_reads : (w : ℕ) (o : Option Inst) → w < 2 ^ 32 → decode w ≡ o → Reads (word_or_instruction w o) (item_for w o)

@@ -6,7 +6,7 @@ use Rattle.std.specs.Str.{IsAscii}
 use Rattle.std.proofs.lemmas.Bool.{and_parts}
 use Rattle.std.proofs.lemmas.Bool.Decides.{nat_tests}
 use Rattle.std.proofs.lemmas.List.{append-nil}
-use Rattle.dae_asm_lines.specs.Items.{Item, Says}
+use Rattle.dae_asm_lines.specs.Items.{LineItem, Says}
 use Rattle.dae_asm_lines.specs.Lines as lines
 use Rattle.dae_asm_lines.specs.Lines.{IsLine}
 use Rattle.dae_asm_lines.specs.Tokens.{before_comment, tokens_of}
@@ -47,11 +47,11 @@ are_ascii (b ∷ bs) h zero = let parts = and_parts (is_plain b) (list_all is_pl
 are_ascii (b ∷ bs) h (suc i) = let parts = and_parts (is_plain b) (list_all is_plain bs) h in are_ascii bs parts.1 i
 
 -- a plain line that says an item
-pub record Reads (line : List ℕ) (item : Item) : Type 0 where
+pub record Reads (line : List ℕ) (item : LineItem) : Type 0 where
   pub plain : list_all is_plain line ≡ true
   pub says : Says (tokens_of line) item
 
-pub is_line : (line : List ℕ) (item : Item) → Reads line item → IsLine line (Some item)
+pub is_line : (line : List ℕ) (item : LineItem) → Reads line item → IsLine line (Some item)
 is_line line item h = lines.says item (are_ascii line h.plain) (subst (λ (l : List ℕ). Says (tokens_of l) item) (sym (no_comment line h.plain)) h.says)
 
 -- ---- texts

@@ -5,7 +5,7 @@ use Rattle.std.specs.List.{AllByRecursion}
 use Rattle.std.proofs.lemmas.List.{append-nil}
 use Rattle.std.proofs.lemmas.List.Elements.{recursion_from_All}
 use Rattle.dae_image.specs.declared.Image.{Image}
-use Rattle.dae_image.specs.Contents.{Contents, header}
+use Rattle.dae_image.specs.Contents.{ImageContents, header}
 use Rattle.dae_image.specs.Images.{contents}
 use Rattle.dae_asm_lines.specs.Targets.{Given}
 use Rattle.dae_asm_lines.specs.Items as items
@@ -22,19 +22,19 @@ use Rattle.dae_listing_laws.proofs.Sheet.{number_from, ArePlain, plain_join, cod
 
 -- the lines of a listing where its parts begin
 
-abbrev line_e : Contents → ℕ
+abbrev line_e : ImageContents → ℕ
 line_e c = 7 + length (map word_text c.code_a)
 
-abbrev line_data : Contents → ℕ
+abbrev line_data : ImageContents → ℕ
 line_data c = suc (line_e c) + length (map word_text c.code_e)
 
-abbrev line_marks : Contents → ℕ
+abbrev line_marks : ImageContents → ℕ
 line_marks c = suc (line_data c) + length (content_rows c.content)
 
-abbrev line_names : Contents → ℕ
+abbrev line_names : ImageContents → ℕ
 line_names c = line_marks c + length (map mark_row c.lines)
 
-abbrev sheet_of : Contents → List NumberRow → Sheet
+abbrev sheet_of : ImageContents → List NumberRow → Sheet
 sheet_of c chunks = record {
   budget = (1, map (λ n. pos n) (seven_depths c.budget));
   memory = (2, pos c.memory);
@@ -52,7 +52,7 @@ sheet_of c chunks = record {
 }
 
 -- what the numbers of an image keep to
-pub record Few (c : Contents) : Type 0 where
+pub record Few (c : ImageContents) : Type 0 where
   pub budget : AreFew (seven_depths c.budget)
   pub memory : c.memory < 2 ^ 32
   pub calls : c.calls < 2 ^ 32
@@ -89,7 +89,7 @@ few_of i =
       names = names_few i.names fits.names;
     }
 
-items_are : (c : Contents) (few : Few c) (ch : Chunks (suc (line_data c)) c.content (content_rows c.content)) → AreItems 1 (rows c) (rows_of (sheet_of c ch.chunks))
+items_are : (c : ImageContents) (few : Few c) (ch : Chunks (suc (line_data c)) c.content (content_rows c.content)) → AreItems 1 (rows c) (rows_of (sheet_of c ch.chunks))
 items_are c few ch =
     says (line_is _ _ (budget_reads (seven_depths c.budget) refl few.budget))
     (says (line_is _ _ (memory_reads c.memory few.memory))
@@ -105,7 +105,7 @@ items_are c few ch =
     (items_join (line_marks c) (map mark_row c.lines) _ (map (λ m. (m.0, items.Mark m.1 m.2 m.3 m.4)) (marks_from (line_marks c) c.lines)) _ (marks_items (line_marks c) c.lines few.marks)
     (names_items (line_names c) c.names few.names))))))))))))
 
-rows_plain : (c : Contents) (few : Few c) (ch : Chunks (suc (line_data c)) c.content (content_rows c.content)) → ArePlain (rows c)
+rows_plain : (c : ImageContents) (few : Few c) (ch : Chunks (suc (line_data c)) c.content (content_rows c.content)) → ArePlain (rows c)
 rows_plain c few ch =
     let budget = budget_reads (seven_depths c.budget) refl few.budget in
     let memory = memory_reads c.memory few.memory in
@@ -138,7 +138,7 @@ rows_plain c few ch =
       ),
     )
 
-labels_are : (c : Contents) (chunks : List NumberRow) → HasLabels (sheet_of c chunks)
+labels_are : (c : ImageContents) (chunks : List NumberRow) → HasLabels (sheet_of c chunks)
 labels_are c chunks =
     let s = sheet_of c chunks in
     let second : first_false (label_tests (labels_e s) s.code_e) ≡ None = ap first_false (sym (append-nil (label_tests (labels_e s) s.code_e))) ∙ all_pass (labels_e s) (suc (line_e c)) c.code_e [] refl in

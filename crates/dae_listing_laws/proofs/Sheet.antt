@@ -11,7 +11,7 @@ use Rattle.dae_encode.specs.declared.Inst.{Inst}
 use Rattle.dae_encode.specs.Spelling.{decode}
 use Rattle.dae_encode.proofs.Laws.{encoded_decode}
 use Rattle.dae_image.specs.declared.LineMark.{LineMark}
-use Rattle.dae_image.specs.declared.header.Header.{Header}
+use Rattle.dae_image.specs.declared.header.ImageHeader.{ImageHeader}
 use Rattle.dae_image.specs.Contents.{code_length, follows, is_line, are_lines, is_name}
 use Rattle.dae_image.specs.Ranges.{is_in, name_range}
 use Rattle.std.specs.Str.{is_utf8}
@@ -19,7 +19,7 @@ use Rattle.dae_asm_lines.specs.declared.Operands.{Operands}
 use Rattle.dae_asm_lines.specs.declared.Operands.TheVariants.{Registers, Immediate, Based, Branch, Upper, Jump, Alone}
 use Rattle.dae_asm_lines.specs.Names.{operands_of}
 use Rattle.dae_asm_lines.specs.Items as items
-use Rattle.dae_asm_lines.specs.Items.{Item}
+use Rattle.dae_asm_lines.specs.Items.{LineItem}
 use Rattle.dae_asm_order.specs.Sheets.{Row, AreItems, none, says, is_code}
 use Rattle.dae_asm_labels.specs.Labels.{Look, operands_known, label_tests, first_false}
 use Rattle.dae_asm_values.specs.Values.{AreOperands}
@@ -48,7 +48,7 @@ plain_join (x ∷ xs) ys h k = (h.0, plain_join xs ys h.1 k)
 
 -- ---- codes
 
-abbrev pub code_item : ℕ → Item
+abbrev pub code_item : ℕ → LineItem
 code_item w = item_for w (decode w)
 
 word_is : (w : ℕ) → w < 2 ^ 32 → Reads (word_text w) (code_item w)
@@ -173,11 +173,11 @@ marks_said n (m ∷ ms) = ap (λ (ps : List (Side × ℤ × ℤ × ℤ)). mark_p
 below : (n m : ℕ) → nat_lt n m ≡ true → m ≤ 33554432 → n < 2 ^ 32
 below n m t h = let l : n < m = grind (arith, nat_tests) in omega arith
 
-side_few : (h : Header) (side : Side) → h.words_a ≤ 33554432 → h.words_e ≤ 33554432 → code_length h side ≤ 33554432
+side_few : (h : ImageHeader) (side : Side) → h.words_a ≤ 33554432 → h.words_e ≤ 33554432 → code_length h side ≤ 33554432
 side_few h A a e = a
 side_few h E a e = e
 
-pub marks_few : (h : Header) (last : Option LineMark) (ms : List LineMark) → h.words_a ≤ 33554432 → h.words_e ≤ 33554432 → h.names ≤ 33554432 → are_lines h last ms ≡ true → AllByRecursion (λ m. m.line < 2 ^ 32) ms → MarksFew ms
+pub marks_few : (h : ImageHeader) (last : Option LineMark) (ms : List LineMark) → h.words_a ≤ 33554432 → h.words_e ≤ 33554432 → h.names ≤ 33554432 → are_lines h last ms ≡ true → AllByRecursion (λ m. m.line < 2 ^ 32) ms → MarksFew ms
 marks_few h last [] a e n good small = tt
 marks_few h last (m ∷ ms) a e n good small =
     let parts = and_parts (is_line h last m) (are_lines h (Some m) ms) good in

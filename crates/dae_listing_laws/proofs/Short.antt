@@ -8,7 +8,7 @@ use Rattle.dae_base.specs.declared.Side.{Side}
 use Rattle.dae_base.specs.declared.Side.TheVariants.{A, E}
 use Rattle.dae_image.specs.declared.Image.{Image}
 use Rattle.dae_image.specs.declared.LineMark.{LineMark}
-use Rattle.dae_image.specs.Contents.{Contents, header, is_name}
+use Rattle.dae_image.specs.Contents.{ImageContents, header, is_name}
 use Rattle.dae_image.specs.Ranges.{is_in, name_range}
 use Rattle.dae_image.specs.Images.{contents}
 use Rattle.dae_image.specs.Spelling.{number, numbers, line, name, head_1, head_2, body, Spells}
@@ -105,7 +105,7 @@ content_long bs small = let p = one_row bs small in omega arith
 first_row : (w ns : List ℕ) (text : List (List ℕ)) → AreFew ns → size (row w ns ∷ text) ≤ length w + (11 * length ns + (1 + size text))
 first_row w ns text few = let p = begun (row w ns) text in let q = numbers_long w ns few in omega arith
 
-head_long : (c : Contents) → Few c → size (head_rows c) ≤ 182
+head_long : (c : ImageContents) → Few c → size (head_rows c) ≤ 182
 head_long c few =
     let entry = first_row (codes ".entry") (c.entry_a ∷ c.entry_e ∷ []) [] (few.entry_a, (few.entry_e, tt)) in
     let privates = first_row (codes ".private") (c.private_a ∷ c.private_e ∷ []) (row (codes ".entry") (c.entry_a ∷ c.entry_e ∷ []) ∷ []) (few.private_a, (few.private_e, tt)) in
@@ -116,7 +116,7 @@ head_long c few =
 
 -- ---- all
 
-pieces : (c : Contents) → length (canon c) ≡ size (head_rows c) + (3 + (size (map word_text c.code_a) + (3 + (size (map word_text c.code_e) + (6 + (size (content_rows c.content) + (size (map mark_row c.lines) + size (map (row (codes ".name")) c.names))))))))
+pieces : (c : ImageContents) → length (canon c) ≡ size (head_rows c) + (3 + (size (map word_text c.code_a) + (3 + (size (map word_text c.code_e) + (6 + (size (content_rows c.content) + (size (map mark_row c.lines) + size (map (row (codes ".name")) c.names))))))))
 unfolding canon
 pieces c =
     let names = map (row (codes ".name")) c.names in
@@ -130,7 +130,7 @@ pieces c =
     let k = joined (head_rows c) (codes ".a" ∷ (map word_text c.code_a ++ (codes ".e" ∷ (map word_text c.code_e ++ (codes ".data" ∷ (content_rows c.content ++ (map mark_row c.lines ++ names))))))) in
     omega arith
 
-body_size : (c : Contents) → length (body c) ≡ length (numbers c.code_a) + (length (numbers c.code_e) + (length c.content + (length (flat_map line c.lines) + length (flat_map name c.names))))
+body_size : (c : ImageContents) → length (body c) ≡ length (numbers c.code_a) + (length (numbers c.code_e) + (length c.content + (length (flat_map line c.lines) + length (flat_map name c.names))))
 body_size c =
     let d = length-append (flat_map line c.lines) (flat_map name c.names) in
     let b = length-append c.content (flat_map line c.lines ++ flat_map name c.names) in
@@ -154,10 +154,10 @@ by_body i =
     let n = names_long c.names (names_bytes i.names fits.names) in
     omega arith
 
-head_1_size : (c : Contents) → length (numbers (head_1 (header c))) ≡ 76
+head_1_size : (c : ImageContents) → length (numbers (head_1 (header c))) ≡ 76
 head_1_size c = refl
 
-head_2_size : (c : Contents) → length (numbers (head_2 (header c))) ≡ 80
+head_2_size : (c : ImageContents) → length (numbers (head_2 (header c))) ≡ 80
 head_2_size c = refl
 
 by_parts : (text head rest : List ℕ) (n : ℕ) → length text ≤ 200 + 5 * length rest → length head ≡ n → 40 ≤ n → length text ≤ 5 * length (head ++ rest)

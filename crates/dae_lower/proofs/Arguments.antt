@@ -19,14 +19,14 @@ use Rattle.dae_ir.specs.declared.form.Operand.TheVariants.{Variable, Number}
 use Rattle.dae_program.specs.Trees as tree
 use Rattle.dae_program.specs.Trees.{Expression, Target, Expressions}
 use Rattle.dae_program.specs.Outcomes.{Gives, Ends, ◌⟫◌}
-use Rattle.dae_program.specs.Expressions.{Setup, evaluate as value, arguments as values, return_to as returned, with_printed}
+use Rattle.dae_program.specs.Expressions.{ProgramSetup, evaluate as value, arguments as values, return_to as returned, with_printed}
 use Rattle.dae_lower.specs.Lowering.{nothing, only, emit, set, one, ◌≫◌, or, nowhere, assigned, assigned_all, Links, ways, operands}
 use Rattle.dae_lower.proofs.Relation.{at, Agree, Lasts, still, lasts_on, lasts_wider, kept_all, Alike, Both, Stop, put_same}
 use Rattle.dae_lower.proofs.Chains.{run, Follows, paid, spared, weaker, knowing, chain}
 use Rattle.dae_lower.proofs.Leaves.{Holding, agree_put, kept_put, nothing_follows}
 use Rattle.dae_lower.proofs.Valued.{AsValue, AsEffect, Faithful, or_nowhere, unary, Start, Anything}
 
-module _ (m n : ℕ) (s : Setup) (l : Links) (p : Program) (calls : Calls) where
+module _ (m n : ℕ) (s : ProgramSetup) (l : Links) (p : Program) (calls : Calls) where
   module _ (places : (k : ℕ) → s.address k ≡ l.address k) where
     pub putchar_value : (place : Place) (a : Expression) → (Faithful m n s l p calls) (assigned a) (ways l a) (value s a) → (AsValue m n s l p calls) (assigned a) (ways l (tree.Putchar place a)).value (value s (tree.Putchar place a))
     unfolding spelled

@@ -18,19 +18,19 @@ use Rattle.dae_ir.specs.declared.form.Operand.TheVariants.{Number}
 use Rattle.dae_program.specs.Trees as tree
 use Rattle.dae_program.specs.Trees.{Expression, Target, Expressions}
 use Rattle.dae_program.specs.Outcomes.{Outcome, Gives, Ends, ◌⟫◌, read, write, Object, Local as InLocal, Placed as AtPlace}
-use Rattle.dae_program.specs.Expressions.{Setup, evaluate as value, object as target, operate as operates}
-use Rattle.dae_lower.specs.Lowering.{Made, nothing, ◌≫◌, or, nowhere, assigned, assigned_in, assigned_target, held as held_in, put_in, operated, narrowed, Spot, Local, Placed, Links, advanced, stepped, ways, spot}
+use Rattle.dae_program.specs.Expressions.{ProgramSetup, evaluate as value, object as target, operate as operates}
+use Rattle.dae_lower.specs.Lowering.{Made, nothing, ◌≫◌, or, nowhere, assigned, assigned_in, assigned_target, held as held_in, put_in, operated, narrowed, Assignee, Local, Placed, Links, advanced, stepped, ways, spot}
 use Rattle.dae_lower.proofs.Relation.{at, Kept, Lasts, still, still_alone, lasts_on, lasts_wider, Alike, Both, Stop}
 use Rattle.dae_lower.proofs.Chains.{run, Follows, paid, spared, weaker, chain, chain_to}
 use Rattle.dae_lower.proofs.Leaves.{Holding, Standing, nothing_follows, set_follows, narrowed_follows, operated_follows, SpotIn, put_follows, held_follows}
 use Rattle.dae_lower.proofs.Branches.{Always}
 use Rattle.dae_lower.proofs.Valued.{AsValue, AsEffect, Faithful, as_condition, as_effect, or_nowhere, pair, Start, cheaper, Anything, Nothing}
 
-module _ (m n : ℕ) (s : Setup) (l : Links) (p : Program) (calls : Calls) where
+module _ (m n : ℕ) (s : ProgramSetup) (l : Links) (p : Program) (calls : Calls) where
   module _ (places : (k : ℕ) → s.address k ≡ l.address k) where
     -- ---- assignments
 
-    abbrev pub SpotLasts : VariableSet → VariableSet → ℕ → ℕ → Spot → Type 0
+    abbrev pub SpotLasts : VariableSet → VariableSet → ℕ → ℕ → Assignee → Type 0
     SpotLasts c later k o (Local v) = (v < m) × (c v ≡ true)
     SpotLasts c later k o (Placed b y) = Lasts m later k o y
 
@@ -52,32 +52,32 @@ module _ (m n : ℕ) (s : Setup) (l : Links) (p : Program) (calls : Calls) where
         (chain m n p calls (λ y. nothing (Placed b y)) (λ x. Gives (AtPlace b x.1)) 0 2 2 k k k (assigned a) nowhere (omega arith) (h.value later k j) (λ x e o u t. tt)
         (λ o i z. spared m n p calls 2 0 0 o (nothing_follows m n p calls later o k nowhere (Placed b _) (λ x env. AtPlace b x.1) z (λ x env o d u. (refl, u.1)))))
 
-    pub still_standing : (c d later : VariableSet) (k o : ℕ) (t : Spot) (b : Object) (e f : Env) → m ≤ k → k ≤ o → SpotLasts c (or later d) k o t → Kept m o d e f → Standing t b e → Standing t b f
+    pub still_standing : (c d later : VariableSet) (k o : ℕ) (t : Assignee) (b : Object) (e f : Env) → m ≤ k → k ≤ o → SpotLasts c (or later d) k o t → Kept m o d e f → Standing t b e → Standing t b f
     still_standing c d later k o (Local u) (InLocal v) e f j i z h t = t
     still_standing c d later k o (Local u) (AtPlace b x) e f j i z h t = t
     still_standing c d later k o (Placed g y) (InLocal v) e f j i z h t = t
     still_standing c d later k o (Placed g y) (AtPlace b x) e f j i z h t = (t.0, still m k o later d y e f j i z h ∙ t.1)
 
-    pub standing_alone : (c later : VariableSet) (k o : ℕ) (t : Spot) (b : Object) (e f : Env) → m ≤ k → k ≤ o → SpotLasts c later k o t → Kept m o nowhere e f → Standing t b e → Standing t b f
+    pub standing_alone : (c later : VariableSet) (k o : ℕ) (t : Assignee) (b : Object) (e f : Env) → m ≤ k → k ≤ o → SpotLasts c later k o t → Kept m o nowhere e f → Standing t b e → Standing t b f
     standing_alone c later k o (Local u) (InLocal v) e f j i z h t = t
     standing_alone c later k o (Local u) (AtPlace b x) e f j i z h t = t
     standing_alone c later k o (Placed g y) (InLocal v) e f j i z h t = t
     standing_alone c later k o (Placed g y) (AtPlace b x) e f j i z h t = (t.0, still_alone m k o later y e f j i z h ∙ t.1)
 
     -- among more variables, and where fewer are assigned later
-    pub spot_on : (c d later : VariableSet) (k o q : ℕ) (t : Spot) → o ≤ q → SpotLasts c (or later d) k o t → SpotLasts c later k q t
+    pub spot_on : (c d later : VariableSet) (k o q : ℕ) (t : Assignee) → o ≤ q → SpotLasts c (or later d) k o t → SpotLasts c later k q t
     spot_on c d later k o q (Local v) i h = h
     spot_on c d later k o q (Placed b y) i h = lasts_on m later d k o k q y (omega arith) i h
 
-    pub spot_wider : (c later : VariableSet) (k o q : ℕ) (t : Spot) → o ≤ q → SpotLasts c later k o t → SpotLasts c later k q t
+    pub spot_wider : (c later : VariableSet) (k o q : ℕ) (t : Assignee) → o ≤ q → SpotLasts c later k o t → SpotLasts c later k q t
     spot_wider c later k o q (Local v) i h = h
     spot_wider c later k o q (Placed b y) i h = lasts_wider m later k o k q y (omega arith) i h
 
-    pub spot_in : (c later : VariableSet) (k o : ℕ) (t : Spot) → SpotLasts c later k o t → SpotIn m n p calls later c t
+    pub spot_in : (c later : VariableSet) (k o : ℕ) (t : Assignee) → SpotLasts c later k o t → SpotIn m n p calls later c t
     spot_in c later k o (Local v) h = h
     spot_in c later k o (Placed b y) h = tt
 
-    pub spot_among : (c later : VariableSet) (k o : ℕ) (t : Spot) → SpotLasts c later k o t → SpotIn m n p calls later (λ v. true) t
+    pub spot_among : (c later : VariableSet) (k o : ℕ) (t : Assignee) → SpotLasts c later k o t → SpotIn m n p calls later (λ v. true) t
     spot_among c later k o (Local v) h = (h.0, refl)
     spot_among c later k o (Placed b y) h = tt
 
@@ -89,7 +89,7 @@ module _ (m n : ℕ) (s : Setup) (l : Links) (p : Program) (calls : Calls) where
         (λ o q y r v z d. (cheaper m n s l p calls) 2 6 q (omega arith) (put_follows m n p calls later q k k (assigned_target t) place kind _ y (λ x. x.0.1) (λ x. x.1) (spot_in (assigned_target t) later k q _ (spot_on (assigned_target t) (assigned a) later k o q _ v z)) d (λ x o u. u.0.1) (λ x o u. u.1)))
 
     -- what an update computes and writes, once the target is read and the right side evaluated
-    pub updated : {W : Type 0} {Was : W → Env → Type 0} (place : Place) (kind : LoadKind) (operator : Operator) (c later : VariableSet) (k q : ℕ) (t : Spot) (b : W → Object) (y z : Operand) (u v : W → ℕ) → m ≤ k → k ≤ q → SpotLasts c later k q t →
+    pub updated : {W : Type 0} {Was : W → Env → Type 0} (place : Place) (kind : LoadKind) (operator : Operator) (c later : VariableSet) (k q : ℕ) (t : Assignee) (b : W → Object) (y z : Operand) (u v : W → ℕ) → m ≤ k → k ≤ q → SpotLasts c later k q t →
         ((x : W) (o : Env) → Was x o → Standing t (b x) o) → ((x : W) (o : Env) → Was x o → Holding y (u x) o) → ((x : W) (o : Env) → Was x o → Holding z (v x) o) →
         Follows m n p calls 6 0 q k c (Lasts m later k) Was Holding (operated place operator y z q ≫ λ z q. narrowed place kind z q ≫ put_in place kind t) (λ x env w. operates operator (u x) (v x) env w ⟫ λ z. write kind (b x) (extended kind z))
     updated {W} {Was} place kind operator c later k q t b y z u v j i f hb hy hz =
@@ -121,7 +121,7 @@ module _ (m n : ℕ) (s : Setup) (l : Links) (p : Program) (calls : Calls) where
     -- ---- steps
 
     -- what a step computes and writes, once the target is read
-    pub stepping : {W : Type 0} {Was : W → Env → Type 0} (place : Place) (kind : LoadKind) (change : ℕ) (c later : VariableSet) (h k q : ℕ) (t : Spot) (b : W → Object) (y : Operand) (u : W → ℕ) → m ≤ h → h ≤ k → k ≤ q → SpotLasts c later h q t →
+    pub stepping : {W : Type 0} {Was : W → Env → Type 0} (place : Place) (kind : LoadKind) (change : ℕ) (c later : VariableSet) (h k q : ℕ) (t : Assignee) (b : W → Object) (y : Operand) (u : W → ℕ) → m ≤ h → h ≤ k → k ≤ q → SpotLasts c later h q t →
         ((x : W) (o : Env) → Was x o → Standing t (b x) o) → ((x : W) (o : Env) → Was x o → Holding y (u x) o) →
         Follows m n p calls 4 0 q k c (Lasts m later h) Was Holding (advanced place kind change t y q) (λ x env w. write kind (b x) (extended kind (plus (u x) change)) env w)
     unfolding combined

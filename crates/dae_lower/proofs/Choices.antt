@@ -11,7 +11,7 @@ use Rattle.dae_ir.specs.declared.form.Operand.TheVariants.{Variable, Number}
 use Rattle.dae_program.specs.Trees as tree
 use Rattle.dae_program.specs.Trees.{Expression, Target, Expressions}
 use Rattle.dae_program.specs.Outcomes.{Outcome, Gives, ◌⟫◌}
-use Rattle.dae_program.specs.Expressions.{Setup, evaluate as value, decide as decided}
+use Rattle.dae_program.specs.Expressions.{ProgramSetup, evaluate as value, decide as decided}
 use Rattle.dae_lower.specs.Lowering.{Made, nothing, ◌≫◌, or, nowhere, assigned, Condition, branches, gives, Links, ways}
 use Rattle.dae_lower.proofs.Relation.{Kept, Lasts}
 use Rattle.dae_lower.proofs.Chains.{Follows, paid, sooner, spared, weaker, knowing, chain, recast, given_on}
@@ -20,7 +20,7 @@ use Rattle.dae_lower.proofs.Branches.{Deciding, Always, gives_follows, branches_
 use Rattle.dae_lower.proofs.Valued.{AsValue, AsEffect, Faithful, or_nowhere, Start, Anything}
 use Rattle.dae_lower.proofs.Operators.{lower_base}
 
-module _ (m n : ℕ) (s : Setup) (l : Links) (p : Program) (calls : Calls) where
+module _ (m n : ℕ) (s : ProgramSetup) (l : Links) (p : Program) (calls : Calls) where
   module _ (places : (k : ℕ) → s.address k ≡ l.address k) where
     pub number_given : {X : Type 0} {Was : X → Env → Type 0} (q k v : ℕ) (place : Place) (x : ℕ) (d : VariableSet) → m ≤ v → k ≤ v → Follows m n p calls 1 0 q k d Always Was (λ (z : Unit {0}). Holding (Variable v)) (gives place v (Number x) q) (λ y. Gives x)
     number_given q k v place x d low j = weaker m n p calls 1 0 q 1 0 k d (omega arith) (omega arith) (omega arith) (λ v z. refl) (gives_follows m n p calls q k v place (Number x) (λ y. x) low j (λ y o u. refl))

@@ -7,7 +7,7 @@ use Rattle.dae_program.specs.Trees as tree
 use Rattle.dae_program.specs.Trees.{Expression, Target, Expressions}
 use Rattle.dae_program.specs.Scope.{IsIn, IsTargetIn, AreIn}
 use Rattle.dae_program.specs.Outcomes.{Gives}
-use Rattle.dae_program.specs.Expressions.{Setup, evaluate as value}
+use Rattle.dae_program.specs.Expressions.{ProgramSetup, evaluate as value}
 use Rattle.dae_lower.specs.Lowering.{nowhere, assigned, Links, ways}
 use Rattle.dae_lower.proofs.Valued.{Faithful, as_condition, by_value_faithful, number_follows, frame_follows, variable_faithful}
 use Rattle.dae_lower.proofs.Operators.{read_value, convert_faithful, binary_value, not_faithful, comma_faithful, compare_faithful}
@@ -15,7 +15,7 @@ use Rattle.dae_lower.proofs.Choices.{and_value, or_value, conditional_value, con
 use Rattle.dae_lower.proofs.Assignments.{TargetFaithful, local_target, address_target, assign_value, update_value, step_faithful}
 use Rattle.dae_lower.proofs.Arguments.{putchar_value, putchar_effect, exit_value, abort_value, AllFaithful, no_operands, more_operands, Called, call_value}
 
-module _ (m n : ℕ) (s : Setup) (l : Links) (p : Program) (calls : Calls) where
+module _ (m n : ℕ) (s : ProgramSetup) (l : Links) (p : Program) (calls : Calls) where
   module _ (places : (k : ℕ) → s.address k ≡ l.address k) where
     module _ (called : (Called m n s l p calls places)) where
       -- ---- each expression

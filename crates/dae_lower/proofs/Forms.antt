@@ -10,7 +10,7 @@ use Rattle.dae_ir.specs.declared.form.Value.TheVariants.{Binary}
 use Rattle.dae_meaning.specs.declared.Spelling.TheVariants.{Byte, Signed}
 use Rattle.dae_ir.specs.declared.form.Check.TheVariants.{Place as Good}
 use Rattle.dae_ir.specs.declared.form.Item.TheVariants.{Assign, Load, Store, Print, Expect, Halt}
-use Rattle.dae_program.specs.declared.statements.Piece.TheVariants as piece
+use Rattle.dae_program.specs.declared.statements.FormatPiece.TheVariants as piece
 use Rattle.dae_program.specs.Trees as tree
 use Rattle.dae_program.specs.Trees.{Function, Statements}
 use Rattle.dae_lower.specs.Lowering.{function_code}

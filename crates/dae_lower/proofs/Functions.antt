@@ -13,10 +13,10 @@ use Rattle.dae_ir.specs.declared.form.Item.{Item}
 use Rattle.dae_ir.specs.declared.form.Item.TheVariants.{Assign, Store, Expect, Call, Return, Halt, Load, Print, Break, Continue}
 use Rattle.dae_ir.specs.declared.form.Check.TheVariants.{Room, Frame}
 use Rattle.dae_ir.specs.declared.form.Operand.TheVariants.{Variable, Number}
-use Rattle.dae_program.specs.declared.program.Slot.{Slot}
+use Rattle.dae_program.specs.declared.program.FrameSlot.{FrameSlot}
 use Rattle.dae_program.specs.Trees as tree
 use Rattle.dae_program.specs.Outcomes.{Outcome, Gives, Ends, unless, store, with_written}
-use Rattle.dae_program.specs.Expressions.{Setup, return_to as returned}
+use Rattle.dae_program.specs.Expressions.{ProgramSetup, return_to as returned}
 use Rattle.dae_program.specs.Statements.{execute as does}
 use Rattle.dae_program.specs.Calls.{keep_parameters as kept, enter as entered_world, no_room, result_of as came_back, call as program_calls}
 use Rattle.dae_program.specs.Scope.{KeepsScope}
@@ -80,7 +80,7 @@ module _ (n : ℕ) (p : Program) (calls : Calls) where
   closed_leaves (Loop place a b k) h e w = then_not_next _ _ (closed_leaves k h)
 
   -- parameters are stored
-  parameters_do : (m : ℕ) (place : Place) (slots : List (Option Slot)) (k q : ℕ) → k + length slots ≤ m → m ≤ q → (q ≤ (parameters_stored place slots k q).next) × ((env other : Env) (w : World) (i t : ℕ) → Agree m env other → i + t + w.loads ≤ 9 * w.items → Same m m everything t other (kept slots k env w) (run m n p calls (parameters_stored place slots k q).code other (at i w)))
+  parameters_do : (m : ℕ) (place : Place) (slots : List (Option FrameSlot)) (k q : ℕ) → k + length slots ≤ m → m ≤ q → (q ≤ (parameters_stored place slots k q).next) × ((env other : Env) (w : World) (i t : ℕ) → Agree m env other → i + t + w.loads ≤ 9 * w.items → Same m m everything t other (kept slots k env w) (run m n p calls (parameters_stored place slots k q).code other (at i w)))
   parameters_do m place [] k q h j = (omega arith, λ env other w i t g o. Goes Next env other w i g (λ v z x. refl) o)
   parameters_do m place (None ∷ slots) k q h j = parameters_do m place slots (k + 1) q (omega (arith, h)) j
   parameters_do m place (Some slot ∷ slots) k q h j = by (parameters_do m place slots (k + 1) (q + 1) (omega (arith, h)) (omega (arith, j))) where
@@ -132,13 +132,13 @@ not_main a b h = by (nat_eq a b) refl where
   by true e = absurd (h (grind (arith, nat_tests, e)))
 
 module _ (n : ℕ) (source : tree.Program) (place : ℕ → Place) (variables : ℕ → ℕ) (main : ℕ) (scoped : KeepsScope source variables main)
-    (prints_do : (m : ℕ) (s : Setup) (l : Links) (p : Program) (calls : Calls) (places : (k : ℕ) → s.address k ≡ l.address k) (called : Called m n s l p calls places) (some : 0 < m) → PrintsDo m n s l p calls places called some)
-    (initialises_do : (m : ℕ) (s : Setup) (l : Links) (p : Program) (calls : Calls) (places : (k : ℕ) → s.address k ≡ l.address k) (called : Called m n s l p calls places) (some : 0 < m) → InitialisesDo m n s l p calls places called some)
-    (switches_do : (m : ℕ) (s : Setup) (l : Links) (p : Program) (calls : Calls) (places : (k : ℕ) → s.address k ≡ l.address k) (called : Called m n s l p calls places) (some : 0 < m) → SwitchesDo m n s l p calls places called some) where
+    (prints_do : (m : ℕ) (s : ProgramSetup) (l : Links) (p : Program) (calls : Calls) (places : (k : ℕ) → s.address k ≡ l.address k) (called : Called m n s l p calls places) (some : 0 < m) → PrintsDo m n s l p calls places called some)
+    (initialises_do : (m : ℕ) (s : ProgramSetup) (l : Links) (p : Program) (calls : Calls) (places : (k : ℕ) → s.address k ≡ l.address k) (called : Called m n s l p calls places) (some : 0 < m) → InitialisesDo m n s l p calls places called some)
+    (switches_do : (m : ℕ) (s : ProgramSetup) (l : Links) (p : Program) (calls : Calls) (places : (k : ℕ) → s.address k ≡ l.address k) (called : Called m n s l p calls places) (some : 0 < m) → SwitchesDo m n s l p calls places called some) where
   abbrev form : Program
   form = program_form source place variables main
 
-  abbrev setup_of : ℕ → ℕ → Setup
+  abbrev setup_of : ℕ → ℕ → ProgramSetup
   setup_of depth f = let g = source.function f in record { address = g.address; calls = λ h. program_calls source false n depth (g.callee h) }
 
   abbrev links_of : ℕ → Links
@@ -160,7 +160,7 @@ module _ (n : ℕ) (source : tree.Program) (place : ℕ → Place) (variables : 
   abbrev body_of : ℕ → tree.Statements
   body_of f = let h = source.function f in h.body
 
-  abbrev slots_of : ℕ → List (Option Slot)
+  abbrev slots_of : ℕ → List (Option FrameSlot)
   slots_of f = let h = source.function f in h.parameters
 
   -- a function's code but for its ends

@@ -19,7 +19,7 @@ use Rattle.dae_ir.specs.declared.form.Operand.{Operand}
 use Rattle.dae_ir.specs.declared.form.Operand.TheVariants.{Variable, Number}
 use Rattle.dae_program.specs.Trees.{Setting}
 use Rattle.dae_program.specs.Scope.{AreSettingsIn}
-use Rattle.dae_program.specs.Expressions.{Setup, evaluate as value}
+use Rattle.dae_program.specs.Expressions.{ProgramSetup, evaluate as value}
 use Rattle.dae_program.specs.Initialising.{clear as cleared, set_items as settled}
 use Rattle.dae_program.specs.Outcomes.{store, with_written}
 use Rattle.dae_lower.specs.Lowering.{emit, one, ◌≫◌, nowhere, leaves_if_not, test_of, ways, Links, turn_bytes, zeros_at, zeros, settings}
@@ -194,7 +194,7 @@ module _ (m n : ℕ) (p : Program) (calls : Calls) where
       subst (λ (x : ℕ). Same m q nowhere t other1 (cleared (in_turns (suc more) c) x env w1) (turns_of place (suc more) q count other1 (at i1 w1))) (sym (address_after_is (suc more) start k))
       (zero_turns place start size more q mq small c count (omega (arith, l)) (k + suc more) env other1 w1 i1 t (left_then k (bytes_and (suc more) (in_turns (suc more) c)) (in_turns (suc more) c) more size e (bytes_and_is (suc more) (in_turns (suc more) c))) (address ∙ address_after_is (suc more) start k) (end ∙ g) a1 (omega (arith, o1)))))
 
-module _ (m n : ℕ) (s : Setup) (l : Links) (p : Program) (calls : Calls) (places : (k : ℕ) → s.address k ≡ l.address k) (called : Called m n s l p calls places) (some : 0 < m) (many : 4294967296 ≤ n) where
+module _ (m n : ℕ) (s : ProgramSetup) (l : Links) (p : Program) (calls : Calls) (places : (k : ℕ) → s.address k ≡ l.address k) (called : Called m n s l p calls places) (some : 0 < m) (many : 4294967296 ≤ n) where
   -- items, whose addresses are all in variable v
   settings_do : (place : Place) (items : List Setting) → AreSettingsIn m items → (v q : ℕ) → m ≤ v → v < q → Does m n p calls 0 0 q v (settings l place v items q) (settled s items)
   settings_do place [] h v q mv vq = skip_does m n p calls q v

@@ -20,7 +20,7 @@ use Rattle.dae_ir.specs.declared.form.Operand.{Operand}
 use Rattle.dae_ir.specs.declared.form.Operand.TheVariants.{Variable, Number}
 use Rattle.dae_program.specs.Outcomes.{Outcome, Gives, Ends, Object, Local as InLocal, Placed as AtPlace, access, with_read, with_written, read, write}
 use Rattle.dae_program.specs.Expressions.{operate as operates, divides}
-use Rattle.dae_lower.specs.Lowering.{nothing, set, one, checks, variable, fetched, held as held_in, put_in, operated, may_be_zero, narrowed, Spot, Local, Placed, nowhere}
+use Rattle.dae_lower.specs.Lowering.{nothing, set, one, checks, variable, fetched, held as held_in, put_in, operated, may_be_zero, narrowed, Assignee, Local, Placed, nowhere}
 use Rattle.dae_lower.proofs.Relation.{at, Agree, Fixed, Kept, Lasts, lasts_wider, Alike, Both, Stop, put_same, put_other, kept_all}
 use Rattle.dae_lower.proofs.Chains.{run, Follows, weaker, lasting}
 
@@ -29,7 +29,7 @@ abbrev pub Holding : Operand → ℕ → Env → Type 0
 Holding y x o = held y o ≡ x
 
 -- an object and what stands for it
-abbrev pub Standing : Spot → Object → Env → Type 0
+abbrev pub Standing : Assignee → Object → Env → Type 0
 Standing (Local u) (InLocal v) o = u ≡ v
 Standing (Local u) (AtPlace b x) o = ⊥
 Standing (Placed c y) (InLocal v) o = ⊥
@@ -144,7 +144,7 @@ module _ (m n : ℕ) (p : Program) (calls : Calls) (later : VariableSet) where
   -- ---- what is assigned
 
   -- a variable of the program, among those that may change
-  abbrev pub SpotIn : VariableSet → Spot → Type 0
+  abbrev pub SpotIn : VariableSet → Assignee → Type 0
   SpotIn c (Local v) = (v < m) × (c v ≡ true)
   SpotIn c (Placed b y) = Unit {0}
 
@@ -167,7 +167,7 @@ module _ (m n : ℕ) (p : Program) (calls : Calls) (later : VariableSet) where
     by (inl g) e = omega (arith, g, l, e)
     by (inr g) e = let b : c v ≡ false = subst (λ (z : ℕ). c z ≡ false) e g in cc
 
-  puts_alike : (k : ℕ) (c : VariableSet) (place : Place) (kind : LoadKind) (z : Operand) (env other : Env) (w : World) (i s : ℕ) → Agree m env other → i + (s + 2) + w.loads ≤ 9 * w.items → (t : Spot) (b : Object) → SpotIn c t → Standing t b other → (q : ℕ) → Alike m k c (Holding z) s other (write kind b (held z other) env w) (runs_to (put_in place kind t z q).code other (at i w))
+  puts_alike : (k : ℕ) (c : VariableSet) (place : Place) (kind : LoadKind) (z : Operand) (env other : Env) (w : World) (i s : ℕ) → Agree m env other → i + (s + 2) + w.loads ≤ 9 * w.items → (t : Assignee) (b : Object) → SpotIn c t → Standing t b other → (q : ℕ) → Alike m k c (Holding z) s other (write kind b (held z other) env w) (runs_to (put_in place kind t z q).code other (at i w))
   puts_alike k c place kind z env other w i s a o (Local u) (InLocal v) f h q =
       subst (λ d. Alike m k c (Holding z) s other (write kind (InLocal d) (held z other) env w) (runs_to (put_in place kind (Local u) z q).code other (at i w))) h
       (Both (held z other) (put true u (held z other) env) (put true u (held z other) other) w (i + 1) (agree_both u (held z other) env other a) (kept_own u (held z other) k c other f.0 f.1) (put_own u z other) (omega (arith, o)))
@@ -179,7 +179,7 @@ module _ (m n : ℕ) (p : Program) (calls : Calls) (later : VariableSet) where
       (stores_alike 0 k c place kind y z env other w i s a o d))
 
   module _ {X : Type 0} {Was : X → Env → Type 0} where
-    pub put_follows : (q k b : ℕ) (c : VariableSet) (place : Place) (kind : LoadKind) (t : Spot) (z : Operand) (a : X → Object) (g : X → ℕ) → SpotIn c t → Lasts m later b q z → ((x : X) (o : Env) → Was x o → Standing t (a x) o) → ((x : X) (o : Env) → Was x o → held z o ≡ g x) → Follows m n p calls 2 0 q k c (Lasts m later b) Was Holding (put_in place kind t z q) (λ x. write kind (a x) (g x))
+    pub put_follows : (q k b : ℕ) (c : VariableSet) (place : Place) (kind : LoadKind) (t : Assignee) (z : Operand) (a : X → Object) (g : X → ℕ) → SpotIn c t → Lasts m later b q z → ((x : X) (o : Env) → Was x o → Standing t (a x) o) → ((x : X) (o : Env) → Was x o → held z o ≡ g x) → Follows m n p calls 2 0 q k c (Lasts m later b) Was Holding (put_in place kind t z q) (λ x. write kind (a x) (g x))
     put_follows q k b c place kind t z a g f l hb hg = record {
       grows = by t;
       lasts = last t;
@@ -187,15 +187,15 @@ module _ (m n : ℕ) (p : Program) (calls : Calls) (later : VariableSet) where
           subst (λ y. Alike m k c (Holding (put_in place kind t z q).given) (s + 0) other (write kind (a x) y env w) (runs_to (put_in place kind t z q).code other (at i w))) (hg x other u)
           (is t (puts_alike k c place kind z env other w i (s + 0) d (omega (arith, o)) t (a x) f (hb x other u) q));
     } where
-      by : (t : Spot) → q ≤ (put_in place kind t z q).next
+      by : (t : Assignee) → q ≤ (put_in place kind t z q).next
       by (Local v) = omega arith
       by (Placed d y) = omega arith
 
-      last : (t : Spot) → Lasts m later b (put_in place kind t z q).next (put_in place kind t z q).given
+      last : (t : Assignee) → Lasts m later b (put_in place kind t z q).next (put_in place kind t z q).given
       last (Local v) = l
       last (Placed d y) = l
 
-      is : {s : ℕ} {e : Env} {r : Outcome ℕ} {v : Result Env} (t : Spot) → Alike m k c (Holding z) s e r v → Alike m k c (Holding (put_in place kind t z q).given) s e r v
+      is : {s : ℕ} {e : Env} {r : Outcome ℕ} {v : Result Env} (t : Assignee) → Alike m k c (Holding z) s e r v → Alike m k c (Holding (put_in place kind t z q).given) s e r v
       is (Local v) h = h
       is (Placed d y) h = h
 
@@ -207,7 +207,7 @@ module _ (m n : ℕ) (p : Program) (calls : Calls) (later : VariableSet) where
         weaker m n p calls 0 0 q 2 0 k nowhere (omega arith) (omega arith) (omega arith) (λ v z. z) (nothing_follows q k nowhere (Variable v) (λ x env. env v) (inr (h, f refl)) (λ x env o a u. a v h))
 
     -- what a target holds
-    pub held_follows : (q k : ℕ) (place : Place) (kind : LoadKind) (copied : VariableSet) (t : Spot) (b : X → Object) → m ≤ q → k ≤ q → ((v : ℕ) → copied v ≡ false → later v ≡ false) → SpotIn (λ v. true) t → ((x : X) (o : Env) → Was x o → Standing t (b x) o) → Follows m n p calls 3 0 q k nowhere (Lasts m later k) Was Holding (held_in place kind copied t q) (λ x. read kind (b x))
+    pub held_follows : (q k : ℕ) (place : Place) (kind : LoadKind) (copied : VariableSet) (t : Assignee) (b : X → Object) → m ≤ q → k ≤ q → ((v : ℕ) → copied v ≡ false → later v ≡ false) → SpotIn (λ v. true) t → ((x : X) (o : Env) → Was x o → Standing t (b x) o) → Follows m n p calls 3 0 q k nowhere (Lasts m later k) Was Holding (held_in place kind copied t q) (λ x. read kind (b x))
     held_follows q k place kind copied (Placed d y) b l j f g h = record {
       grows = omega arith;
       lasts = inl (j, omega arith);

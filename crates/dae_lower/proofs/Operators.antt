@@ -17,7 +17,7 @@ use Rattle.dae_ir.specs.declared.form.Operand.TheVariants.{Number}
 use Rattle.dae_program.specs.Trees as tree
 use Rattle.dae_program.specs.Trees.{Expression, Target, Expressions}
 use Rattle.dae_program.specs.Outcomes.{Outcome, Gives, ◌⟫◌, read, Placed as AtPlace}
-use Rattle.dae_program.specs.Expressions.{Setup, evaluate as value, operate as operates, bit}
+use Rattle.dae_program.specs.Expressions.{ProgramSetup, evaluate as value, operate as operates, bit}
 use Rattle.dae_lower.specs.Lowering.{Made, nothing, set, ◌≫◌, or, nowhere, assigned, fetched, operated, narrowed, test_of, related, turn, Links, ways}
 use Rattle.dae_lower.proofs.Relation.{lasts_wider}
 use Rattle.dae_lower.proofs.Chains.{Follows, paid, spared, weaker, lasting, knowing, chain}
@@ -25,7 +25,7 @@ use Rattle.dae_lower.proofs.Leaves.{nothing_follows, set_follows, narrowed_follo
 use Rattle.dae_lower.proofs.Branches.{Always}
 use Rattle.dae_lower.proofs.Valued.{AsValue, AsCondition, Faithful, as_condition, or_nowhere, unary, binary, Start, cheap, cheaper, mapped, dearer, Anything, Nothing}
 
-module _ (m n : ℕ) (s : Setup) (l : Links) (p : Program) (calls : Calls) where
+module _ (m n : ℕ) (s : ProgramSetup) (l : Links) (p : Program) (calls : Calls) where
   module _ (places : (k : ℕ) → s.address k ≡ l.address k) where
     pub read_value : (place : Place) (kind : LoadKind) (b : Bool) (a : Expression) → (Faithful m n s l p calls) (assigned a) (ways l a) (value s a) → (AsValue m n s l p calls) (assigned a) (λ later q. (ways l a).value later q ≫ fetched place kind b) (value s (tree.Read place kind b a))
     read_value place kind b a h later k low =

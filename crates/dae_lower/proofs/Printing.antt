@@ -21,10 +21,10 @@ use Rattle.dae_meaning.specs.declared.Spelling.TheVariants.{Byte}
 use Rattle.dae_ir.specs.declared.form.Operand.{Operand}
 use Rattle.dae_ir.specs.declared.form.Operand.TheVariants.{Variable, Number}
 use Rattle.dae_program.specs.Outcomes.{Gives, ◌⊳◌, unless, with_read}
-use Rattle.dae_program.specs.Expressions.{Setup, arguments as values, with_printed}
+use Rattle.dae_program.specs.Expressions.{ProgramSetup, arguments as values, with_printed}
 use Rattle.dae_program.specs.Printing.{most_bytes, print_text as text, argument, print_pieces as shown}
-use Rattle.dae_program.specs.declared.statements.Piece.{Piece}
-use Rattle.dae_program.specs.declared.statements.Piece.TheVariants as piece
+use Rattle.dae_program.specs.declared.statements.FormatPiece.{FormatPiece}
+use Rattle.dae_program.specs.declared.statements.FormatPiece.TheVariants as piece
 use Rattle.dae_lower.specs.Lowering.{one, nowhere, leaves_if_not, test_of, prints, operands, Links, assigned_all}
 use Rattle.dae_lower.proofs.Relation.{at, Agree, Kept, put_same, put_other, still_alone}
 use Rattle.dae_lower.proofs.Arguments.{Called, amount, AllLast, all_wider}
@@ -155,7 +155,7 @@ module _ (m n : ℕ) (p : Program) (calls : Calls) where
 
 -- ---- the pieces of a format
 
-module _ (m n : ℕ) (s : Setup) (l : Links) (p : Program) (calls : Calls) (places : (k : ℕ) → s.address k ≡ l.address k) (called : Called m n s l p calls places) (some : 0 < m) (many : most_bytes ≤ n) where
+module _ (m n : ℕ) (s : ProgramSetup) (l : Links) (p : Program) (calls : Calls) (places : (k : ℕ) → s.address k ≡ l.address k) (called : Called m n s l p calls places) (some : 0 < m) (many : most_bytes ≤ n) where
   argument_held : (ys : List Operand) (k : ℕ) (o : Env) → held (argument (Number 0) ys k) o ≡ argument 0 (all_held ys o) k
   argument_held [] k o = refl
   argument_held (y ∷ ys) zero o = refl
@@ -166,10 +166,10 @@ module _ (m n : ℕ) (s : Setup) (l : Links) (p : Program) (calls : Calls) (plac
   still_all k q (y ∷ ys) e f i j h a = ap (λ x. x ∷ all_held ys f) (still_alone m k q nowhere y e f i j h.0 a) ∙ ap (λ xs. held y e ∷ xs) (still_all k q ys e f i j h.1 a)
 
   -- the variables below b stay
-  abbrev PiecesDo : Place → List Piece → List Operand → ℕ → ℕ → Type 0
+  abbrev PiecesDo : Place → List FormatPiece → List Operand → ℕ → ℕ → Type 0
   PiecesDo place ps ys b q = (q ≤ (prints place ps ys q).next) × ((words : List ℕ) (env other : Env) (w : World) (i t : ℕ) → Agree m env other → all_held ys other ≡ words → i + t + w.loads ≤ 9 * w.items → Same m b nowhere t other (shown ps words env w) (run m n p calls (prints place ps ys q).code other (at i w)))
 
-  string_does : (place : Place) (j : ℕ) (ps : List Piece) (ys : List Operand) (k b q : ℕ) → m ≤ k → k ≤ q → b ≤ q → AllLast m n s l p calls places nowhere k q ys → PiecesDo place ps ys q (q + 2) → PiecesDo place (piece.String j ∷ ps) ys b q
+  string_does : (place : Place) (j : ℕ) (ps : List FormatPiece) (ys : List Operand) (k b q : ℕ) → m ≤ k → k ≤ q → b ≤ q → AllLast m n s l p calls places nowhere k q ys → PiecesDo place ps ys q (q + 2) → PiecesDo place (piece.String j ∷ ps) ys b q
   string_does place j ps ys k b q mk kq bq h rest = (
     omega (arith, rest.0),
     λ words env other w i t a e o.
@@ -181,7 +181,7 @@ module _ (m n : ℕ) (s : Setup) (l : Links) (p : Program) (calls : Calls) (plac
         (λ env1 other1 w1 i1 a1 k1 o1. same_from m q q nowhere t t other other1 (omega arith) (omega arith) k1 _ _ (rest.1 words env1 other1 w1 i1 t a1 (still_all k q ys other other1 mk kq h k1 ∙ e) o1)))),
   )
 
-  pieces_do : (place : Place) (ps : List Piece) (ys : List Operand) (k b q : ℕ) → m ≤ k → k ≤ q → b ≤ q → AllLast m n s l p calls places nowhere k q ys → PiecesDo place ps ys b q
+  pieces_do : (place : Place) (ps : List FormatPiece) (ys : List Operand) (k b q : ℕ) → m ≤ k → k ≤ q → b ≤ q → AllLast m n s l p calls places nowhere k q ys → PiecesDo place ps ys b q
   unfolding spelled
   pieces_do place [] ys k b q mk kq bq h = (omega arith, λ words env other w i t a e o. Goes Next env other w i a (λ v z x. refl) o)
   pieces_do place (piece.Byte c ∷ ps) ys k b q mk kq bq h = (let d = pieces_do place ps ys k b q mk kq bq h in d.0, λ words env other w i t a e o. let d = pieces_do place ps ys k b q mk kq bq h in d.1 words env other (with_printed (spelled Byte c) w) (i + 1) t a e (omega (arith, o)))

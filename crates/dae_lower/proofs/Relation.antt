@@ -5,7 +5,7 @@ use Rattle.std.proofs.lemmas.Bool.Decides.{nat_tests}
 use Rattle.std.proofs.lemmas.Bool.{or_parts}
 use Rattle.dae_meaning.specs.Results.{Result, At, Over, Next, Leaves, Skips, Returns, End, Run, ◌▷◌}
 use Rattle.dae_meaning.specs.Worlds.{World}
-use Rattle.dae_ir.specs.Code.{Done, Do, If, Loop, Meaning, exec}
+use Rattle.dae_ir.specs.Code.{Done, Do, If, Loop, CodeMeaning, exec}
 use Rattle.dae_ir.specs.Form.{Form, value as held}
 use Rattle.dae_meaning.specs.Variables.{Env, put}
 use Rattle.dae_ir.specs.Classes.{VariableSet}
@@ -26,7 +26,7 @@ module _ {E : Type 0} where
   then_then (At Returns e w) f g h k = refl
   then_then (Over end w) f g h k = refl
 
-pub exec_then : (m : Meaning Item Test Env) (n : ℕ) (c d : Form) (e : Env) (w : World) → exec m n (c ⨾ d) e w ≡ (exec m n c e w ▷ exec m n d)
+pub exec_then : (m : CodeMeaning Item Test Env) (n : ℕ) (c d : Form) (e : Env) (w : World) → exec m n (c ⨾ d) e w ≡ (exec m n c e w ▷ exec m n d)
 exec_then m n Done d e w = refl
 exec_then m n (Do p item k) d e w = then_then (m.does item e w) _ _ _ (exec_then m n k d)
 exec_then m n (If p t a b k) d e w = then_then _ _ _ _ (exec_then m n k d)

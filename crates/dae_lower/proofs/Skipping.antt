@@ -6,10 +6,10 @@ use Rattle.dae_meaning.specs.Worlds.{World, ticked}
 use Rattle.dae_meaning.specs.Variables.{Env}
 use Rattle.dae_program.specs.Trees as tree
 use Rattle.dae_program.specs.Trees.{Expression, Setting, Statements, Arms}
-use Rattle.dae_program.specs.declared.statements.Piece.{Piece}
-use Rattle.dae_program.specs.declared.statements.Piece.TheVariants as piece
+use Rattle.dae_program.specs.declared.statements.FormatPiece.{FormatPiece}
+use Rattle.dae_program.specs.declared.statements.FormatPiece.TheVariants as piece
 use Rattle.dae_program.specs.Outcomes.{Outcome, Gives, Ends, ◌⊳◌, unless, store, with_written, with_read}
-use Rattle.dae_program.specs.Expressions.{Setup, evaluate as value, with_printed}
+use Rattle.dae_program.specs.Expressions.{ProgramSetup, evaluate as value, with_printed}
 use Rattle.dae_program.specs.Printing.{print_text as text, print_pieces as shown, most_bytes}
 use Rattle.dae_program.specs.Initialising.{set_items as settled, clear as cleared}
 use Rattle.dae_program.specs.Statements.{test as tested, do_effects as evaluated, loop as looped, execute as does, execute_from as does_from}
@@ -59,7 +59,7 @@ text_stays : (most x : ℕ) (e : Env) (w : World) → NotSkips (text most x e w)
 text_stays zero x e w = goes_nowhere _ w
 text_stays (suc most) x e w = not_value (unless (misplaced B1 x (length w.memory)) (Gives (loaded U8 x w.memory) e (with_read w)) w) _ (λ b e w. not_choice (nat_eq b 0) _ _ (goes_next e w) (text_stays most (plus x 1) e (with_printed (spelled Byte b) w)))
 
-shown_stays : (ps : List Piece) (words : List ℕ) (e : Env) (w : World) → NotSkips (shown ps words e w)
+shown_stays : (ps : List FormatPiece) (words : List ℕ) (e : Env) (w : World) → NotSkips (shown ps words e w)
 shown_stays [] words e w = goes_next e w
 shown_stays (piece.Byte b ∷ ps) words e w = shown_stays ps words e _
 shown_stays (piece.Word spelling k ∷ ps) words e w = shown_stays ps words e _
@@ -75,7 +75,7 @@ cleared_stays : (count x : ℕ) (e : Env) (w : World) → NotSkips (cleared coun
 cleared_stays zero x e w = goes_next e w
 cleared_stays (suc count) x e w = not_then _ _ (stores_stays B1 x 0 e (ticked w)) (λ e w. cleared_stays count (plus x 1) e w)
 
-settled_stays : (s : Setup) (items : List Setting) (e : Env) (w : World) → NotSkips (settled s items e w)
+settled_stays : (s : ProgramSetup) (items : List Setting) (e : Env) (w : World) → NotSkips (settled s items e w)
 settled_stays s [] e w = goes_next e w
 settled_stays s (item ∷ items) e w = not_value _ _ (λ x e w. not_then _ _ (stores_stays item.width (plus w.frame item.offset) x e w) (λ e w. settled_stays s items e w))
 
@@ -83,7 +83,7 @@ looped_stays : (test body step : Run Env) (n : ℕ) (e : Env) (w : World) → No
 looped_stays test body step zero e w = goes_nowhere _ w
 looped_stays test body step (suc n) e w = not_loop (test e (ticked w) ▷ body) _ (λ e w. not_loop (step e w) _ (λ e w. looped_stays test body step n e w))
 
-module _ (s : Setup) (n : ℕ) where
+module _ (s : ProgramSetup) (n : ℕ) where
   mutual
     statements_stay : (t : Statements) → continues t ≡ false → (e : Env) (w : World) → NotSkips (does s false n t e w)
     statements_stay tree.Done h e w = goes_next e w

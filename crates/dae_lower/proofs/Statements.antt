@@ -13,9 +13,9 @@ use Rattle.dae_ir.specs.declared.form.Operand.TheVariants.{Number}
 use Rattle.dae_program.specs.Trees as tree
 use Rattle.dae_program.specs.Trees.{Expression, Expressions, Setting, Statements, Arms}
 use Rattle.dae_program.specs.Scope.{IsIn, AreIn, IsSomeIn, AreSettingsIn, AreStatementsIn, AreArmsIn}
-use Rattle.dae_program.specs.declared.statements.Piece.{Piece}
+use Rattle.dae_program.specs.declared.statements.FormatPiece.{FormatPiece}
 use Rattle.dae_program.specs.Outcomes.{Outcome, ◌⊳◌}
-use Rattle.dae_program.specs.Expressions.{Setup, evaluate as value, arguments as values}
+use Rattle.dae_program.specs.Expressions.{ProgramSetup, evaluate as value, arguments as values}
 use Rattle.dae_program.specs.Statements.{loop as looped, test as tested, do_effects as evaluated, execute as does, execute_from as does_from}
 use Rattle.dae_program.specs.Switches.{leave_switch as left, first_arm, arm_with, count_arms, count_labels, with_work}
 use Rattle.dae_program.specs.Printing.{print_pieces as shown}
@@ -30,7 +30,7 @@ use Rattle.dae_lower.proofs.Arguments.{Called}
 use Rattle.dae_lower.proofs.Expressions.{faithful}
 use Rattle.dae_lower.proofs.Doing.{everything, Same, Goes, Halts, kept_everything, same_from, after_statements, Does, cheaper_does, spared_does, skip_does, then_does, value_does, branches_do, loop_does}
 
-module _ (m n : ℕ) (s : Setup) (l : Links) (p : Program) (calls : Calls) (places : (k : ℕ) → s.address k ≡ l.address k) (called : Called m n s l p calls places) (some : 0 < m) where
+module _ (m n : ℕ) (s : ProgramSetup) (l : Links) (p : Program) (calls : Calls) (places : (k : ℕ) → s.address k ≡ l.address k) (called : Called m n s l p calls places) (some : 0 < m) where
   abbrev DoesIt : ℕ → ℕ → ℕ → ℕ → Made (Unit {0}) → Run Env → Type 0
   DoesIt a b q k made r = Does m n p calls a b q k made r
 
@@ -131,7 +131,7 @@ module _ (m n : ℕ) (s : Setup) (l : Links) (p : Program) (calls : Calls) (plac
 
   -- the pieces of a format
   abbrev pub PrintsDo : Type 0
-  PrintsDo = (place : Place) (xs : Expressions) (ps : List Piece) → AreIn m xs → (q : ℕ) → m ≤ q → DoesIt 7 0 q q (operands l xs nowhere q ≫ prints place ps) (λ env w. values s xs env w ⊳ shown ps)
+  PrintsDo = (place : Place) (xs : Expressions) (ps : List FormatPiece) → AreIn m xs → (q : ℕ) → m ≤ q → DoesIt 7 0 q q (operands l xs nowhere q ≫ prints place ps) (λ env w. values s xs env w ⊳ shown ps)
 
   -- zeros, and then items
   abbrev pub InitialisesDo : Type 0

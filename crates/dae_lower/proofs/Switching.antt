@@ -16,7 +16,7 @@ use Rattle.dae_ir.specs.declared.form.Operand.TheVariants.{Variable, Number}
 use Rattle.dae_program.specs.Trees as tree
 use Rattle.dae_program.specs.Trees.{Expression, Statements, Arms}
 use Rattle.dae_program.specs.Outcomes.{Outcome, Gives, Ends, ◌⊳◌}
-use Rattle.dae_program.specs.Expressions.{Setup, evaluate as value}
+use Rattle.dae_program.specs.Expressions.{ProgramSetup, evaluate as value}
 use Rattle.dae_program.specs.Statements.{execute_from as does_from}
 use Rattle.dae_program.specs.Switches.{leave_switch as left, has_label as labelled, arm_with, first_arm, count_arms, count_labels, with_work}
 use Rattle.dae_lower.specs.Lowering.{Made, one, ◌≫◌, ◌⨾◌, nowhere, test_of, Links, ways, where_so, switch, search, search_labels, arms_from, arms_continue}
@@ -106,7 +106,7 @@ left_on : {X : Type 0} (r : Outcome X) (f : X → Run Env) → (r ⊳ λ x env w
 left_on (Gives x env w) f = refl
 left_on (Ends end w) f = refl
 
-module _ (m n : ℕ) (s : Setup) (l : Links) (p : Program) (calls : Calls) (places : (k : ℕ) → s.address k ≡ l.address k) (called : Called m n s l p calls places) (some : 0 < m) (many : 1 ≤ n) where
+module _ (m n : ℕ) (s : ProgramSetup) (l : Links) (p : Program) (calls : Calls) (places : (k : ℕ) → s.address k ≡ l.address k) (called : Called m n s l p calls places) (some : 0 < m) (many : 1 ≤ n) where
   -- behind the search, in variables that it left
   arms_then : (place : Place) (arms : Arms) → ArmsDo m n s l p calls places called some arms → (q v first : ℕ) → m ≤ q → q ≤ v → (goes : Bool) → arms_continue arms ≡ goes → (env e : Env) (w : World) (j t : ℕ) → Agree m env e → e v ≡ first → j + (t + count_arms arms + 8) + w.loads ≤ 9 * w.items →
       Same m q everything t e (left (does_from s false n first arms env w)) (run m n p calls (where_so goes (one place (Assign (v + 1) (Copy (Number 0)))) ⨾ Loop place ((arms_from l place v 0 arms (v + 2)).code ⨾ one place Break) (where_so goes (Do place (Assign (v + 1) (Copy (Number 1))) (one place Break))) (where_so goes (If place (test_of NotEqual (Variable (v + 1)) (Number 0)) (one place Continue) Done Done))) e (at j w))

@@ -14,7 +14,7 @@ use Rattle.dae_ir.specs.declared.form.Operand.TheVariants.{Number}
 use Rattle.dae_program.specs.Trees as tree
 use Rattle.dae_program.specs.Trees.{Expression, Target, Expressions}
 use Rattle.dae_program.specs.Outcomes.{Outcome, Gives, ◌⟫◌}
-use Rattle.dae_program.specs.Expressions.{Setup}
+use Rattle.dae_program.specs.Expressions.{ProgramSetup}
 use Rattle.dae_lower.specs.Lowering.{Made, nothing, skip, set, ◌≫◌, or, nowhere, variable, Condition, isnt_zero, Ways, by_value, Links, ways}
 use Rattle.dae_lower.proofs.Relation.{Kept, Lasts, still, lasts_on, lasts_wider, Alike, Both, Stop}
 use Rattle.dae_lower.proofs.Chains.{Follows, paid, bought, spared, weaker, knowing, chain, recast, given_on}
@@ -34,7 +34,7 @@ pub or_nowhere : (b : Bool) → b ≡ false → (b || false) ≡ false
 or_nowhere true z = cc
 or_nowhere false z = refl
 
-module _ (m n : ℕ) (s : Setup) (l : Links) (p : Program) (calls : Calls) where
+module _ (m n : ℕ) (s : ProgramSetup) (l : Links) (p : Program) (calls : Calls) where
   abbrev pub AsValue : VariableSet → (VariableSet → ℕ → Made Operand) → (Env → World → Outcome ℕ) → Type 0
   AsValue c f g = (later : VariableSet) (k : ℕ) → m ≤ k → Follows m n p calls 0 2 k k c (Lasts m later k) (Anything {X = Unit {0}}) Holding (f later k) (λ x. g)
 

@@ -24,9 +24,9 @@ use Rattle.dae_meaning.specs.declared.Spelling.TheVariants.{Byte}
 use Rattle.dae_ir.specs.declared.form.Check.TheVariants.{Place as Good, Zero, Room, Frame, Abort}
 use Rattle.dae_ir.specs.declared.form.Item.{Item}
 use Rattle.dae_ir.specs.declared.form.Item.TheVariants.{Assign, Load, Store, Print, Expect, Break, Continue, Call, Return, Halt}
-use Rattle.dae_program.specs.declared.statements.Piece.{Piece}
-use Rattle.dae_program.specs.declared.statements.Piece.TheVariants as piece
-use Rattle.dae_program.specs.declared.program.Slot.{Slot}
+use Rattle.dae_program.specs.declared.statements.FormatPiece.{FormatPiece}
+use Rattle.dae_program.specs.declared.statements.FormatPiece.TheVariants as piece
+use Rattle.dae_program.specs.declared.program.FrameSlot.{FrameSlot}
 use Rattle.dae_program.specs.Expressions.{divides}
 use Rattle.dae_program.specs.Printing.{argument}
 use Rattle.dae_program.specs.Switches.{arm_with, count_arms}
@@ -124,9 +124,9 @@ abbrev mutual
 -- ---- single items
 
 -- a target whose address is an operand
-pub data Spot : Type 0 where
-  Local : (v : ℕ) → Spot
-  Placed : (checked : Bool) (address : Operand) → Spot
+pub data Assignee : Type 0 where
+  Local : (v : ℕ) → Assignee
+  Placed : (checked : Bool) (address : Operand) → Assignee
 
 -- a check where the flag says so
 abbrev pub checks : Bool → Place → Item → Form → Form
@@ -143,12 +143,12 @@ fetched place kind checked x n =
     only (checks checked place (Expect (Good (width_of kind) x)) (one place (Load n kind x))) (Variable n) (n + 1)
 
 -- what a target holds, where `copied` says whether a variable is copied
-abbrev pub held : Place → LoadKind → VariableSet → Spot → ℕ → Made Operand
+abbrev pub held : Place → LoadKind → VariableSet → Assignee → ℕ → Made Operand
 held place kind copied (Local v) n = variable (copied v) place v n
 held place kind copied (Placed checked x) n = fetched place kind checked x n
 
 -- a target gets a value, which is given
-abbrev pub put_in : Place → LoadKind → Spot → Operand → ℕ → Made Operand
+abbrev pub put_in : Place → LoadKind → Assignee → Operand → ℕ → Made Operand
 put_in place kind (Local v) y n = only (one place (Assign v (Same y))) y n
 put_in place kind (Placed checked x) y n =
     only (checks checked place (Expect (Good (width_of kind) x)) (one place (Store (width_of kind) x y))) y n
@@ -226,11 +226,11 @@ chosen p s a b c later n =
     ≫ λ x. nothing (Variable n)
 
 -- a target gets an operand and a number
-abbrev pub advanced : Place → LoadKind → ℕ → Spot → Operand → ℕ → Made Operand
+abbrev pub advanced : Place → LoadKind → ℕ → Assignee → Operand → ℕ → Made Operand
 advanced p kind change o x n = set p (Binary Add x (Number change)) n ≫ λ z n. narrowed p kind z n ≫ put_in p kind o
 
 -- one more or less, where `copied` says which variables the old value is copied from
-abbrev pub stepped : Place → LoadKind → (VariableSet → ℕ → Made Spot) → ℕ → Bool → VariableSet → VariableSet → ℕ → Made Operand
+abbrev pub stepped : Place → LoadKind → (VariableSet → ℕ → Made Assignee) → ℕ → Bool → VariableSet → VariableSet → ℕ → Made Operand
 stepped p kind t change new copied later n =
     t later n ≫ λ o n. held p kind copied o n ≫ λ x n. advanced p kind change o x n ≫ λ y. nothing (if new then y else x)
 
@@ -295,7 +295,7 @@ abbrev mutual
   ways l (tree.Exit p a) = by_value (λ later n. (ways l a).value later n ≫ λ x. only (one p (Halt x)) (Number 0))
   ways l (tree.Abort p) = by_value (λ later. only (one p (Expect Abort)) (Number 0))
 
-  pub spot : Links → Target → VariableSet → ℕ → Made Spot
+  pub spot : Links → Target → VariableSet → ℕ → Made Assignee
   spot l (tree.InVariable v) later n = nothing (Local v) n
   spot l (tree.AtAddress checked a) later n = (ways l a).value later n ≫ λ x. nothing (Placed checked x)
 
@@ -348,7 +348,7 @@ text_loop p x n =
     one p (Print Byte (Variable (n + 1)))))))
     (one p (Assign n (Binary Add (Variable n) (Number 1)))) Done)) (n + 2)
 
-abbrev pub prints : Place → List Piece → List Operand → ℕ → Made (Unit {0})
+abbrev pub prints : Place → List FormatPiece → List Operand → ℕ → Made (Unit {0})
 prints p [] xs n = skip n
 prints p (piece.Byte b ∷ ps) xs n = emit (one p (Print Byte (Number b))) n ≫ λ x. prints p ps xs
 prints p (piece.Word spelling k ∷ ps) xs n = emit (one p (Print spelling (argument (Number 0) xs k))) n ≫ λ x. prints p ps xs
@@ -463,7 +463,7 @@ abbrev mutual
 -- ---- functions
 
 -- parameters from number k on are stored in the frame
-abbrev pub parameters_stored : Place → List (Option Slot) → ℕ → ℕ → Made (Unit {0})
+abbrev pub parameters_stored : Place → List (Option FrameSlot) → ℕ → ℕ → Made (Unit {0})
 parameters_stored p [] k n = skip n
 parameters_stored p (None ∷ slots) k n = parameters_stored p slots (k + 1) n
 parameters_stored p (Some slot ∷ slots) k n =

@@ -19,7 +19,7 @@ use Rattle.dae_ir.specs.declared.form.Value.{Value}
 use Rattle.dae_ir.specs.declared.form.Value.TheVariants.{Same, Extended, Binary}
 use Rattle.dae_meaning.specs.declared.Operator.{Operator}
 use Rattle.dae_program.specs.Expressions.{divides}
-use Rattle.dae_lower.specs.Lowering.{Made, ◌⨾◌, ◌≫◌, nothing, only, one, set, variable, fetched, held, put_in, operated, narrowed, checks, may_be_zero, Spot, Local, Placed, Condition, branches, gives}
+use Rattle.dae_lower.specs.Lowering.{Made, ◌⨾◌, ◌≫◌, nothing, only, one, set, variable, fetched, held, put_in, operated, narrowed, checks, may_be_zero, Assignee, Local, Placed, Condition, branches, gives}
 
 abbrev pub AnyTest : Test → Type 0
 AnyTest t = Unit {0}
@@ -114,11 +114,11 @@ fetched_loads : (flag b : Bool) → b ≡ flag → bit b + 0 ≤ bit flag
 fetched_loads flag b e = subst (λ (c : Bool). bit c + 0 ≤ bit flag) (sym e) (omega arith)
 
 -- a target whose old value may lead to an address, and which gets a value
-abbrev pub HeldLeads : Bool → Type 0 → VariableSet → Spot → Type 0
+abbrev pub HeldLeads : Bool → Type 0 → VariableSet → Assignee → Type 0
 HeldLeads flag P s (Local v) = Led flag P s (Variable v)
 HeldLeads flag P s (Placed checked x) = has s x ≡ true
 
-abbrev pub PutLeads : VariableSet → Operand → Spot → Type 0
+abbrev pub PutLeads : VariableSet → Operand → Assignee → Type 0
 PutLeads s y (Local v) = s v ≡ true → has s y ≡ true
 PutLeads s y (Placed checked x) = has s x ≡ true
 
@@ -215,11 +215,11 @@ module _ (wants : ℕ → ℕ → Bool) (own : ℕ → ℕ) (f m : ℕ) where
     fetched_marked {n} flag P p kind true x h = one_new flag _ (Variable n) (λ all fits s own g is. ((h s own g, (h s own g, tt)), (let t = fetched_loads flag (s n) is in omega (arith, t)), omega arith, fresh_led flag P s n is))
     fetched_marked {n} flag P p kind false x h = one_new flag _ (Variable n) (λ all fits s own g is. ((h s own g, tt), (let t = fetched_loads flag (s n) is in omega (arith, t)), omega arith, fresh_led flag P s n is))
 
-    pub held_marked : {n : ℕ} (flag : Bool) (P : Type 0) (p : Place) (kind : LoadKind) (copied : VariableSet) (o : Spot) → ((s : VariableSet) → OwnFits s → G s → HeldLeads flag P s o) → Marked G (Led flag P) n (bit flag) 0 (held p kind copied o n)
+    pub held_marked : {n : ℕ} (flag : Bool) (P : Type 0) (p : Place) (kind : LoadKind) (copied : VariableSet) (o : Assignee) → ((s : VariableSet) → OwnFits s → G s → HeldLeads flag P s o) → Marked G (Led flag P) n (bit flag) 0 (held p kind copied o n)
     held_marked flag P p kind copied (Local v) h = more (omega arith) (omega arith) (variable_marked flag P (copied v) p v h)
     held_marked flag P p kind copied (Placed checked x) h = fetched_marked flag P p kind checked x h
 
-    pub put_marked : {n : ℕ} (flag : Bool) (P : Type 0) (p : Place) (kind : LoadKind) (o : Spot) (y : Operand) → ((s : VariableSet) → OwnFits s → G s → PutLeads s y o × Led flag P s y) → Marked G (Led flag P) n 0 0 (put_in p kind o y n)
+    pub put_marked : {n : ℕ} (flag : Bool) (P : Type 0) (p : Place) (kind : LoadKind) (o : Assignee) (y : Operand) → ((s : VariableSet) → OwnFits s → G s → PutLeads s y o × Led flag P s y) → Marked G (Led flag P) n 0 0 (put_in p kind o y n)
     put_marked flag P p kind (Local v) y h = plain_code _ y (λ all fits s own g. let t = h s own g in ((t.0, tt), omega arith, omega arith, t.1))
     put_marked flag P p kind (Placed true x) y h = plain_code _ y (λ all fits s own g. let t = h s own g in ((t.0, (t.0, tt)), omega arith, omega arith, t.1))
     put_marked flag P p kind (Placed false x) y h = plain_code _ y (λ all fits s own g. let t = h s own g in ((t.0, tt), omega arith, omega arith, t.1))

@@ -18,11 +18,11 @@ use Rattle.dae_meaning.specs.declared.Spelling.TheVariants.{Byte}
 use Rattle.dae_meaning.specs.declared.Operator.TheVariants.{Add}
 use Rattle.dae_meaning.specs.declared.Comparison.{Comparison}
 use Rattle.dae_meaning.specs.declared.Comparison.TheVariants.{Equal}
-use Rattle.dae_program.specs.Lawful.{Bounds, is_sound, are_sound, takes, count}
+use Rattle.dae_program.specs.Lawful.{FunctionBounds, is_sound, are_sound, takes, count}
 use Rattle.dae_program.specs.Wanted.{Wants, IfSo, KeepsWants, KeepArguments, wanted, wanted_arguments, is_open, is_open_operand, open_in, open_in_all}
 use Rattle.dae_program.specs.Trees as tree
 use Rattle.dae_program.specs.Trees.{Expression, Target, Expressions}
-use Rattle.dae_lower.specs.Lowering.{Made, ◌≫◌, nothing, only, emit, skip, one, set, or, assigned, assigned_all, fetched, held, put_in, operated, narrowed, Spot, Local, Placed, test_of, related, isnt_zero, turn, gives, Ways, by_value, chosen, variable, advanced, stepped, assigned_target, Links, ways, spot, operands}
+use Rattle.dae_lower.specs.Lowering.{Made, ◌≫◌, nothing, only, emit, skip, one, set, or, assigned, assigned_all, fetched, held, put_in, operated, narrowed, Assignee, Local, Placed, test_of, related, isnt_zero, turn, gives, Ways, by_value, chosen, variable, advanced, stepped, assigned_target, Links, ways, spot, operands}
 use Rattle.dae_lower_bounds.specs.Voids.{is_void, is_void_test, void_in, void_in_all}
 use Rattle.dae_lower_bounds.proofs.Marked.{Leads, Led, Decides, fresh_led, Any, OwnFits, Marked, chain, more, told, with_new, plain_code, one_new, nothing_marked, set_marked, variable_marked, fetched_marked, HeldLeads, held_marked, PutLeads, put_marked, operated_marked, narrowed_marked, gives_marked, branches_marked}
 
@@ -75,7 +75,7 @@ AllLead flags k s (x ∷ xs) = Leads (flags k) s x × AllLead flags (suc k) s xs
 abbrev pub ArgumentsLead : (ℕ → Bool) → ℕ → ℕ → VariableSet → List Operand → Type 0
 ArgumentsLead flags k many s xs = AllLead flags k s xs × (length xs ≡ many)
 
-module _ (wants : Wants) (own : ℕ → ℕ) (f : ℕ) (b : Bounds) (l : Links) (enough : (g k : ℕ) → takes (b.parameters g) k ≡ true → k < own (l.callee g)) where
+module _ (wants : Wants) (own : ℕ → ℕ) (f : ℕ) (b : FunctionBounds) (l : Links) (enough : (g k : ℕ) → takes (b.parameters g) k ≡ true → k < own (l.callee g)) where
   abbrev Does : {Y : Type 0} (G : VariableSet → Type 0) (Is : VariableSet → Y → Type 0) (n loads tests : ℕ) (made : Made Y) → Type 0
   Does G Is n loads tests made = Marked wants own f b.variables G Is n loads tests made
 
@@ -145,22 +145,22 @@ module _ (wants : Wants) (own : ℕ → ℕ) (f : ℕ) (b : Bounds) (l : Links) 
   -- ---- nodes
 
   -- a place in memory whose address is an operand
-  abbrev SpotLeads : VariableSet → Spot → Type 0
+  abbrev SpotLeads : VariableSet → Assignee → Type 0
   SpotLeads s (Local v) = ⊥
   SpotLeads s (Placed checked x) = has s x ≡ true
 
-  spot_held : (flag : Bool) (P : Type 0) (s : VariableSet) (o : Spot) → SpotLeads s o → HeldLeads flag P s o
+  spot_held : (flag : Bool) (P : Type 0) (s : VariableSet) (o : Assignee) → SpotLeads s o → HeldLeads flag P s o
   spot_held flag P s (Local v) h = absurd h
   spot_held flag P s (Placed checked x) h = h
 
-  spot_put : (s : VariableSet) (y : Operand) (o : Spot) → SpotLeads s o → PutLeads s y o
+  spot_put : (s : VariableSet) (y : Operand) (o : Assignee) → SpotLeads s o → PutLeads s y o
   spot_put s y (Local v) h = absurd h
   spot_put s y (Placed checked x) h = h
 
   spot_does : {c d : Bool} {k t : ℕ} (checked : Bool) (a : Ways) → WaysDo true c d k t a → (G : VariableSet → Type 0) (later : VariableSet) (n : ℕ) → Does G SpotLeads n k t (a.value later n ≫ λ x. nothing (Placed checked x))
   spot_does checked a h G later n = more wants own f b.variables (omega arith) (omega arith) (chain wants own f b.variables (λ x. nothing (Placed checked x)) (h.value G later n) (λ q y o. nothing_marked wants own f b.variables (Placed checked y) (λ s w g. g.1.0 refl)))
 
-  advanced_does : {G : VariableSet → Type 0} {n : ℕ} (flag : Bool) (P : Type 0) (p : Place) (kind : LoadKind) (change : ℕ) (o : Spot) (x : Operand) → ((s : VariableSet) → OwnFits wants own f b.variables s → G s → Leads flag s x × ((y : Operand) → Leads flag s y → PutLeads s y o)) → Does G (Led flag P) n 0 0 (advanced p kind change o x n)
+  advanced_does : {G : VariableSet → Type 0} {n : ℕ} (flag : Bool) (P : Type 0) (p : Place) (kind : LoadKind) (change : ℕ) (o : Assignee) (x : Operand) → ((s : VariableSet) → OwnFits wants own f b.variables s → G s → Leads flag s x × ((y : Operand) → Leads flag s y → PutLeads s y o)) → Does G (Led flag P) n 0 0 (advanced p kind change o x n)
   advanced_does flag P p kind change o x h =
       more wants own f b.variables (omega arith) (omega arith) (chain wants own f b.variables (λ z n. narrowed p kind z n ≫ put_in p kind o) (set_marked wants own f b.variables flag P p (Binary Add x (Number change)) (λ s w g t. and_from (has s x) true ((h s w g).0 t) refl))
       (λ q z u. chain wants own f b.variables (put_in p kind o) (narrowed_marked wants own f b.variables flag P p kind z (λ s w g. g.1)) (λ q y u. put_marked wants own f b.variables flag P p kind o y (λ s w g. ((h s w g.0.0).1 y g.1.0, g.1)))))

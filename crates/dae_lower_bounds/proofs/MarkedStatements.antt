@@ -15,15 +15,15 @@ use Rattle.dae_ir.specs.declared.form.Operand.TheVariants.{Variable, Number}
 use Rattle.dae_ir.specs.declared.form.Value.TheVariants.{FrameAddress}
 use Rattle.dae_meaning.specs.declared.Spelling.TheVariants.{Byte}
 use Rattle.dae_meaning.specs.declared.Comparison.TheVariants.{AtLeastUnsigned}
-use Rattle.dae_program.specs.Lawful.{Bounds, is_sound, are_sound, is_sound_some, are_sound_items, are_sound_statements, are_sound_arms, takes}
+use Rattle.dae_program.specs.Lawful.{FunctionBounds, is_sound, are_sound, is_sound_some, are_sound_items, are_sound_statements, are_sound_arms, takes}
 use Rattle.dae_program.specs.Printing.{argument}
 use Rattle.dae_program.specs.Switches.{arm_with, count_arms}
 use Rattle.dae_program.specs.Wanted.{Wants, is_text, KeepPrinted, KeepSome, KeepItems, KeepStatements, KeepArms, wanted, wanted_printed, wanted_some, wanted_in, wanted_in_arms, is_open, open_in_all, open_in_some, open_test, open_some, count_tests, open_statements, open_arms}
 use Rattle.dae_program.specs.Trees as tree
 use Rattle.dae_program.specs.Trees.{Expression, Expressions, Setting, Statements, Arms}
-use Rattle.dae_program.specs.declared.program.Slot.{Slot}
-use Rattle.dae_program.specs.declared.statements.Piece.{Piece}
-use Rattle.dae_program.specs.declared.statements.Piece.TheVariants as piece
+use Rattle.dae_program.specs.declared.program.FrameSlot.{FrameSlot}
+use Rattle.dae_program.specs.declared.statements.FormatPiece.{FormatPiece}
+use Rattle.dae_program.specs.declared.statements.FormatPiece.TheVariants as piece
 use Rattle.dae_lower.specs.Lowering.{Made, ◌≫◌, nothing, emit, one, nowhere, or, assigned_all, test_of, Links, ways, operands, leave_unless, leave_unless_some, effect_of_some, loop, unread, preheader, headed_loop, text_loop, prints, turn_bytes, zeros_at, zeros, settings, arms_continue, search_labels, search, switch, statements, arms_from, parameters_stored}
 use Rattle.dae_lower_bounds.specs.Constants.{IsConstant, AreConstant, InitialisesConstants, ArmsInitialiseConstants}
 use Rattle.dae_lower_bounds.specs.Voids.{is_void_test, void_in_all, void_in_some, void_test, void_some, count_labels, void_statements, void_arms}
@@ -136,7 +136,7 @@ switch_tests : (s : VariableSet) (goes_on : Bool) (p : Place) (x : Operand) (n o
 switch_tests s true p x n other searching arms unset = let h = tests_then s arms.code (one p Break) in let z = no_bit (s (n + 1)) true unset in omega (arith, h, z)
 switch_tests s false p x n other searching arms unset = let h = tests_then s arms.code (one p Break) in omega (arith, h)
 
-module _ (wants : Wants) (own : ℕ → ℕ) (f : ℕ) (b : Bounds) (some : 0 < b.variables) (l : Links) (enough : (g k : ℕ) → takes (b.parameters g) k ≡ true → k < own (l.callee g)) where
+module _ (wants : Wants) (own : ℕ → ℕ) (f : ℕ) (b : FunctionBounds) (some : 0 < b.variables) (l : Links) (enough : (g k : ℕ) → takes (b.parameters g) k ≡ true → k < own (l.callee g)) where
   abbrev Does : {Y : Type 0} (G : VariableSet → Type 0) (Is : VariableSet → Y → Type 0) (n loads tests : ℕ) (made : Made Y) → Type 0
   Does G Is n loads tests made = Marked wants own f b.variables G Is n loads tests made
 
@@ -213,7 +213,7 @@ module _ (wants : Wants) (own : ℕ → ℕ) (f : ℕ) (b : Bounds) (some : 0 < 
 
   -- ---- printing
 
-  printed_do : (pieces : List Piece) (k : ℕ) (xs : Expressions) → are_sound b xs ≡ true → KeepPrinted wants l.callee f pieces k xs → (G : VariableSet → Type 0) (later : VariableSet) (n : ℕ) → Does G (AllLead (λ j. is_text j pieces) k) n (wanted_printed wants l.callee f pieces k xs) (open_in_all (wants f) xs + void_in_all xs) (operands l xs later n)
+  printed_do : (pieces : List FormatPiece) (k : ℕ) (xs : Expressions) → are_sound b xs ≡ true → KeepPrinted wants l.callee f pieces k xs → (G : VariableSet → Type 0) (later : VariableSet) (n : ℕ) → Does G (AllLead (λ j. is_text j pieces) k) n (wanted_printed wants l.callee f pieces k xs) (open_in_all (wants f) xs + void_in_all xs) (operands l xs later n)
   printed_do pieces k tree.no_expressions h w G later n = more wants own f b.variables (omega arith) (omega arith) (nothing_marked wants own f b.variables [] (λ s c g. tt))
   printed_do pieces k (tree.expression_then x xs) h w G later n =
       more wants own f b.variables (omega arith) (omega arith) (chain wants own f b.variables (λ x n. operands l xs later n ≫ λ xs. nothing (x ∷ xs)) ((expression_does wants own f b l enough (is_text k pieces) x (and_first _ _ h) w.0).value G (or later (assigned_all xs)) n)
@@ -231,7 +231,7 @@ module _ (wants : Wants) (own : ℕ → ℕ) (f : ℕ) (b : Bounds) (some : 0 < 
         (((λ t. h s w g), (((at, (at, (tt, tt, (tt, tt), (tt, tt)))), ((λ t. and_from (s n) true at refl), tt), tt))), omega (arith, none), omega (arith, no_test), tt);
   }
 
-  prints_do : {G : VariableSet → Type 0} (p : Place) (ps : List Piece) (xs : List Operand) → ((s : VariableSet) → OwnFits wants own f b.variables s → G s → (j : ℕ) → is_text j ps ≡ true → has s (argument (Number 0) xs j) ≡ true) → (n : ℕ) → Does G Any n 0 0 (prints p ps xs n)
+  prints_do : {G : VariableSet → Type 0} (p : Place) (ps : List FormatPiece) (xs : List Operand) → ((s : VariableSet) → OwnFits wants own f b.variables s → G s → (j : ℕ) → is_text j ps ≡ true → has s (argument (Number 0) xs j) ≡ true) → (n : ℕ) → Does G Any n 0 0 (prints p ps xs n)
   prints_do p [] xs h n = nothing_marked wants own f b.variables tt (λ s w g. tt)
   prints_do p (piece.Byte c ∷ ps) xs h n = more wants own f b.variables (omega arith) (omega arith) (chain wants own f b.variables (λ x. prints p ps xs) (printed_item n p (Print Byte (Number c)) (λ all s. tt) (λ s. omega arith)) (λ q y o. prints_do p ps xs (λ s w g. h s w g.0) q))
   prints_do p (piece.Word spelling k ∷ ps) xs h n = more wants own f b.variables (omega arith) (omega arith) (chain wants own f b.variables (λ x. prints p ps xs) (printed_item n p (Print spelling (argument (Number 0) xs k)) (λ all s. tt) (λ s. omega arith)) (λ q y o. prints_do p ps xs (λ s w g. h s w g.0) q))
@@ -346,13 +346,13 @@ module _ (wants : Wants) (own : ℕ → ℕ) (f : ℕ) (b : Bounds) (some : 0 < 
 
   -- ---- functions
 
-  parameters_do : {G : VariableSet → Type 0} (p : Place) (slots : List (Option Slot)) (k n : ℕ) → Does G Any n 0 0 (parameters_stored p slots k n)
+  parameters_do : {G : VariableSet → Type 0} (p : Place) (slots : List (Option FrameSlot)) (k n : ℕ) → Does G Any n 0 0 (parameters_stored p slots k n)
   parameters_do p [] k n = nothing_marked wants own f b.variables tt (λ s w g. tt)
   parameters_do p (None ∷ slots) k n = parameters_do p slots (k + 1) n
   parameters_do {G} p (Some slot ∷ slots) k n = more wants own f b.variables (omega arith) (omega arith) (chain wants own f b.variables (λ x. parameters_stored p slots (k + 1)) stored (λ q y o. parameters_do p slots (k + 1) q)) where
     stored : Does G Any n 0 0 (emit (Do p (Assign n (FrameAddress slot.offset)) (one p (Store slot.width (Variable n) (Variable k)))) (n + 1))
     stored = one_new wants own f b.variables true (Do p (Assign n (FrameAddress slot.offset)) (one p (Store slot.width (Variable n) (Variable k)))) tt (λ all fits s w g is. (((λ t. refl), (is, tt)), omega arith, omega arith, tt))
 
-  pub function_does : (p : Place) (slots : List (Option Slot)) (body : Statements) → are_sound_statements b body ≡ true → KeepStatements wants l.callee f body → InitialisesConstants body →
+  pub function_does : (p : Place) (slots : List (Option FrameSlot)) (body : Statements) → are_sound_statements b body ≡ true → KeepStatements wants l.callee f body → InitialisesConstants body →
       Does (λ s. Unit {0}) Any b.variables (wanted_in wants l.callee f body) (open_statements (wants f) body + void_statements body) (parameters_stored p slots 1 b.variables ≫ λ x. statements l body)
   function_does p slots body h w c = more wants own f b.variables (omega arith) (omega arith) (chain wants own f b.variables (λ x. statements l body) (parameters_do p slots 1 b.variables) (λ q y o. statements_do body h w c _ q))

@@ -9,39 +9,39 @@ use Rattle.dae_ir.specs.declared.form.Statement.{Statement}
 use Rattle.dae_ir.specs.declared.form.Test.{Test}
 use Rattle.dae_lower.specs.Lowering.{nowhere, Made, Condition, ◌≫◌, ◌⨾◌, nothing, skip, emit, or, branches}
 use Rattle.dae_lower_expressions.proofs.Counting.{with_never, part_last, counted_both}
-use Rattle.dae_lower_expressions.specs.Lowered.{State, Lowers, IsBlock, Whole, WroteBlock}
+use Rattle.dae_lower_expressions.specs.Lowered.{LoweringState, Lowers, IsBlock, Whole, WroteBlock}
 use Rattle.dae_lower_maker.proofs.Laws.{after_fits, after_full, after_grows, behind_behind, behind_done, below_or_last, late_then, late_there, nothing_written, written_on}
-use Rattle.dae_lower_maker.specs.Counting.{Counts, never, both, is_counted, Changes}
+use Rattle.dae_lower_maker.specs.Counting.{MarkCounts, never, both, is_counted, Changes}
 use Rattle.dae_lower_maker.specs.declared.later.Change.TheVariants.{Add}
-use Rattle.dae_lower_maker.specs.Making.{Written, Writes, Wrote, forked}
+use Rattle.dae_lower_maker.specs.Making.{CodeSoFar, Writes, Wrote, forked}
 use Rattle.dae_lower_maker.specs.Numbers.{late, late_in, number_after}
 
 -- what holds no others
-pub leaf_lowered : {Y : Type 0} (made : VariableSet → ℕ → Made Y) (a b : State) (y : Y) → b.later ≡ a.later → Writes (made (is_counted a.later) a.written.next) a.written b.written y → Lowers made never a b y
+pub leaf_lowered : {Y : Type 0} (made : VariableSet → ℕ → Made Y) (a b : LoweringState) (y : Y) → b.later ≡ a.later → Writes (made (is_counted a.later) a.written.next) a.written b.written y → Lowers made never a b y
 leaf_lowered made a b y same h = record {
-  by = λ rest e. let k = e ∙ with_never rest in (same ∙ k, subst (λ (c : Counts). Writes (made (is_counted c) a.written.next) a.written b.written y) k h);
+  by = λ rest e. let k = e ∙ with_never rest in (same ∙ k, subst (λ (c : MarkCounts). Writes (made (is_counted c) a.written.next) a.written b.written y) k h);
 }
 
 -- nothing is written
-pub nothing_lowered : {Y : Type 0} (a : State) (y : Y) → Lowers (λ later. nothing y) never a a y
+pub nothing_lowered : {Y : Type 0} (a : LoweringState) (y : Y) → Lowers (λ later. nothing y) never a a y
 nothing_lowered a y = leaf_lowered (λ later. nothing y) a a y refl (nothing_written a.written y)
 
 -- a part, and what holds no others
-pub then_lowered : {X Y : Type 0} (f : VariableSet → ℕ → Made X) (g : X → ℕ → Made Y) (some : Counts) (a b c : State) (x : X) (y : Y) → Lowers f some a b x → c.later ≡ b.later → Writes (g x b.written.next) b.written c.written y → Lowers (λ later n. f later n ≫ g) some a c y
+pub then_lowered : {X Y : Type 0} (f : VariableSet → ℕ → Made X) (g : X → ℕ → Made Y) (some : MarkCounts) (a b c : LoweringState) (x : X) (y : Y) → Lowers f some a b x → c.later ≡ b.later → Writes (g x b.written.next) b.written c.written y → Lowers (λ later n. f later n ≫ g) some a c y
 then_lowered f g some a b c x y h same k = record {
   by = λ rest e. let i = h.by rest e in (same ∙ i.0, written_on (f (is_counted rest) a.written.next) g a.written b.written c.written x y i.1 k);
 }
 
 -- a part for its effects
-pub dropped_lowered : {X : Type 0} (f : VariableSet → ℕ → Made X) (some : Counts) (a b : State) (x : X) → Lowers f some a b x → Lowers (λ later n. f later n ≫ λ x. skip) some a b tt
+pub dropped_lowered : {X : Type 0} (f : VariableSet → ℕ → Made X) (some : MarkCounts) (a b : LoweringState) (x : X) → Lowers f some a b x → Lowers (λ later n. f later n ≫ λ x. skip) some a b tt
 dropped_lowered f some a b x h = then_lowered f (λ x. skip) some a b b x tt h refl (nothing_written b.written tt)
 
 -- a part that gives something else
-pub given_lowered : {X Y : Type 0} (f : VariableSet → ℕ → Made X) (g : X → Y) (some : Counts) (a b : State) (x : X) → Lowers f some a b x → Lowers (λ later n. f later n ≫ λ x. nothing (g x)) some a b (g x)
+pub given_lowered : {X Y : Type 0} (f : VariableSet → ℕ → Made X) (g : X → Y) (some : MarkCounts) (a b : LoweringState) (x : X) → Lowers f some a b x → Lowers (λ later n. f later n ≫ λ x. nothing (g x)) some a b (g x)
 given_lowered f g some a b x h = then_lowered f (λ x. nothing (g x)) some a b b x (g x) h refl (nothing_written b.written (g x))
 
 -- two parts, of which the second assigns the variables of a set
-pub both_lowered : {X Y : Type 0} (f : VariableSet → ℕ → Made X) (g : X → VariableSet → ℕ → Made Y) (some others : Counts) (s : VariableSet) (a b c : State) (x : X) (y : Y) → is_counted others ≡ s → Lowers f some a b x → Lowers (g x) others b c y → Lowers (λ later n. f (or later s) n ≫ λ x. g x later) (both some others) a c y
+pub both_lowered : {X Y : Type 0} (f : VariableSet → ℕ → Made X) (g : X → VariableSet → ℕ → Made Y) (some others : MarkCounts) (s : VariableSet) (a b c : LoweringState) (x : X) (y : Y) → is_counted others ≡ s → Lowers f some a b x → Lowers (g x) others b c y → Lowers (λ later n. f (or later s) n ≫ λ x. g x later) (both some others) a c y
 both_lowered f g some others s a b c x y told h k = record {
   by = λ rest e.
       let i = h.by (both rest others) (e ∙ part_last rest some others) in
@@ -51,8 +51,8 @@ both_lowered f g some others s a b c x y told h k = record {
 }
 
 -- the same assignments
-pub same_lowered : {Y : Type 0} (f : VariableSet → ℕ → Made Y) (some others : Counts) (a b : State) (y : Y) → some ≡ others → Lowers f some a b y → Lowers f others a b y
-same_lowered f some others a b y e h = subst (λ (c : Counts). Lowers f c a b y) e h
+pub same_lowered : {Y : Type 0} (f : VariableSet → ℕ → Made Y) (some others : MarkCounts) (a b : LoweringState) (y : Y) → some ≡ others → Lowers f some a b y → Lowers f others a b y
+same_lowered f some others a b y e h = subst (λ (c : MarkCounts). Lowers f c a b y) e h
 
 -- ---- branches
 
@@ -66,7 +66,7 @@ late_branches place cond f g =
     let i = fork_late cond.given.turned place cond.given.test (f cond.next).code (g (f cond.next).next).code in omega (arith, s, i)
 
 -- what is written last is the branches
-pub branched : (place : Place) (cond : Made Condition) (f g : ℕ → Made (Unit {0})) (a b d e z : Written) (c : Condition) (inner outer : List Statement) → Writes cond a b c → IsBlock (f b.next) b d inner → IsBlock (g d.next) d e outer → Writes (emit (forked place c (form_of inner) (form_of outer)) e.next) e z tt → Writes (branches place cond f g) a z tt
+pub branched : (place : Place) (cond : Made Condition) (f g : ℕ → Made (Unit {0})) (a b d e z : CodeSoFar) (c : Condition) (inner outer : List Statement) → Writes cond a b c → IsBlock (f b.next) b d inner → IsBlock (g d.next) d e outer → Writes (emit (forked place c (form_of inner) (form_of outer)) e.next) e z tt → Writes (branches place cond f g) a z tt
 branched place cond f g a b d e z c inner outer w i j p = record {
   grows = omega (arith, w.grows, i.grows, j.grows, p.grows);
   fits = λ lt. wrote (w.fits (omega (arith, i.grows, j.grows, p.grows, lt))) (i.fits (omega (arith, j.grows, p.grows, lt))) (j.fits (omega (arith, p.grows, lt))) (p.fits lt);
@@ -121,7 +121,7 @@ branched place cond f g a b d e z c inner outer w i j p = record {
   by_first start (inr lb) over = let some = w.full start lb in omega (arith, all, some)
 
 -- a block for which the next variable stays
-pub exact_block : (made : Made (Unit {0})) (a b : Written) (inner : List Statement) → WroteBlock made a b inner → made.next ≡ a.next → IsBlock made a b inner
+pub exact_block : (made : Made (Unit {0})) (a b : CodeSoFar) (inner : List Statement) → WroteBlock made a b inner → made.next ≡ a.next → IsBlock made a b inner
 exact_block made a b inner h same = record {
   grows = omega (arith, h.next, same);
   fits = λ lt. h;
@@ -129,7 +129,7 @@ exact_block made a b inner h same = record {
 }
 
 -- one variable is left to what is written, which sets it
-reserved : (f : ℕ → Made (Unit {0})) (a c : Written) (v : ℕ) → v ≡ a.next → Writes (f (number_after v)) (record { code = a.code; next = number_after v }) c tt → late v ≤ late_in (f (v + 1)).code → Writes (f (v + 1) ≫ λ x. nothing (Variable v)) a c (Variable v)
+reserved : (f : ℕ → Made (Unit {0})) (a c : CodeSoFar) (v : ℕ) → v ≡ a.next → Writes (f (number_after v)) (record { code = a.code; next = number_after v }) c tt → late v ≤ late_in (f (v + 1)).code → Writes (f (v + 1) ≫ λ x. nothing (Variable v)) a c (Variable v)
 reserved f a c v is w sets = record {
   grows = let g = after_grows v in omega (arith, is, g, w.grows);
   fits = λ lt. wrote (after_fits v (omega (arith, w.grows, lt))) (w.fits lt);
@@ -151,17 +151,17 @@ reserved f a c v is w sets = record {
       let more = after_full v le in
       let one = late_there v (omega (arith, more)) in omega (arith, all, one, sets)
 
-pub reserved_lowered : (f : ℕ → VariableSet → ℕ → Made (Unit {0})) (some : Counts) (a b c : State) (v : ℕ) → v ≡ a.written.next → b.written ≡ record { code = a.written.code; next = number_after v } → b.later ≡ a.later → ((later : VariableSet) → late v ≤ late_in (f v later (v + 1)).code) → Lowers (f v) some b c tt → Lowers (λ later n. f n later (n + 1) ≫ λ x. nothing (Variable n)) some a c (Variable v)
+pub reserved_lowered : (f : ℕ → VariableSet → ℕ → Made (Unit {0})) (some : MarkCounts) (a b c : LoweringState) (v : ℕ) → v ≡ a.written.next → b.written ≡ record { code = a.written.code; next = number_after v } → b.later ≡ a.later → ((later : VariableSet) → late v ≤ late_in (f v later (v + 1)).code) → Lowers (f v) some b c tt → Lowers (λ later n. f n later (n + 1) ≫ λ x. nothing (Variable n)) some a c (Variable v)
 reserved_lowered f some a b c v is after same sets h = record {
   by = λ rest e.
       let k = h.by rest (same ∙ e) in
-      let w = subst (λ (s : Written). Writes (f v (is_counted rest) s.next) s c.written tt) after k.1 in
+      let w = subst (λ (s : CodeSoFar). Writes (f v (is_counted rest) s.next) s c.written tt) after k.1 in
       let u = reserved (f v (is_counted rest)) a.written c.written v is w (sets (is_counted rest)) in
       (k.0, subst (λ (n : ℕ). Writes (f n (is_counted rest) (n + 1) ≫ λ x. nothing (Variable n)) a.written c.written (Variable v)) is u);
 }
 
 -- what is counted first, and lowered then, is a whole
-pub whole_made : {Y : Type 0} (made : VariableSet → ℕ → Made Y) (some old now : Counts) (a : Written) (b : State) (y : Y) → Changes Add some old now → Lowers made some (record { written = a; later = now }) b y → Whole (made nowhere) (record { written = a; later = old }) b y
+pub whole_made : {Y : Type 0} (made : VariableSet → ℕ → Made Y) (some old now : MarkCounts) (a : CodeSoFar) (b : LoweringState) (y : Y) → Changes Add some old now → Lowers made some (record { written = a; later = now }) b y → Whole (made nowhere) (record { written = a; later = old }) b y
 whole_made made some old now a b y h k = record {
   by = λ e. let i = k.by never (h ∙ ap (λ c. both c some) e) in (i.0, i.1);
 }

@@ -2,7 +2,7 @@
 use Rattle.std.proofs.Common.{◌≡◌, ℕ, ◌+◌, Bool, true, false, not, ◌||◌, nat_eq, if◌then◌else◌, refl, ap, sym, ◌∙◌, arith, add-zero, zero-add}
 use Rattle.std.proofs.lemmas.Bool.Decides.{nat_tests}
 use Rattle.dae_lower.specs.Lowering.{or, assigned, assigned_in, assigned_target, assigned_all}
-use Rattle.dae_lower_maker.specs.Counting.{Counts, never, both, is_counted, Changes}
+use Rattle.dae_lower_maker.specs.Counting.{MarkCounts, never, both, is_counted, Changes}
 use Rattle.dae_lower_maker.specs.declared.later.Change.{Change}
 use Rattle.dae_lower_maker.specs.declared.later.Change.TheVariants.{Add, Remove}
 use Rattle.dae_lower_expressions.specs.Assignments.{assignments, target_assignments, all_assignments}
@@ -16,19 +16,19 @@ same_counts c d h = λ i v. h v i
 swapped : (m n k : ℕ) → m + (n + k) ≡ (m + k) + n
 swapped m n k = omega arith
 
-pub with_never : (c : Counts) → both c never ≡ c
+pub with_never : (c : MarkCounts) → both c never ≡ c
 with_never c = same_counts (both c never) c (λ v. add-zero (c v))
 
-pub never_with : (c : Counts) → both never c ≡ c
+pub never_with : (c : MarkCounts) → both never c ≡ c
 never_with c = same_counts (both never c) c (λ v. zero-add (c v))
 
 together : (m n k : ℕ) → m + (n + k) ≡ (m + n) + k
 together m n k = omega arith
 
-pub parts_together : (c d e : Counts) → both c (both d e) ≡ both (both c d) e
+pub parts_together : (c d e : MarkCounts) → both c (both d e) ≡ both (both c d) e
 parts_together c d e = same_counts (both c (both d e)) (both (both c d) e) (λ v. together (c v) (d v) (e v))
 
-pub part_last : (c d e : Counts) → both c (both d e) ≡ both (both c e) d
+pub part_last : (c d e : MarkCounts) → both c (both d e) ≡ both (both c e) d
 part_last c d e = same_counts (both c (both d e)) (both (both c e) d) (λ v. swapped (c v) (d v) (e v))
 
 -- ---- sets
@@ -40,7 +40,7 @@ sum_isnt_zero m n = by (nat_eq m 0) (nat_eq n 0) refl refl where
   by true false h k = let e : nat_eq (m + n) 0 ≡ false = grind (arith, nat_tests, h, k) in ap not e
   by false b h k = let e : nat_eq (m + n) 0 ≡ false = grind (arith, nat_tests, h, k) in ap not e
 
-pub counted_both : (c d : Counts) → is_counted (both c d) ≡ or (is_counted c) (is_counted d)
+pub counted_both : (c d : MarkCounts) → is_counted (both c d) ≡ or (is_counted c) (is_counted d)
 counted_both c d = same_counts (is_counted (both c d)) (or (is_counted c) (is_counted d)) (λ v. sum_isnt_zero (c v) (d v))
 
 bit_isnt_zero : (b : Bool) → not (nat_eq (if b then 1 else 0) 0) ≡ b
@@ -109,7 +109,7 @@ all_told xs = same_counts (is_counted (all_assignments xs)) (assigned_all xs) (t
 
 -- ---- changes
 
-pub never_changed : (change : Change) (c : Counts) → Changes change never c c
+pub never_changed : (change : Change) (c : MarkCounts) → Changes change never c c
 never_changed Add c = sym (with_never c)
 never_changed Remove c = λ rest h. h ∙ with_never rest
 
@@ -117,21 +117,21 @@ associated : (m n k : ℕ) → (m + n) + k ≡ m + (n + k)
 associated m n k = omega arith
 
 -- one part after the other
-pub both_changed : (change : Change) (some others a b c : Counts) → Changes change some a b → Changes change others b c → Changes change (both some others) a c
+pub both_changed : (change : Change) (some others a b c : MarkCounts) → Changes change some a b → Changes change others b c → Changes change (both some others) a c
 both_changed Add some others a b c h k = k ∙ ap (λ d. both d others) h ∙ same_counts (both (both a some) others) (both a (both some others)) (λ v. associated (a v) (some v) (others v))
 both_changed Remove some others a b c h k = λ rest e. k rest (h (both rest others) (e ∙ part_last rest some others))
 
 -- the first items of a list, and then the others
-pub record Counted (change : Change) (xs : Expressions) (old now : Counts) (ys : Expressions) : Type 0 where
-  pub follows : (new : Counts) → Changes change (all_assignments ys) now new → Changes change (all_assignments xs) old new
+pub record Counted (change : Change) (xs : Expressions) (old now : MarkCounts) (ys : Expressions) : Type 0 where
+  pub follows : (new : MarkCounts) → Changes change (all_assignments ys) now new → Changes change (all_assignments xs) old new
 
-pub first_counted : (change : Change) (xs : Expressions) (old : Counts) → Counted change xs old old xs
+pub first_counted : (change : Change) (xs : Expressions) (old : MarkCounts) → Counted change xs old old xs
 first_counted change xs old = record { follows = λ new h. h }
 
-pub next_counted : (change : Change) (xs : Expressions) (old now new : Counts) (y : Expression) (ys zs : Expressions) → zs ≡ expression_then y ys → Counted change xs old now zs → Changes change (assignments y) now new → Counted change xs old new ys
+pub next_counted : (change : Change) (xs : Expressions) (old now new : MarkCounts) (y : Expression) (ys zs : Expressions) → zs ≡ expression_then y ys → Counted change xs old now zs → Changes change (assignments y) now new → Counted change xs old new ys
 next_counted change xs old now new y ys zs e h k = record {
   follows = λ last g. h.follows last (rw e (both_changed change (assignments y) (all_assignments ys) now new last k g));
 }
 
-pub last_counted : (change : Change) (xs : Expressions) (old now : Counts) (ys : Expressions) → ys ≡ no_expressions → Counted change xs old now ys → Changes change (all_assignments xs) old now
+pub last_counted : (change : Change) (xs : Expressions) (old now : MarkCounts) (ys : Expressions) → ys ≡ no_expressions → Counted change xs old now ys → Changes change (all_assignments xs) old now
 last_counted change xs old now ys e h = h.follows now (rw e (never_changed change now))

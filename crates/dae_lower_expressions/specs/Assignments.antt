@@ -1,9 +1,9 @@
 -- How often an expression assigns each variable.
-use Rattle.dae_lower_maker.specs.Counting.{Counts, never, once, both}
+use Rattle.dae_lower_maker.specs.Counting.{MarkCounts, never, once, both}
 use Rattle.dae_program.specs.Trees.{Expression, Target, Expressions, Number, Address, Frame, Variable, Read, Convert, Not, Binary, Compare, And, Or, Conditional, Comma, Assign, Update, Step, Call, Putchar, Exit, Abort, InVariable, AtAddress, no_expressions, expression_then}
 
 abbrev mutual
-  pub assignments : Expression → Counts
+  pub assignments : Expression → MarkCounts
   assignments (Number k) = never
   assignments (Address object offset) = never
   assignments (Frame p offset) = never
@@ -26,10 +26,10 @@ abbrev mutual
   assignments (Abort p) = never
 
   -- what is assigned, and before that
-  pub target_assignments : Target → Counts
+  pub target_assignments : Target → MarkCounts
   target_assignments (InVariable v) = once v
   target_assignments (AtAddress checked a) = assignments a
 
-  pub all_assignments : Expressions → Counts
+  pub all_assignments : Expressions → MarkCounts
   all_assignments no_expressions = never
   all_assignments (expression_then a xs) = both (assignments a) (all_assignments xs)

@@ -9,11 +9,11 @@ ghost use Rattle.dae_lower_maker.specs.Making.{condition_of, spot_of};
 ghost use Rattle.dae_program.specs.Views.{view, view_expressions, view_target};
 
 use crate::assignments::count;
-use crate::leaves::{Part, address, callee, constant, nonzero, turn};
+use crate::leaves::{BranchPurpose, address, callee, constant, nonzero, turn};
 use crate::lowerer::Lowerer;
 use dae_base::{Items, LoadKind};
 use dae_ir::{Check, Item, Operand, Statement, Test, Value};
-use dae_lower_maker::{Change, Condition, Increment, Location, Lvalue, Spot, test_of};
+use dae_lower_maker::{Assignee, Change, Condition, Increment, Location, Lvalue, test_of};
 use dae_meaning::{Comparison, Spelling};
 use dae_program::{Expression, Fixity, Links, Target};
 use std::alloc::AllocError;
@@ -79,7 +79,7 @@ impl Lowerer {
             Expression::And(place, a, b) => {
                 let v = self.maker.reserve();
                 let condition = self.condition(links, none, a)?;
-                let holds = self.block(links, none, Part::Truth(*place, v), b)?;
+                let holds = self.block(links, none, BranchPurpose::Truth(*place, v), b)?;
                 let fails = constant(self.alloc, *place, v, 0)?;
                 self.maker.branch(*place, condition, holds, fails)?;
                 Ok(Operand::Variable(v))
@@ -88,13 +88,13 @@ impl Lowerer {
                 let v = self.maker.reserve();
                 let condition = self.condition(links, none, a)?;
                 let holds = constant(self.alloc, *place, v, 1)?;
-                let fails = self.block(links, none, Part::Truth(*place, v), b)?;
+                let fails = self.block(links, none, BranchPurpose::Truth(*place, v), b)?;
                 self.maker.branch(*place, condition, holds, fails)?;
                 Ok(Operand::Variable(v))
             }
             Expression::Conditional(place, a, b, c) => {
                 let v = self.maker.reserve();
-                let part = Part::Value(*place, v);
+                let part = BranchPurpose::Value(*place, v);
                 let condition = self.condition(links, none, a)?;
                 count(&mut self.later, Change::Remove, c)?;
                 let holds = self.block(links, none, part, b)?;
@@ -193,9 +193,9 @@ impl Lowerer {
             Expression::Conditional(place, a, b, c) => {
                 let condition = self.condition(links, none, a)?;
                 count(&mut self.later, Change::Remove, c)?;
-                let holds = self.block(links, none, Part::Effect, b)?;
+                let holds = self.block(links, none, BranchPurpose::Effect, b)?;
                 count(&mut self.later, Change::Add, c)?;
-                let fails = self.block(links, none, Part::Effect, c)?;
+                let fails = self.block(links, none, BranchPurpose::Effect, c)?;
                 self.maker.branch(*place, condition, holds, fails)?;
                 Ok(())
             }
@@ -265,7 +265,7 @@ impl Lowerer {
 
     /// What is assigned, once its address is known.
     #[cycle(lower)]
-    fn spot(&mut self, links: &Links, none: u32, t: &Target) -> Result<Spot, AllocError>
+    fn spot(&mut self, links: &Links, none: u32, t: &Target) -> Result<Assignee, AllocError>
         ensures { IfOk result
             (λ o. LowersTo (spot (links_in none links.now) (view_target t.now))
             (target_assignments (view_target t.now)) self.old self.new (spot_of o)) }
@@ -273,11 +273,11 @@ impl Lowerer {
         match t {
             Target::Variable(v) => {
                 self.later.change(*v, Change::Remove)?;
-                Ok(Spot::Variable(*v))
+                Ok(Assignee::Variable(*v))
             }
             Target::Object(checked, a) => {
                 let x = self.value(links, none, a)?;
-                Ok(Spot::Object(Location {
+                Ok(Assignee::Object(Location {
                     address: x,
                     checked: *checked,
                 }))
@@ -330,7 +330,7 @@ impl Lowerer {
         &mut self,
         links: &Links,
         none: u32,
-        part: Part,
+        part: BranchPurpose,
         e: &Expression,
     ) -> Result<Vec<Statement>, AllocError>
         ensures { IfOk result
@@ -349,7 +349,7 @@ impl Lowerer {
         &mut self,
         links: &Links,
         none: u32,
-        part: Part,
+        part: BranchPurpose,
         e: &Expression,
     ) -> Result<(), AllocError>
         ensures { IfOk result
@@ -357,19 +357,19 @@ impl Lowerer {
             (assignments (view e.now)) self.old self.new) }
     {
         match part {
-            Part::Value(place, v) => {
+            BranchPurpose::Value(place, v) => {
                 let x = self.value(links, none, e)?;
                 self.maker.item(place, Item::Assign(v, Value::Same(x)))?;
                 Ok(())
             }
-            Part::Truth(place, v) => {
+            BranchPurpose::Truth(place, v) => {
                 let condition = self.condition(links, none, e)?;
                 let holds = constant(self.alloc, place, v, 1)?;
                 let fails = constant(self.alloc, place, v, 0)?;
                 self.maker.branch(place, condition, holds, fails)?;
                 Ok(())
             }
-            Part::Effect => {
+            BranchPurpose::Effect => {
                 self.effect(links, none, e)?;
                 Ok(())
             }

@@ -21,7 +21,7 @@ use std::alloc::{AllocError, Global};
 /// What an expression in a branch is for: a variable gets its value, or 1 or 0 as it isn't or is 0, or its effects are
 /// wanted.
 #[derive(Clone, Copy)]
-pub enum Part {
+pub enum BranchPurpose {
     Value(Place, u32),
     Truth(Place, u32),
     Effect,

@@ -6,7 +6,7 @@ use Rattle.dae_base.proofs.Laws.{all_at}
 use Rattle.dae_meaning.specs.Worlds.{World, ticked}
 use Rattle.dae_meaning.specs.Variables.{Env, put, entered}
 use Rattle.dae_meaning.specs.Results.{Result, Run, ◌▷◌, turns, within, checked}
-use Rattle.dae_ir.specs.Code.{Done, Do, If, Loop, Each, exec, Meaning}
+use Rattle.dae_ir.specs.Code.{Done, Do, If, Loop, Each, exec, CodeMeaning}
 use Rattle.dae_ir.specs.Form.{Form, Program as FormProgram, Calls, does, meaning, calls_of, all_loads, fault, values, holds, called, ended, deeper}
 use Rattle.dae_ir.specs.Scope.{ItemIn, TestIn, TakesArguments, FunctionIn, IsMain, IsScoped}
 use Rattle.dae_ir.specs.Programs.{body_in, frame_in, outcome}
@@ -87,10 +87,10 @@ module _ (functions : List FormFunction) (b c : ℕ → Form) (frame : ℕ → �
     same_does n (Return x) h env w = refl
     same_does n (Halt x) h env w = refl
 
-    abbrev one_meaning : Meaning Item Test Env
+    abbrev one_meaning : CodeMeaning Item Test Env
     one_meaning = meaning one_form counted d
 
-    abbrev other_meaning : Meaning Item Test Env
+    abbrev other_meaning : CodeMeaning Item Test Env
     other_meaning = meaning other_form counted e
 
     same_exec : (n k : ℕ) (code : Form) → Each (ItemIn functions n) (TestIn n) code → exec one_meaning k code ≡ exec other_meaning k code

@@ -6,7 +6,7 @@ use Rattle.dae_base.specs.Words.{width_of}
 use Rattle.dae_base.proofs.Laws.{and_first, and_second}
 use Rattle.dae_ir.specs.Classes.{VariableSet, IsWithin}
 use Rattle.dae_ir.specs.SetFirst.{all_set}
-use Rattle.dae_program.specs.Lawful.{Bounds, is_sound, is_sound_target, are_sound, is_sound_some, are_sound_items, are_sound_statements, are_sound_arms}
+use Rattle.dae_program.specs.Lawful.{FunctionBounds, is_sound, is_sound_target, are_sound, is_sound_some, are_sound_items, are_sound_statements, are_sound_arms}
 use Rattle.dae_program.specs.Trees as tree
 use Rattle.dae_program.specs.Trees.{Expression, Target, Expressions, Setting, Statements, Arms}
 use Rattle.dae_lower_formed.specs.Formed.{below}
@@ -75,7 +75,7 @@ statements_keep (tree.Return p e k) d v h = statements_keep k all_set v refl
 
 -- ---- what is read
 
-module _ (b : Bounds) where
+module _ (b : FunctionBounds) where
   abbrev Holds : VariableSet → Type 0
   Holds d = IsWithin (below b.variables) d
 

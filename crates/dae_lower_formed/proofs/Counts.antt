@@ -9,9 +9,9 @@ use Rattle.dae_ir.specs.Sizes.{form_size}
 use Rattle.dae_ir.specs.declared.form.Function.{Function as FormFunction}
 use Rattle.dae_program.specs.Trees as tree
 use Rattle.dae_program.specs.Trees.{Expression, Target, Expressions, Setting, Statements, Arms}
-use Rattle.dae_program.specs.declared.program.Slot.{Slot}
-use Rattle.dae_program.specs.declared.statements.Piece.{Piece}
-use Rattle.dae_program.specs.declared.statements.Piece.TheVariants as piece
+use Rattle.dae_program.specs.declared.program.FrameSlot.{FrameSlot}
+use Rattle.dae_program.specs.declared.statements.FormatPiece.{FormatPiece}
+use Rattle.dae_program.specs.declared.statements.FormatPiece.TheVariants as piece
 use Rattle.dae_lower_formed.specs.Formed.{plain}
 use Rattle.dae_lower_formed.specs.Sizes.{nodes, nodes_of_target, nodes_of_all, nodes_of_some, nodes_of_items, nodes_of_statements, nodes_of_arms, nodes_of_function, most_made, most_made_for, most_made_of_all, most_made_of_some, most_made_of_items, most_made_of_pieces, most_made_in, most_made_in_arms, most_made_of_slots, most_made_in_function, IsSmall, FormsSmall}
 use Rattle.dae_lower_formed.proofs.Programs.{form_there}
@@ -62,7 +62,7 @@ at_most_of_items : (items : List Setting) → most_made_of_items items ≤ 3 * n
 at_most_of_items [] = omega arith
 at_most_of_items (item ∷ items) = let h = at_most item.value in let g = at_most_of_items items in omega (arith, h, g)
 
-at_most_of_pieces : (ps : List Piece) → most_made_of_pieces ps ≤ 3 * length ps
+at_most_of_pieces : (ps : List FormatPiece) → most_made_of_pieces ps ≤ 3 * length ps
 at_most_of_pieces [] = omega arith
 at_most_of_pieces (piece.Byte b ∷ ps) = let h = at_most_of_pieces ps in omega (arith, h)
 at_most_of_pieces (piece.Word spelling k ∷ ps) = let h = at_most_of_pieces ps in omega (arith, h)
@@ -86,7 +86,7 @@ mutual
   at_most_in_arms tree.no_arms = omega arith
   at_most_in_arms (tree.arm_then labels t rest) = let h = at_most_in t in let g = at_most_in_arms rest in omega (arith, h, g)
 
-at_most_of_slots : (slots : List (Option Slot)) → most_made_of_slots slots ≤ 3 * length slots
+at_most_of_slots : (slots : List (Option FrameSlot)) → most_made_of_slots slots ≤ 3 * length slots
 at_most_of_slots [] = omega arith
 at_most_of_slots (None ∷ slots) = let h = at_most_of_slots slots in omega (arith, h)
 at_most_of_slots (Some slot ∷ slots) = let h = at_most_of_slots slots in omega (arith, h)
@@ -146,7 +146,7 @@ code_most_of_items : (items : List Setting) → most_code_of_items items ≤ 20 
 code_most_of_items [] = omega arith
 code_most_of_items (item ∷ items) = let h = code_most item.value in let g = code_most_of_items items in omega (arith, h, g)
 
-code_most_of_pieces : (ps : List Piece) → most_code_of_pieces ps ≤ 20 * length ps
+code_most_of_pieces : (ps : List FormatPiece) → most_code_of_pieces ps ≤ 20 * length ps
 code_most_of_pieces [] = omega arith
 code_most_of_pieces (piece.Byte b ∷ ps) = let h = code_most_of_pieces ps in omega (arith, h)
 code_most_of_pieces (piece.Word spelling k ∷ ps) = let h = code_most_of_pieces ps in omega (arith, h)
@@ -170,7 +170,7 @@ mutual
   code_most_in_arms tree.no_arms = omega arith
   code_most_in_arms (tree.arm_then labels t rest) = let h = code_most_in t in let g = code_most_in_arms rest in omega (arith, h, g)
 
-code_most_of_slots : (slots : List (Option Slot)) → most_code_of_slots slots ≤ 20 * length slots
+code_most_of_slots : (slots : List (Option FrameSlot)) → most_code_of_slots slots ≤ 20 * length slots
 code_most_of_slots [] = omega arith
 code_most_of_slots (None ∷ slots) = let h = code_most_of_slots slots in omega (arith, h)
 code_most_of_slots (Some slot ∷ slots) = let h = code_most_of_slots slots in omega (arith, h)

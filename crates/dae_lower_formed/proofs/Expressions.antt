@@ -24,10 +24,10 @@ use Rattle.dae_meaning.specs.declared.Operator.{Operator}
 use Rattle.dae_meaning.specs.declared.Operator.TheVariants.{Add}
 use Rattle.dae_meaning.specs.declared.Comparison.{Comparison}
 use Rattle.dae_meaning.specs.declared.Comparison.TheVariants.{Equal}
-use Rattle.dae_program.specs.Lawful.{Bounds, is_sound, is_sound_target, are_sound, takes, count}
+use Rattle.dae_program.specs.Lawful.{FunctionBounds, is_sound, is_sound_target, are_sound, takes, count}
 use Rattle.dae_program.specs.Trees as tree
 use Rattle.dae_program.specs.Trees.{Expression, Target, Expressions}
-use Rattle.dae_lower.specs.Lowering.{Made, ◌≫◌, nothing, only, emit, skip, one, set, or, assigned, assigned_all, assigned_target, fetched, held, put_in, operated, narrowed, Spot, Local, Placed, test_of, related, turn, branches, gives, Ways, by_value, chosen, advanced, stepped, Links, ways, spot, operands}
+use Rattle.dae_lower.specs.Lowering.{Made, ◌≫◌, nothing, only, emit, skip, one, set, or, assigned, assigned_all, assigned_target, fetched, held, put_in, operated, narrowed, Assignee, Local, Placed, test_of, related, turn, branches, gives, Ways, by_value, chosen, advanced, stepped, Links, ways, spot, operands}
 use Rattle.dae_program.specs.SetFirst.{both, with_target, set_behind, set_behind_target, set_behind_all, is_old_set, reads_set, reads_set_target, all_read_set}
 use Rattle.dae_lower_formed.proofs.Good.{set_here, set_on, within_set}
 use Rattle.dae_lower_formed.proofs.Makes.{Fits, OperandFits, SpotFits, AllFit, Anything, operand_still, spot_still, all_still, all_in, all_read, test_fits, related_fits, number_fits, new_fits, IsOld, with_spot, Makes, chain, weaker, sooner, nothing_makes, set_makes, item_makes, variable_makes, fetched_makes, held_makes, put_makes, operated_makes, narrowed_makes, gives_makes, branches_make, WaysMake, AsValue, value_effect, value_condition, by_value_makes}
@@ -51,32 +51,32 @@ takes_there functions k arguments h = by (slice_get functions k) refl h where
   by (Some f) e h = slice_get_within functions k f e
 
 -- a call that names so many arguments finds its function, with so many parameters
-abbrev pub FindsFunctions : List Function → Bounds → Links → Type 0
+abbrev pub FindsFunctions : List Function → FunctionBounds → Links → Type 0
 FindsFunctions functions b l = (f arguments : ℕ) → takes (b.parameters f) arguments ≡ true → TakesArguments (slice_get functions (l.callee f)) arguments
 
 -- ---- targets
 
 -- which target a place to store in comes from
-abbrev pub IsSpotOf : ℕ → Target → Spot → Type 0
+abbrev pub IsSpotOf : ℕ → Target → Assignee → Type 0
 IsSpotOf m (tree.InVariable u) (Local v) = (u ≡ v) × (v < m)
 IsSpotOf m (tree.InVariable u) (Placed checked x) = ⊥
 IsSpotOf m (tree.AtAddress checked a) (Local v) = ⊥
 IsSpotOf m (tree.AtAddress checked a) (Placed also x) = Unit {0}
 
-abbrev pub TargetFits : ℕ → Target → Fits Spot
+abbrev pub TargetFits : ℕ → Target → Fits Assignee
 TargetFits m t n d o = SpotFits n d o × IsSpotOf m t o
 
-target_sets : (m : ℕ) (c d : VariableSet) (t : Target) (o : Spot) → IsSpotOf m t o → IsWithin c d → IsWithin (with_target t c) (with_spot o d)
+target_sets : (m : ℕ) (c d : VariableSet) (t : Target) (o : Assignee) → IsSpotOf m t o → IsWithin c d → IsWithin (with_target t c) (with_spot o d)
 target_sets m c d (tree.InVariable u) (Local v) h w = subst (λ (x : ℕ). IsWithin (with_set u c) (with_set x d)) h.0 (within_set u c d w)
 target_sets m c d (tree.InVariable u) (Placed checked x) h w = absurd h
 target_sets m c d (tree.AtAddress checked a) (Local v) h w = absurd h
 target_sets m c d (tree.AtAddress checked a) (Placed also x) h w = w
 
-spot_grows : (d : VariableSet) (o : Spot) → IsWithin d (with_spot o d)
+spot_grows : (d : VariableSet) (o : Assignee) → IsWithin d (with_spot o d)
 spot_grows d (Local v) = set_on v d
 spot_grows d (Placed checked x) = λ v h. h
 
-old_spot : (m : ℕ) (c d : VariableSet) (t : Target) (o : Spot) → IsSpotOf m t o → is_old_set c t ≡ true → IsWithin c d → IsOld m d o
+old_spot : (m : ℕ) (c d : VariableSet) (t : Target) (o : Assignee) → IsSpotOf m t o → is_old_set c t ≡ true → IsWithin c d → IsOld m d o
 old_spot m c d (tree.InVariable u) (Local v) h g w = (h.1, subst (λ (x : ℕ). d x ≡ true) h.0 (w u g))
 old_spot m c d (tree.InVariable u) (Placed checked x) h g w = absurd h
 old_spot m c d (tree.AtAddress checked a) (Local v) h g w = absurd h
@@ -90,7 +90,7 @@ picked : (n : ℕ) (d : VariableSet) (b : Bool) (x y : Operand) → OperandFits 
 picked n d true x y h g = h
 picked n d false x y h g = g
 
-module _ (functions : List Function) (b : Bounds) (some : 0 < b.variables) (l : Links) (finds : FindsFunctions functions b l) where
+module _ (functions : List Function) (b : FunctionBounds) (some : 0 < b.variables) (l : Links) (finds : FindsFunctions functions b l) where
   abbrev WaysDo : VariableSet → VariableSet → Ways → Type 0
   WaysDo d c w = WaysMake functions b.variables d c w
 
@@ -215,17 +215,17 @@ module _ (functions : List Function) (b : Bounds) (some : 0 < b.variables) (l : 
 
   -- ---- assignments
 
-  abbrev TargetDoes : VariableSet → VariableSet → Target → (VariableSet → ℕ → Made Spot) → Type 0
+  abbrev TargetDoes : VariableSet → VariableSet → Target → (VariableSet → ℕ → Made Assignee) → Type 0
   TargetDoes d c t f = (i r : Bool) (later : VariableSet) (n : ℕ) (s : VariableSet) → b.variables ≤ n → IsWithin d s → Makes functions i r (TargetFits b.variables t) n s c (f later n)
 
-  assign_makes : (d c e z : VariableSet) (t : Target) (f : VariableSet → ℕ → Made Spot) (a : Ways) (p : Place) (kind : LoadKind) → TargetDoes d c t f → WaysDo c e a →
+  assign_makes : (d c e z : VariableSet) (t : Target) (f : VariableSet → ℕ → Made Assignee) (a : Ways) (p : Place) (kind : LoadKind) → TargetDoes d c t f → WaysDo c e a →
       ValueDoes d (with_target t e) (λ later n. f (or later z) n ≫ λ o n. a.value later n ≫ put_in p kind o)
   assign_makes d c e z t f a p kind h g i r later n s j w =
       chain functions (λ o n. a.value later n ≫ put_in p kind o) j (h i r (or later z) n s j w)
       (λ q v o k y x u fits. chain functions (put_in p kind o) k (g.value i r later q v k u)
       (λ q2 v2 y2 k2 o2 t2 u2 x2. weaker functions (with_target t e) (target_sets b.variables e v2 t o fits.1 u2) (put_makes functions p kind o y2 (spot_still q q2 v v2 o2 t2 o fits.0) x2)))
 
-  update_makes : (d c e z z' : VariableSet) (t : Target) (f : VariableSet → ℕ → Made Spot) (a : Ways) (p : Place) (kind : LoadKind) (operator : Operator) → TargetDoes d c t f → is_old_set d t ≡ true → WaysDo c e a →
+  update_makes : (d c e z z' : VariableSet) (t : Target) (f : VariableSet → ℕ → Made Assignee) (a : Ways) (p : Place) (kind : LoadKind) (operator : Operator) → TargetDoes d c t f → is_old_set d t ≡ true → WaysDo c e a →
       ValueDoes d (with_target t e) (λ later n. f (or later z) n ≫ λ o n. held p kind (or later z') o n ≫ λ x n. a.value later n ≫ λ y n. operated p operator x y n ≫ λ z n. narrowed p kind z n ≫ put_in p kind o)
   update_makes d c e z z' t f a p kind operator h old g i r later n s j w =
       chain functions (λ o n. held p kind (or later z') o n ≫ λ x n. a.value later n ≫ λ y n. operated p operator x y n ≫ λ z n. narrowed p kind z n ≫ put_in p kind o) j (h i r (or later z) n s j w)
@@ -237,13 +237,13 @@ module _ (functions : List Function) (b : Bounds) (some : 0 < b.variables) (l : 
       (λ q5 v5 y5 k5 o5 t5 u5 x5. weaker functions (with_target t e) (target_sets b.variables e v5 t o fits.1 u5)
       (put_makes functions p kind o y5 (spot_still q q5 v v5 (omega (arith, o2, o3, o4, o5)) (λ a b. t5 a (t4 a (t3 a (t2 a b)))) o fits.0) x5))))))
 
-  advanced_makes : {i r : Bool} {n : ℕ} {s c : VariableSet} (p : Place) (kind : LoadKind) (change : ℕ) (o : Spot) (x : Operand) → change < 2 ^ 32 → b.variables ≤ n → IsWithin c s → SpotFits n s o → OperandFits n s x → Makes functions i r OperandFits n s c (advanced p kind change o x n)
+  advanced_makes : {i r : Bool} {n : ℕ} {s c : VariableSet} (p : Place) (kind : LoadKind) (change : ℕ) (o : Assignee) (x : Operand) → change < 2 ^ 32 → b.variables ≤ n → IsWithin c s → SpotFits n s o → OperandFits n s x → Makes functions i r OperandFits n s c (advanced p kind change o x n)
   advanced_makes {i} {r} {n} {s} {c} p kind change o x h j w fits k =
       chain functions (λ z n. narrowed p kind z n ≫ put_in p kind o) j (set_makes functions p (Binary Add x (Number change)) some j w ((k.0, h), and_from (has s x) true k.1 refl))
       (λ q v y k g t u x. chain functions (put_in p kind o) k (narrowed_makes functions p kind y some k u x)
       (λ q2 v2 y2 k2 o2 t2 u2 x2. weaker functions c (λ a b. spot_grows v2 o a (u2 a b)) (put_makes functions p kind o y2 (spot_still n q2 s v2 (omega (arith, g, o2)) (λ a b. t2 a (t a b)) o fits) x2)))
 
-  stepped_makes : (d c : VariableSet) (t : Target) (f : VariableSet → ℕ → Made Spot) (p : Place) (kind : LoadKind) (change : ℕ) → TargetDoes d c t f → is_old_set d t ≡ true → change < 2 ^ 32 → (new : Bool) (copied : VariableSet → VariableSet) →
+  stepped_makes : (d c : VariableSet) (t : Target) (f : VariableSet → ℕ → Made Assignee) (p : Place) (kind : LoadKind) (change : ℕ) → TargetDoes d c t f → is_old_set d t ≡ true → change < 2 ^ 32 → (new : Bool) (copied : VariableSet → VariableSet) →
       ValueDoes d c (λ later n. stepped p kind f change new (copied later) later n)
   stepped_makes d c t f p kind change h old low new copied i r later n s j w =
       chain functions (λ o n. held p kind (copied later) o n ≫ λ x n. advanced p kind change o x n ≫ λ y. nothing (if new then y else x)) j (h i r later n s j w)
@@ -252,7 +252,7 @@ module _ (functions : List Function) (b : Bounds) (some : 0 < b.variables) (l : 
       (λ q2 v2 y2 k2 o2 t2 u2 x2. chain functions (λ y. nothing (if new then y else y2)) k2 (advanced_makes p kind change o y2 low k2 u2 (spot_still q q2 v v2 o2 t2 o fits.0) x2)
       (λ q3 v3 y3 k3 o3 t3 u3 x3. nothing_makes functions (if new then y3 else y2) u3 (picked q3 v3 new y3 y2 x3 (operand_still q2 q3 v2 v3 o3 t3 y2 x2)))))
 
-  step_makes : (d c : VariableSet) (t : Target) (f : VariableSet → ℕ → Made Spot) (p : Place) (kind : LoadKind) (change : ℕ) (new : Bool) (z : VariableSet) → TargetDoes d c t f → is_old_set d t ≡ true → change < 2 ^ 32 → WaysDo d c
+  step_makes : (d c : VariableSet) (t : Target) (f : VariableSet → ℕ → Made Assignee) (p : Place) (kind : LoadKind) (change : ℕ) (new : Bool) (z : VariableSet) → TargetDoes d c t f → is_old_set d t ≡ true → change < 2 ^ 32 → WaysDo d c
       (record (by_value (λ later n. stepped p kind f change new (if new then later else or later z) later n)) { effect = λ later n. stepped p kind f change true later later n ≫ λ x. skip })
   step_makes d c t f p kind change new z h old low = record {
     value = stepped_makes d c t f p kind change h old low new (λ later. if new then later else or later z);

@@ -15,8 +15,8 @@ use Rattle.dae_ir.specs.declared.form.Item.TheVariants.{Assign, Store, Expect, R
 use Rattle.dae_ir.specs.declared.form.Check.TheVariants.{Frame}
 use Rattle.dae_ir.specs.declared.form.Operand.TheVariants.{Variable, Number}
 use Rattle.dae_ir.specs.declared.form.Value.TheVariants.{FrameAddress}
-use Rattle.dae_program.specs.declared.program.Slot.{Slot}
-use Rattle.dae_program.specs.Lawful.{Bounds, is_sound_slot, are_sound_statements, are_inside, is_lawful_body}
+use Rattle.dae_program.specs.declared.program.FrameSlot.{FrameSlot}
+use Rattle.dae_program.specs.Lawful.{FunctionBounds, is_sound_slot, are_sound_statements, are_inside, is_lawful_body}
 use Rattle.dae_program.specs.Trees as tree
 use Rattle.dae_lower.specs.Lowering.{Made, ◌⨾◌, ◌≫◌, emit, one, checks, is_closed, closed, parameters_stored, statements, function_code}
 use Rattle.dae_lower_formed.specs.Bytes.{PrintBytes}
@@ -33,7 +33,7 @@ abbrev pub HoldsParameters : ℕ → VariableSet → Type 0
 HoldsParameters count d = (v : ℕ) → 0 < v → v ≤ count → d v ≡ true
 
 module _ (functions : List FormFunction) {jumps returns : Bool} where
-  parameters_make : {m : ℕ} {c : VariableSet} (p : Place) (frame count : ℕ) (slots : List (Option Slot)) → 1 + count ≤ m → list_all (is_sound_slot frame) slots ≡ true → (k : ℕ) → 0 < k → k + length slots ≤ suc count →
+  parameters_make : {m : ℕ} {c : VariableSet} (p : Place) (frame count : ℕ) (slots : List (Option FrameSlot)) → 1 + count ≤ m → list_all (is_sound_slot frame) slots ≡ true → (k : ℕ) → 0 < k → k + length slots ≤ suc count →
       (n : ℕ) (d : VariableSet) → m ≤ n → IsWithin c d → HoldsParameters count d → Makes functions jumps returns Anything n d c (parameters_stored p slots k n)
   parameters_make p frame count [] low h k some few n d j w g = nothing_makes functions tt w tt
   parameters_make p frame count (None ∷ slots) low h k some few n d j w g = parameters_make p frame count slots low h (k + 1) (omega arith) (omega (arith, few)) n d j w g
@@ -65,12 +65,12 @@ module _ (functions : List FormFunction) where
   checked_good false r n d p code h = h
 
 -- which bounds a lawful function keeps
-abbrev pub bounds_of : (memory variables : ℕ) → (ℕ → Option ℕ) → tree.Function → Bounds
+abbrev pub bounds_of : (memory variables : ℕ) → (ℕ → Option ℕ) → tree.Function → FunctionBounds
 bounds_of memory variables counts f = record { variables = variables; parameters = counts; address = f.address; memory = memory; frame = f.frame }
 
 module _ (functions : List FormFunction) (memory variables : ℕ) (counts : ℕ → Option ℕ) (is_main : Bool) (f : tree.Function) (lawful : is_lawful_body memory variables counts (not is_main) f ≡ true)
     (finds : FindsFunctions functions (bounds_of memory variables counts f) (record { address = f.address; callee = f.callee })) (bytes : PrintBytes f.body) (p : Place) where
-  bounds : Bounds
+  bounds : FunctionBounds
   bounds = bounds_of memory variables counts f
 
   numbers : (nat_eq (f.frame % 4) 0 && nat_le (1 + length f.parameters) variables) ≡ true

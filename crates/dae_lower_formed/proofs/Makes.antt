@@ -22,7 +22,7 @@ use Rattle.dae_ir.specs.declared.form.Value.TheVariants.{Same, Extended, Binary}
 use Rattle.dae_meaning.specs.declared.Operator.{Operator}
 use Rattle.dae_meaning.specs.declared.Comparison.{Comparison}
 use Rattle.dae_meaning.specs.declared.Comparison.TheVariants.{NotEqual}
-use Rattle.dae_lower.specs.Lowering.{Made, ◌≫◌, nothing, emit, skip, one, set, variable, fetched, held, put_in, operated, narrowed, checks, may_be_zero, Spot, Local, Placed, Condition, test_of, related, isnt_zero, branches, gives, Ways, by_value}
+use Rattle.dae_lower.specs.Lowering.{Made, ◌≫◌, nothing, emit, skip, one, set, variable, fetched, held, put_in, operated, narrowed, checks, may_be_zero, Assignee, Local, Placed, Condition, test_of, related, isnt_zero, branches, gives, Ways, by_value}
 use Rattle.dae_program.specs.Expressions.{divides}
 use Rattle.dae_program.specs.SetFirst.{both}
 use Rattle.dae_lower_formed.proofs.Good.{set_here, set_on, assured_grows, assured_then, within_set, IsGood, IsGoodItem, good_then, good_wider, operand_wider, value_wider}
@@ -35,7 +35,7 @@ Fits Y = ℕ → VariableSet → Y → Type 0
 abbrev pub OperandFits : Fits Operand
 OperandFits n d x = IsIn n x × (has d x ≡ true)
 
-abbrev pub SpotFits : Fits Spot
+abbrev pub SpotFits : Fits Assignee
 SpotFits n d (Local v) = IsTarget n v
 SpotFits n d (Placed checked x) = OperandFits n d x
 
@@ -60,7 +60,7 @@ pub operand_still : (n q : ℕ) (d e : VariableSet) → n ≤ q → IsWithin d e
 operand_still n q d e l w (Variable v) h = (omega (arith, l, h.0), w v h.1)
 operand_still n q d e l w (Number k) h = (h.0, refl)
 
-pub spot_still : (n q : ℕ) (d e : VariableSet) → n ≤ q → IsWithin d e → (x : Spot) → SpotFits n d x → SpotFits q e x
+pub spot_still : (n q : ℕ) (d e : VariableSet) → n ≤ q → IsWithin d e → (x : Assignee) → SpotFits n d x → SpotFits q e x
 spot_still n q d e l w (Local v) h = (h.0, omega (arith, l, h.1))
 spot_still n q d e l w (Placed checked x) h = operand_still n q d e l w x h
 
@@ -91,12 +91,12 @@ pub new_fits : (n : ℕ) (d : VariableSet) → OperandFits (n + 1) (with_set n d
 new_fits n d = (omega arith, set_here n d)
 
 -- the old value of a target, which is set if it is a variable
-abbrev pub IsOld : ℕ → VariableSet → Spot → Type 0
+abbrev pub IsOld : ℕ → VariableSet → Assignee → Type 0
 IsOld m d (Local v) = (v < m) × (d v ≡ true)
 IsOld m d (Placed checked x) = Unit {0}
 
 -- what a target that gets a value sets
-abbrev pub with_spot : Spot → VariableSet → VariableSet
+abbrev pub with_spot : Assignee → VariableSet → VariableSet
 with_spot (Local v) d = with_set v d
 with_spot (Placed checked x) d = d
 
@@ -182,11 +182,11 @@ module _ (functions : List Function) where
       given = new_fits n d;
     }
 
-    pub held_makes : {n m : ℕ} {d c : VariableSet} (p : Place) (kind : LoadKind) (copied : VariableSet) (o : Spot) → 0 < m → m ≤ n → IsWithin c d → SpotFits n d o → IsOld m d o → Makes i r OperandFits n d c (held p kind copied o n)
+    pub held_makes : {n m : ℕ} {d c : VariableSet} (p : Place) (kind : LoadKind) (copied : VariableSet) (o : Assignee) → 0 < m → m ≤ n → IsWithin c d → SpotFits n d o → IsOld m d o → Makes i r OperandFits n d c (held p kind copied o n)
     held_makes p kind copied (Local v) some l w h g = variable_makes (copied v) p v some l w g.0 g.1
     held_makes p kind copied (Placed checked x) some l w h g = fetched_makes p kind checked x some l w h
 
-    pub put_makes : {n : ℕ} {d : VariableSet} (p : Place) (kind : LoadKind) (o : Spot) (y : Operand) → SpotFits n d o → OperandFits n d y → Makes i r OperandFits n d (with_spot o d) (put_in p kind o y n)
+    pub put_makes : {n : ℕ} {d : VariableSet} (p : Place) (kind : LoadKind) (o : Assignee) (y : Operand) → SpotFits n d o → OperandFits n d y → Makes i r OperandFits n d (with_spot o d) (put_in p kind o y n)
     put_makes {n} {d} p kind (Local v) y h g = record {
       grows = omega arith;
       good = ((refl, (h, g.0), g.1), tt);

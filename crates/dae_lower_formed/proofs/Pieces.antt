@@ -11,8 +11,8 @@ use Rattle.dae_ir.specs.declared.form.Operand.{Operand}
 use Rattle.dae_ir.specs.declared.form.Operand.TheVariants.{Number}
 use Rattle.dae_meaning.specs.declared.Spelling.TheVariants.{Byte}
 use Rattle.dae_program.specs.Printing.{argument}
-use Rattle.dae_program.specs.declared.statements.Piece.{Piece}
-use Rattle.dae_program.specs.declared.statements.Piece.TheVariants as piece
+use Rattle.dae_program.specs.declared.statements.FormatPiece.{FormatPiece}
+use Rattle.dae_program.specs.declared.statements.FormatPiece.TheVariants as piece
 use Rattle.dae_lower.specs.Lowering.{Made, ◌≫◌, emit, loop, unread, preheader, headed_loop, text_loop, prints, turn_bytes, zeros_at, zeros}
 use Rattle.dae_lower_formed.specs.Bytes.{IsByte}
 use Rattle.dae_program.specs.SetFirst.{both}
@@ -99,7 +99,7 @@ module _ (functions : List Function) {i r : Bool} where
         given = tt;
       }
 
-  pub prints_make : {m : ℕ} {c : VariableSet} (p : Place) (ps : List Piece) (xs : List Operand) → AllByRecursion IsByte ps → 0 < m → (n : ℕ) (d : VariableSet) → m ≤ n → IsWithin c d → AllFit n d xs → Makes functions i r Anything n d c (prints p ps xs n)
+  pub prints_make : {m : ℕ} {c : VariableSet} (p : Place) (ps : List FormatPiece) (xs : List Operand) → AllByRecursion IsByte ps → 0 < m → (n : ℕ) (d : VariableSet) → m ≤ n → IsWithin c d → AllFit n d xs → Makes functions i r Anything n d c (prints p ps xs n)
   prints_make p [] xs h some n d j w g = nothing_makes functions tt w tt
   prints_make p (piece.Byte b ∷ ps) xs h some n d j w g =
       chain functions (λ x. prints p ps xs) j (item_makes functions p (Print Byte (Number b)) w (refl, (let k = h.0 in omega (arith, k)), refl))

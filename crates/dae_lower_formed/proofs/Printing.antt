@@ -3,18 +3,18 @@ use Rattle.std.proofs.Common.{◌≡◌, true, ◌&&◌, List, [], ◌∷◌, ar
 use Rattle.std.proofs.lemmas.Bool.Decides.{nat_tests}
 use Rattle.std.specs.List.{list_all, AllByRecursion}
 use Rattle.dae_base.proofs.Laws.{and_first, and_second}
-use Rattle.dae_program.specs.declared.statements.Piece.{Piece}
-use Rattle.dae_program.specs.declared.statements.Piece.TheVariants as piece
+use Rattle.dae_program.specs.declared.statements.FormatPiece.{FormatPiece}
+use Rattle.dae_program.specs.declared.statements.FormatPiece.TheVariants as piece
 use Rattle.dae_program.specs.Lawful.{is_byte, prints_bytes, arms_print_bytes}
 use Rattle.dae_program.specs.Trees.{Statements, Arms, Done, Evaluate, Initialise, Print, If, Loop, Do, Switch, Break, Continue, Return, no_arms, arm_then}
 use Rattle.dae_lower_formed.specs.Bytes.{IsByte, PrintBytes, ArmsPrintBytes}
 
-piece_is : (x : Piece) → is_byte x ≡ true → IsByte x
+piece_is : (x : FormatPiece) → is_byte x ≡ true → IsByte x
 piece_is (piece.Byte b) h = grind (arith, nat_tests)
 piece_is (piece.Word spelling k) h = tt
 piece_is (piece.String k) h = tt
 
-pieces_are : (xs : List Piece) → list_all is_byte xs ≡ true → AllByRecursion IsByte xs
+pieces_are : (xs : List FormatPiece) → list_all is_byte xs ≡ true → AllByRecursion IsByte xs
 pieces_are [] h = tt
 pieces_are (x ∷ xs) h = (piece_is x (and_first (is_byte x) (list_all is_byte xs) h), pieces_are xs (and_second (is_byte x) (list_all is_byte xs) h))
 

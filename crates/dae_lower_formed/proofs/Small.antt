@@ -22,7 +22,7 @@ use Rattle.dae_program.specs.Expressions.{divides}
 use Rattle.dae_program.specs.Lawful.{count}
 use Rattle.dae_program.specs.Trees as tree
 use Rattle.dae_program.specs.Trees.{Expression, Target, Expressions}
-use Rattle.dae_lower.specs.Lowering.{Made, ◌⨾◌, ◌≫◌, nothing, only, emit, skip, one, set, or, assigned, assigned_all, assigned_target, variable, fetched, held, put_in, operated, narrowed, checks, may_be_zero, Spot, Local, Placed, Condition, test_of, related, isnt_zero, turn, branches, gives, Ways, by_value, chosen, advanced, stepped, Links, ways, spot, operands}
+use Rattle.dae_lower.specs.Lowering.{Made, ◌⨾◌, ◌≫◌, nothing, only, emit, skip, one, set, or, assigned, assigned_all, assigned_target, variable, fetched, held, put_in, operated, narrowed, checks, may_be_zero, Assignee, Local, Placed, Condition, test_of, related, isnt_zero, turn, branches, gives, Ways, by_value, chosen, advanced, stepped, Links, ways, spot, operands}
 use Rattle.dae_lower_formed.specs.Sizes.{most_made, most_made_for, most_made_of_all}
 use Rattle.dae_lower_formed.specs.Code.{loaded_burden, loads_in, with_check, most_code, most_code_for, most_code_of_all}
 
@@ -79,12 +79,12 @@ fetched_small : {n : ℕ} (p : Place) (kind : LoadKind) (checked : Bool) (x : Op
 fetched_small p kind true x = record { few = omega arith; own = omega arith; small = omega arith; given = tt }
 fetched_small p kind false x = record { few = omega arith; own = omega arith; small = omega arith; given = tt }
 
-held_small : {n : ℕ} (p : Place) (kind : LoadKind) (copied : VariableSet) (o : Spot) → Small Any n 1 5 (held p kind copied o n)
+held_small : {n : ℕ} (p : Place) (kind : LoadKind) (copied : VariableSet) (o : Assignee) → Small Any n 1 5 (held p kind copied o n)
 held_small p kind copied (Local v) = weaker (omega arith) (omega arith) (variable_small (copied v) p v)
 held_small p kind copied (Placed true x) = fetched_small p kind true x
 held_small p kind copied (Placed false x) = weaker (omega arith) (omega arith) (fetched_small p kind false x)
 
-put_small : {n : ℕ} (p : Place) (kind : LoadKind) (o : Spot) (y : Operand) → Small Any n 0 4 (put_in p kind o y n)
+put_small : {n : ℕ} (p : Place) (kind : LoadKind) (o : Assignee) (y : Operand) → Small Any n 0 4 (put_in p kind o y n)
 put_small p kind (Local v) y = record { few = omega arith; own = omega arith; small = omega arith; given = tt }
 put_small p kind (Placed true x) y = record { few = omega arith; own = omega arith; small = omega arith; given = tt }
 put_small p kind (Placed false x) y = record { few = omega arith; own = omega arith; small = omega arith; given = tt }
@@ -152,12 +152,12 @@ value_effect f h later n = weaker (omega arith) (omega arith) (chain (λ x. skip
 by_value_small : {w c : ℕ} (f : VariableSet → ℕ → Made Operand) → ValueSmall w c f → WaysSmall w c (by_value f)
 by_value_small f h = record { value = h; effect = value_effect f h; condition = value_condition f h }
 
-advanced_small : {n : ℕ} (p : Place) (kind : LoadKind) (change : ℕ) (o : Spot) (x : Operand) → Small Any n 2 8 (advanced p kind change o x n)
+advanced_small : {n : ℕ} (p : Place) (kind : LoadKind) (change : ℕ) (o : Assignee) (x : Operand) → Small Any n 2 8 (advanced p kind change o x n)
 advanced_small p kind change o x =
     weaker (omega arith) (omega arith) (chain (λ z n. narrowed p kind z n ≫ put_in p kind o) (set_small p (Binary Add x (Number change)))
     (λ q y t. chain (put_in p kind o) (narrowed_small p kind y) (λ q y t. put_small p kind o y)))
 
-stepped_small : {w c n : ℕ} (p : Place) (kind : LoadKind) (f : VariableSet → ℕ → Made Spot) (change : ℕ) (new : Bool) (copied later : VariableSet) → Small Any n w c (f later n) → Small Any n (3 + w) (13 + c) (stepped p kind f change new copied later n)
+stepped_small : {w c n : ℕ} (p : Place) (kind : LoadKind) (f : VariableSet → ℕ → Made Assignee) (change : ℕ) (new : Bool) (copied later : VariableSet) → Small Any n w c (f later n) → Small Any n (3 + w) (13 + c) (stepped p kind f change new copied later n)
 stepped_small p kind f change new copied later h =
     weaker (omega arith) (omega arith) (chain (λ o n. held p kind copied o n ≫ λ x n. advanced p kind change o x n ≫ λ y. nothing (if new then y else x)) h
     (λ q o t. chain (λ x n. advanced p kind change o x n ≫ λ y. nothing (if new then y else x)) (held_small p kind copied o)

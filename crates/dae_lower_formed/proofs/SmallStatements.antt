@@ -15,9 +15,9 @@ use Rattle.dae_program.specs.Printing.{argument}
 use Rattle.dae_program.specs.Switches.{arm_with, count_arms}
 use Rattle.dae_program.specs.Trees as tree
 use Rattle.dae_program.specs.Trees.{Expression, Setting, Statements, Arms}
-use Rattle.dae_program.specs.declared.statements.Piece.{Piece}
-use Rattle.dae_program.specs.declared.statements.Piece.TheVariants as piece
-use Rattle.dae_program.specs.declared.program.Slot.{Slot}
+use Rattle.dae_program.specs.declared.statements.FormatPiece.{FormatPiece}
+use Rattle.dae_program.specs.declared.statements.FormatPiece.TheVariants as piece
+use Rattle.dae_program.specs.declared.program.FrameSlot.{FrameSlot}
 use Rattle.dae_lower.specs.Lowering.{Made, function_code, ◌⨾◌, ◌≫◌, emit, one, checks, nowhere, test_of, Links, leave_unless, leave_unless_some, effect_of_some, loop, preheader, headed_loop, text_loop, prints, turn_bytes, zeros_at, zeros, settings, arms_continue, search_labels, search, switch, statements, arms_from, parameters_stored, is_closed, closed}
 use Rattle.dae_lower.proofs.Laws.{turn_is_short}
 use Rattle.dae_lower_formed.specs.Formed.{form_variables}
@@ -47,7 +47,7 @@ headed_small {n} p body step turn behind = chain (λ x n. loop p (body n) step) 
 text_small : (n : ℕ) (p : Place) (x : Operand) → Small Any n 2 17 (text_loop p x n)
 text_small n p x = record { few = omega arith; own = omega arith; small = omega arith; given = tt }
 
-prints_small : (p : Place) (ps : List Piece) (xs : List Operand) (n : ℕ) → Small Any n (most_made_of_pieces ps) (most_code_of_pieces ps) (prints p ps xs n)
+prints_small : (p : Place) (ps : List FormatPiece) (xs : List Operand) (n : ℕ) → Small Any n (most_made_of_pieces ps) (most_code_of_pieces ps) (prints p ps xs n)
 prints_small p [] xs n = nothing_small tt tt
 prints_small p (piece.Byte b ∷ ps) xs n = weaker (omega arith) (omega arith) (chain (λ x. prints p ps xs) (item_small p (Print Byte (Number b)) 2 (omega arith) refl) (λ q y t. prints_small p ps xs q))
 prints_small p (piece.Word spelling k ∷ ps) xs n = weaker (omega arith) (omega arith) (chain (λ x. prints p ps xs) (item_small p (Print spelling (argument (Number 0) xs k)) 2 (omega arith) refl) (λ q y t. prints_small p ps xs q))
@@ -181,7 +181,7 @@ module _ (l : Links) where
 
 -- ---- functions
 
-parameters_small : (p : Place) (slots : List (Option Slot)) (k n : ℕ) → Small Any n (most_made_of_slots slots) (most_code_of_slots slots) (parameters_stored p slots k n)
+parameters_small : (p : Place) (slots : List (Option FrameSlot)) (k n : ℕ) → Small Any n (most_made_of_slots slots) (most_code_of_slots slots) (parameters_stored p slots k n)
 parameters_small p [] k n = nothing_small tt tt
 parameters_small p (None ∷ slots) k n = weaker (omega arith) (omega arith) (parameters_small p slots (k + 1) n)
 parameters_small p (Some slot ∷ slots) k n =

@@ -12,7 +12,7 @@ use Rattle.dae_ir.specs.declared.form.Operand.{Operand}
 use Rattle.dae_ir.specs.declared.form.Operand.TheVariants.{Variable, Number}
 use Rattle.dae_ir.specs.declared.form.Value.TheVariants.{FrameAddress}
 use Rattle.dae_meaning.specs.declared.Comparison.TheVariants.{AtLeastUnsigned}
-use Rattle.dae_program.specs.Lawful.{Bounds, is_sound, is_sound_some, are_sound_items, are_sound_statements, are_sound_arms, are_inside, are_arms_inside}
+use Rattle.dae_program.specs.Lawful.{FunctionBounds, is_sound, is_sound_some, are_sound_items, are_sound_statements, are_sound_arms, are_inside, are_arms_inside}
 use Rattle.dae_program.specs.Switches.{arm_with, count_arms}
 use Rattle.dae_program.specs.Trees as tree
 use Rattle.dae_program.specs.Trees.{Expression, Setting, Statements, Arms}
@@ -63,7 +63,7 @@ mutual
         by (inl a) x y = x a
         by (inr a) x y = y a
 
-module _ (functions : List Function) (b : Bounds) (some : 0 < b.variables) (l : Links) (finds : FindsFunctions functions b l) where
+module _ (functions : List Function) (b : FunctionBounds) (some : 0 < b.variables) (l : Links) (finds : FindsFunctions functions b l) where
   label_words : (arms : Arms) → are_sound_arms b arms ≡ true → AreLabelWords arms
   label_words tree.no_arms h = tt
   label_words (tree.arm_then labels t rest) h = (and_first _ _ h, label_words rest (and_second _ _ (and_second _ _ h)))

@@ -1,11 +1,11 @@
 -- Each byte that a `printf` prints from its format is a byte, as each value of its type is.
 use Rattle.std.specs.Prelude.{◌<◌, ◌^◌}
 use Rattle.std.specs.List.{AllByRecursion}
-use Rattle.dae_program.specs.declared.statements.Piece.{Piece}
-use Rattle.dae_program.specs.declared.statements.Piece.TheVariants as piece
+use Rattle.dae_program.specs.declared.statements.FormatPiece.{FormatPiece}
+use Rattle.dae_program.specs.declared.statements.FormatPiece.TheVariants as piece
 use Rattle.dae_program.specs.Trees.{Statements, Arms, Done, Evaluate, Initialise, Print, If, Loop, Do, Switch, Break, Continue, Return, no_arms, arm_then}
 
-abbrev pub IsByte : Piece → Type 0
+abbrev pub IsByte : FormatPiece → Type 0
 IsByte (piece.Byte b) = b < 2 ^ 8
 IsByte (piece.Word spelling k) = Unit {0}
 IsByte (piece.String k) = Unit {0}

@@ -4,9 +4,9 @@ use Rattle.dae_base.specs.declared.Place.{Place}
 use Rattle.dae_ir.specs.Form.{Form}
 use Rattle.dae_ir.specs.Sizes.{bit, is_load_into, tally}
 use Rattle.dae_ir_pair.specs.Sizes.{burden}
-use Rattle.dae_program.specs.declared.program.Slot.{Slot}
-use Rattle.dae_program.specs.declared.statements.Piece.{Piece}
-use Rattle.dae_program.specs.declared.statements.Piece.TheVariants as piece
+use Rattle.dae_program.specs.declared.program.FrameSlot.{FrameSlot}
+use Rattle.dae_program.specs.declared.statements.FormatPiece.{FormatPiece}
+use Rattle.dae_program.specs.declared.statements.FormatPiece.TheVariants as piece
 use Rattle.dae_program.specs.Trees as tree
 use Rattle.dae_program.specs.Trees.{Expression, Target, Expressions, Setting, Statements, Arms, Number, Address, Frame, Variable, Read, Convert, Not, Binary, Compare, And, Or, Conditional, Comma, Assign, Update, Step, Call, Putchar, Exit, Abort, InVariable, AtAddress, no_expressions, expression_then, Done, Evaluate, Initialise, Print, If, Loop, Do, Switch, Break, Continue, Return, no_arms, arm_then}
 use Rattle.dae_lower.specs.Lowering.{function_code}
@@ -65,7 +65,7 @@ abbrev pub most_code_of_items : List Setting → ℕ
 most_code_of_items [] = 0
 most_code_of_items (item ∷ items) = 4 + (most_code item.value + most_code_of_items items)
 
-abbrev pub most_code_of_pieces : List Piece → ℕ
+abbrev pub most_code_of_pieces : List FormatPiece → ℕ
 most_code_of_pieces [] = 0
 most_code_of_pieces (piece.Byte b ∷ ps) = 2 + most_code_of_pieces ps
 most_code_of_pieces (piece.Word spelling k ∷ ps) = 2 + most_code_of_pieces ps
@@ -91,7 +91,7 @@ abbrev mutual
   most_code_in_arms (arm_then labels t rest) = 2 + (6 * length labels + (most_code_in t + most_code_in_arms rest))
 
 -- each parameter that is stored
-abbrev pub most_code_of_slots : List (Option Slot) → ℕ
+abbrev pub most_code_of_slots : List (Option FrameSlot) → ℕ
 most_code_of_slots [] = 0
 most_code_of_slots (None ∷ slots) = most_code_of_slots slots
 most_code_of_slots (Some slot ∷ slots) = 4 + most_code_of_slots slots

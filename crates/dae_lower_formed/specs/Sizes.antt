@@ -8,9 +8,9 @@ use Rattle.dae_ir.specs.declared.form.Function.{Function as FormFunction}
 use Rattle.dae_ir.specs.declared.form.Ir.{Ir}
 use Rattle.dae_program.specs.declared.program.Function.{Function}
 use Rattle.dae_program.specs.declared.program.Program.{Program}
-use Rattle.dae_program.specs.declared.program.Slot.{Slot}
-use Rattle.dae_program.specs.declared.statements.Piece.{Piece}
-use Rattle.dae_program.specs.declared.statements.Piece.TheVariants as piece
+use Rattle.dae_program.specs.declared.program.FrameSlot.{FrameSlot}
+use Rattle.dae_program.specs.declared.statements.FormatPiece.{FormatPiece}
+use Rattle.dae_program.specs.declared.statements.FormatPiece.TheVariants as piece
 use Rattle.dae_program.specs.Trees as tree
 use Rattle.dae_program.specs.Trees.{Expression, Target, Expressions, Setting, Statements, Arms, Number, Address, Frame, Variable, Read, Convert, Not, Binary, Compare, And, Or, Conditional, Comma, Assign, Update, Step, Call, Putchar, Exit, Abort, InVariable, AtAddress, no_expressions, expression_then, Done, Evaluate, Initialise, Print, If, Loop, Do, Switch, Break, Continue, Return, no_arms, arm_then}
 use Rattle.dae_lower_formed.specs.Code.{loads_in}
@@ -123,7 +123,7 @@ most_made_of_items [] = 0
 most_made_of_items (item ∷ items) = most_made item.value + most_made_of_items items
 
 -- 2 for each `%s`
-abbrev pub most_made_of_pieces : List Piece → ℕ
+abbrev pub most_made_of_pieces : List FormatPiece → ℕ
 most_made_of_pieces [] = 0
 most_made_of_pieces (piece.Byte b ∷ ps) = most_made_of_pieces ps
 most_made_of_pieces (piece.Word spelling k ∷ ps) = most_made_of_pieces ps
@@ -149,7 +149,7 @@ abbrev mutual
   most_made_in_arms (arm_then labels t rest) = most_made_in t + most_made_in_arms rest
 
 -- one for each parameter that is stored
-abbrev pub most_made_of_slots : List (Option Slot) → ℕ
+abbrev pub most_made_of_slots : List (Option FrameSlot) → ℕ
 most_made_of_slots [] = 0
 most_made_of_slots (None ∷ slots) = most_made_of_slots slots
 most_made_of_slots (Some slot ∷ slots) = 1 + most_made_of_slots slots

@@ -2,7 +2,7 @@
 use Rattle.std.proofs.Common.{◌≡◌, ◌≢◌, ℕ, zero, suc, ◌+◌, ◌<◌, true, false, not, List, [], ◌∷◌, ◌++◌, length, get_or, take, drop, nat_eq, refl, ap, sym, ◌∙◌, arith}
 use Rattle.std.proofs.lemmas.Bool.Decides.{nat_tests}
 use Rattle.dae_base.proofs.Laws.{same_number}
-use Rattle.dae_lower_maker.specs.Counting.{Counts, both, count_in, is_counted, once}
+use Rattle.dae_lower_maker.specs.Counting.{MarkCounts, both, count_in, is_counted, once}
 
 once_at : (v : ℕ) → once v v ≡ 1
 once_at v = rw (same_number v) refl
@@ -29,9 +29,9 @@ removed_at (x ∷ us) (suc i) v u lt is = let h = removed_at us i v u (omega (ar
 left_over : (a b k : ℕ) → a ≡ b + k → (rest : ℕ) → a ≡ rest + k → b ≡ rest
 left_over a b k e rest h = omega (arith, e, h)
 
-pub removed : (us new : List ℕ) (i v : ℕ) → i < length us → get_or us i 0 ≡ v → new ≡ take i us ++ drop (suc i) us → (rest : Counts) → count_in us ≡ both rest (once v) → count_in new ≡ rest
+pub removed : (us new : List ℕ) (i v : ℕ) → i < length us → get_or us i 0 ≡ v → new ≡ take i us ++ drop (suc i) us → (rest : MarkCounts) → count_in us ≡ both rest (once v) → count_in new ≡ rest
 removed us new i v lt is e rest all =
-    ap count_in e ∙ (λ j u. left_over (count_in us u) (count_in (take i us ++ drop (suc i) us) u) (once v u) (removed_at us i v u lt is) (rest u) (ap (λ (c : Counts). c u) all) j)
+    ap count_in e ∙ (λ j u. left_over (count_in us u) (count_in (take i us ++ drop (suc i) us) u) (once v u) (removed_at us i v u lt is) (rest u) (ap (λ (c : MarkCounts). c u) all) j)
 
 -- ---- whether there is one
 
@@ -48,9 +48,9 @@ none_counted (x ∷ us) v other =
     let rest = none_counted us v (λ k lt. other (suc k) (omega (arith, lt))) in
     omega (arith, here, rest)
 
-pub not_counted : (c : Counts) (v : ℕ) → c v ≡ 0 → false ≡ is_counted c v
+pub not_counted : (c : MarkCounts) (v : ℕ) → c v ≡ 0 → false ≡ is_counted c v
 not_counted c v none = ap (λ (n : ℕ). not (nat_eq n 0)) (sym none)
 
 -- what isn't there isn't removed
-pub never_removed : {A : Type 0} (us : List ℕ) (v : ℕ) → count_in us v ≡ 0 → (rest : Counts) → count_in us ≡ both rest (once v) → A
-never_removed us v none rest all = absurd (let e = ap (λ (c : Counts). c v) all in let one = once_at v in omega (arith, none, e, one))
+pub never_removed : {A : Type 0} (us : List ℕ) (v : ℕ) → count_in us v ≡ 0 → (rest : MarkCounts) → count_in us ≡ both rest (once v) → A
+never_removed us v none rest all = absurd (let e = ap (λ (c : MarkCounts). c v) all in let one = once_at v in omega (arith, none, e, one))

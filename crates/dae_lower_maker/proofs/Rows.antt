@@ -11,7 +11,7 @@ use Rattle.dae_ir.specs.declared.form.Operand.{Operand}
 use Rattle.dae_ir.specs.declared.form.Operand.TheVariants.{Variable}
 use Rattle.dae_ir.specs.declared.form.Statement.{Statement, Simple, If', Loop'}
 use Rattle.dae_lower.specs.Lowering.{Made, ◌≫◌, nothing, only, one, checks, ◌⨾◌}
-use Rattle.dae_lower_maker.specs.Making.{Written, Writes, Wrote}
+use Rattle.dae_lower_maker.specs.Making.{CodeSoFar, Writes, Wrote}
 use Rattle.dae_lower_maker.specs.Numbers.{late, late_in, number_after}
 
 pub behind_behind : (a b c : Form) → ((a ⨾ b) ⨾ c) ≡ (a ⨾ (b ⨾ c))
@@ -86,7 +86,7 @@ late_checks false place item k = omega arith
 -- ---- parts
 
 -- one part, and then another
-pub parts_written : {X Y Z : Type 0} (first : Made X) (second : Made Y) (all : Made Z) (a b c : Written) (x : X) (y : Y) (z : Z) → Writes first a b x → Writes second b c y → (Wrote first a b x → Wrote second b c y → Wrote all a c z)
+pub parts_written : {X Y Z : Type 0} (first : Made X) (second : Made Y) (all : Made Z) (a b c : CodeSoFar) (x : X) (y : Y) (z : Z) → Writes first a b x → Writes second b c y → (Wrote first a b x → Wrote second b c y → Wrote all a c z)
     → (0 < late_in first.code → 0 < late_in all.code) → (Wrote first a b x → 0 < late_in second.code → 0 < late_in all.code) → Writes all a c z
 parts_written {X} {Y} {Z} first second all a b c x y z g h join here there = record {
   grows = omega (arith, g.grows, h.grows);
@@ -98,7 +98,7 @@ parts_written {X} {Y} {Z} first second all a b c x y z g h join here there = rec
   by start over (inr le) = here (g.full start le)
 
 -- the same code
-pub given_written : {X Y : Type 0} (made : Made X) (all : Made Y) (a b : Written) (x : X) (y : Y) → (Wrote made a b x → Wrote all a b y) → all.code ≡ made.code → Writes made a b x → Writes all a b y
+pub given_written : {X Y : Type 0} (made : Made X) (all : Made Y) (a b : CodeSoFar) (x : X) (y : Y) → (Wrote made a b x → Wrote all a b y) → all.code ≡ made.code → Writes made a b x → Writes all a b y
 given_written made all a b x y more same h = record {
   grows = h.grows;
   fits = λ lt. more (h.fits lt);
@@ -106,7 +106,7 @@ given_written made all a b x y more same h = record {
 }
 
 -- the next variable stays
-pub exact_written : {Y : Type 0} (what : Made Y) (a b : Written) (y : Y) → Wrote what a b y → what.next ≡ a.next → Writes what a b y
+pub exact_written : {Y : Type 0} (what : Made Y) (a b : CodeSoFar) (y : Y) → Wrote what a b y → what.next ≡ a.next → Writes what a b y
 exact_written what a b y h same = record {
   grows = omega (arith, h.next, same);
   fits = λ lt. h;
@@ -114,12 +114,12 @@ exact_written what a b y h same = record {
 }
 
 -- the next variable is set
-pub set_written : {Y : Type 0} (what : Made Y) (a b c : Written) (y : Y) → Wrote (only what.code (tt {0}) a.next) a b tt → c ≡ record { code = b.code; next = number_after a.next } → y ≡ what.given → what.next ≡ a.next + 1 → late a.next ≤ late_in what.code
+pub set_written : {Y : Type 0} (what : Made Y) (a b c : CodeSoFar) (y : Y) → Wrote (only what.code (tt {0}) a.next) a b tt → c ≡ record { code = b.code; next = number_after a.next } → y ≡ what.given → what.next ≡ a.next + 1 → late a.next ≤ late_in what.code
     → Writes what a c y
 set_written {Y} what a b c y h is given next sets = record {
   grows = subst (λ (n : ℕ). a.next ≤ n) (sym number) (after_grows a.next);
   fits = λ lt. record {
-    code = ap (λ (w : Written). w.code) is ∙ h.code;
+    code = ap (λ (w : CodeSoFar). w.code) is ∙ h.code;
     given = given;
     next = number ∙ after_fits a.next (subst (λ (n : ℕ). n < 2 ^ 32 - 1) number lt) ∙ sym next;
   };
@@ -128,7 +128,7 @@ set_written {Y} what a b c y h is given next sets = record {
       let one = late_there a.next (omega (arith, more)) in omega (arith, one, sets);
 } where
   number : c.next ≡ number_after a.next
-  number = ap (λ (w : Written). w.next) is
+  number = ap (λ (w : CodeSoFar). w.next) is
 
 -- a statement
 statement_wrote : (xs : List Statement) (n : ℕ) (s : Statement) (code : Form) → before s Done ≡ code → Wrote (only code (tt {0}) n) (record { code = form_of xs; next = n }) (record { code = form_of (xs ++ s ∷ []); next = n }) tt
@@ -142,7 +142,7 @@ pub item_wrote : (xs : List Statement) (n : ℕ) (place : Place) (item : Item) �
 item_wrote xs n place item = statement_wrote xs n (Simple place item) (one place item) refl
 
 -- two items
-pub items_wrote : (place : Place) (first second : Item) (a b c : Written) → Wrote (only (one place first) (tt {0}) a.next) a b tt → Wrote (only (one place second) (tt {0}) b.next) b c tt → Wrote (only (Do place first (one place second)) (tt {0}) a.next) a c tt
+pub items_wrote : (place : Place) (first second : Item) (a b c : CodeSoFar) → Wrote (only (one place first) (tt {0}) a.next) a b tt → Wrote (only (one place second) (tt {0}) b.next) b c tt → Wrote (only (Do place first (one place second)) (tt {0}) a.next) a c tt
 items_wrote place first second a b c h i = record {
   code = i.code ∙ ap (λ k. k ⨾ one place second) h.code ∙ behind_behind a.code (one place first) (one place second);
   given = refl;
@@ -150,7 +150,7 @@ items_wrote place first second a b c h i = record {
 }
 
 -- nothing more
-pub nothing_written : {Y : Type 0} (a : Written) (y : Y) → Writes (nothing y a.next) a a y
+pub nothing_written : {Y : Type 0} (a : CodeSoFar) (y : Y) → Writes (nothing y a.next) a a y
 nothing_written a y = exact_written (nothing y a.next) a a y (record { code = sym (behind_done a.code); given = refl; next = refl }) refl
 
 checks_then : (f : Bool) (place : Place) (item : Item) (k : Form) → (checks f place item Done ⨾ k) ≡ checks f place item k
@@ -158,7 +158,7 @@ checks_then true place item k = refl
 checks_then false place item k = refl
 
 -- a check where the flag says so, and then an item that sets the next variable
-pub checked_written : (f : Bool) (place : Place) (check : Item) (last : ℕ → Item) (n : ℕ) (a b c : Written) (x : Unit {0}) (z : Operand) → a.next ≡ n → Writes (only (checks f place check Done) x a.next) a b x → Writes (only (one place (last b.next)) (Variable b.next) (b.next + 1)) b c z → Writes (only (checks f place check (one place (last n))) (Variable n) (n + 1)) a c z
+pub checked_written : (f : Bool) (place : Place) (check : Item) (last : ℕ → Item) (n : ℕ) (a b c : CodeSoFar) (x : Unit {0}) (z : Operand) → a.next ≡ n → Writes (only (checks f place check Done) x a.next) a b x → Writes (only (one place (last b.next)) (Variable b.next) (b.next + 1)) b c z → Writes (only (checks f place check (one place (last n))) (Variable n) (n + 1)) a c z
 checked_written f place check last n a b c x z e g k =
     parts_written (only (checks f place check Done) x a.next) (only (one place (last b.next)) (Variable b.next) (b.next + 1)) (only (checks f place check (one place (last n))) (Variable n) (n + 1)) a b c x z z g k
     (λ h i. record {
@@ -170,7 +170,7 @@ checked_written f place check last n a b c x z e g k =
     (λ h some. let l = late_checks f place check (one place (last n)) in let same = ap (λ k. late_in (one place (last k))) (h.next ∙ e) in omega (arith, l, same, some))
 
 -- a check where the flag says so, and then an item
-pub checked_item : {Y : Type 0} (f : Bool) (place : Place) (check last : Item) (a b c : Written) (x z : Unit {0}) (y : Y) → Writes (only (checks f place check Done) x a.next) a b x → Writes (only (one place last) z b.next) b c z → Writes (only (checks f place check (one place last)) y a.next) a c y
+pub checked_item : {Y : Type 0} (f : Bool) (place : Place) (check last : Item) (a b c : CodeSoFar) (x z : Unit {0}) (y : Y) → Writes (only (checks f place check Done) x a.next) a b x → Writes (only (one place last) z b.next) b c z → Writes (only (checks f place check (one place last)) y a.next) a c y
 checked_item f place check last a b c x z y g k =
     parts_written (only (checks f place check Done) x a.next) (only (one place last) z b.next) (only (checks f place check (one place last)) y a.next) a b c x z y g k
     (λ h i. record {
@@ -182,12 +182,12 @@ checked_item f place check last a b c x z y g k =
     (λ h some. let l = late_checks f place check (one place last) in omega (arith, l, some))
 
 -- an item that gives something
-pub item_given : {Y : Type 0} (place : Place) (item : Item) (a b : Written) (x : Unit {0}) (y : Y) → Writes (only (one place item) x a.next) a b x → Writes (only (one place item) y a.next) a b y
+pub item_given : {Y : Type 0} (place : Place) (item : Item) (a b : CodeSoFar) (x : Unit {0}) (y : Y) → Writes (only (one place item) x a.next) a b x → Writes (only (one place item) y a.next) a b y
 item_given place item a b x y h =
     given_written (only (one place item) x a.next) (only (one place item) y a.next) a b x y (λ h. record { code = h.code; given = refl; next = h.next }) refl h
 
 -- one after the other, of which the second is that behind what the first gives
-pub written_so : {X Y : Type 0} (made : Made X) (f : X → ℕ → Made Y) (second : Made Y) (a b c : Written) (x : X) (y : Y) → (x ≡ made.given → second ≡ f x b.next) → Writes made a b x → Writes second b c y → Writes (made ≫ f) a c y
+pub written_so : {X Y : Type 0} (made : Made X) (f : X → ℕ → Made Y) (second : Made Y) (a b c : CodeSoFar) (x : X) (y : Y) → (x ≡ made.given → second ≡ f x b.next) → Writes made a b x → Writes second b c y → Writes (made ≫ f) a c y
 written_so {X} {Y} made f second a b c x y same w v =
     parts_written made second (made ≫ f) a b c x y y w v
     (λ g h. record {
@@ -201,11 +201,11 @@ written_so {X} {Y} made f second a b c x y same w v =
       both g {A} k = ap k (same g.given) ∙ ap (λ z. k (f z b.next)) g.given ∙ ap (λ n. k (f made.given n)) g.next
 
 -- one after the other
-pub written_on : {X Y : Type 0} (made : Made X) (f : X → ℕ → Made Y) (a b c : Written) (x : X) (y : Y) → Writes made a b x → Writes (f x b.next) b c y → Writes (made ≫ f) a c y
+pub written_on : {X Y : Type 0} (made : Made X) (f : X → ℕ → Made Y) (a b c : CodeSoFar) (x : X) (y : Y) → Writes made a b x → Writes (f x b.next) b c y → Writes (made ≫ f) a c y
 written_on made f a b c x y = written_so made f (f x b.next) a b c x y (λ e. refl)
 
 -- one after the other, of which the flag says which is given
-pub picked_written : {X : Type 0} (flag : Bool) (made : Made X) (f : X → ℕ → Made X) (a b c : Written) (x y : X) → Writes made a b x → Writes (f x b.next) b c y → Writes (made ≫ λ x n. f x n ≫ λ y. nothing (if flag then y else x)) a c (if flag then y else x)
+pub picked_written : {X : Type 0} (flag : Bool) (made : Made X) (f : X → ℕ → Made X) (a b c : CodeSoFar) (x y : X) → Writes made a b x → Writes (f x b.next) b c y → Writes (made ≫ λ x n. f x n ≫ λ y. nothing (if flag then y else x)) a c (if flag then y else x)
 picked_written flag made f a b c x y g h =
     written_on made (λ x n. f x n ≫ λ y. nothing (if flag then y else x)) a b c x (if flag then y else x) g
     (written_on (f x b.next) (λ y. nothing (if flag then y else x)) b c c y (if flag then y else x) h (nothing_written c (if flag then y else x)))

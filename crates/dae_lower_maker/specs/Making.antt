@@ -4,11 +4,11 @@ use Rattle.dae_ir.specs.Classes.{VariableSet}
 use Rattle.dae_ir.specs.Code.{Done, Do, If}
 use Rattle.dae_ir.specs.Form.{Form, form_of}
 use Rattle.dae_lower_maker.specs.declared.maker.Maker.{Maker}
-use Rattle.dae_lower_maker.specs.declared.maker.Spot.{Spot}
+use Rattle.dae_lower_maker.specs.declared.maker.Assignee.{Assignee}
 use Rattle.dae_lower_maker.specs.declared.maker.Lvalue.{Lvalue}
 use Rattle.dae_lower_maker.specs.declared.maker.Increment.{Increment}
 use Rattle.dae_lower_maker.specs.declared.maker.Condition.{Condition}
-use Rattle.dae_lower_maker.specs.declared.maker.Spot.TheVariants as spot
+use Rattle.dae_lower_maker.specs.declared.maker.Assignee.TheVariants as spot
 use Rattle.dae_base.specs.declared.LoadKind.{LoadKind}
 use Rattle.dae_base.specs.declared.Place.{Place}
 use Rattle.dae_ir.specs.declared.form.Item.{Item}
@@ -24,22 +24,22 @@ use Rattle.dae_program.specs.Views.{is_prefix}
 use Rattle.dae_program.specs.declared.expressions.Fixity.{Fixity}
 
 -- the form so far, and the next variable
-pub record Written : Type 0 where
+pub record CodeSoFar : Type 0 where
   pub code : Form
   pub next : ℕ
 
-abbrev pub so_far : Maker → Written
+abbrev pub so_far : Maker → CodeSoFar
 so_far maker = record { code = form_of maker.statements.items; next = maker.next }
 
 -- what is made stands behind what was written
-pub record Wrote {Y : Type 0} (what : Made Y) (old new : Written) (y : Y) : Type 0 where
+pub record Wrote {Y : Type 0} (what : Made Y) (old new : CodeSoFar) (y : Y) : Type 0 where
   pub code : new.code ≡ old.code ⨾ what.code
   pub given : y ≡ what.given
   pub next : new.next ≡ what.next
 
 -- It does where the next variable has a number below the last. The number comes to the last only where it was that before, or
 -- where what is made sets a variable with one of the last numbers.
-pub record Writes {Y : Type 0} (what : Made Y) (old new : Written) (y : Y) : Type 0 where
+pub record Writes {Y : Type 0} (what : Made Y) (old new : CodeSoFar) (y : Y) : Type 0 where
   pub grows : old.next ≤ new.next
   pub fits : new.next < 2 ^ 32 - 1 → Wrote what old new y
   pub full : old.next < 2 ^ 32 - 1 → 2 ^ 32 - 1 ≤ new.next → 0 < late_in what.code
@@ -52,7 +52,7 @@ Appends made old new y = Writes (made old.next) (so_far old) (so_far new) y
 abbrev pub AppendsItem : Place → Item → Maker → Maker → Unit {0} → Type 0
 AppendsItem place item old new y = Wrote (only (one place item) (tt {0}) old.next) (so_far old) (so_far new) y
 
-abbrev pub spot_of : Spot → form.Spot
+abbrev pub spot_of : Assignee → form.Assignee
 spot_of (spot.Variable v) = form.Local v
 spot_of (spot.Object location) = form.Placed location.checked location.address
 
@@ -85,7 +85,7 @@ updated_in l operator x y n =
     operated l.place operator x y n ≫ λ z n. narrowed l.place l.kind z n ≫ form.put_in l.place l.kind (spot_of l.spot)
 
 -- what `++` or `--` assigns
-abbrev pub lvalue_of : Increment → Spot → Lvalue
+abbrev pub lvalue_of : Increment → Assignee → Lvalue
 lvalue_of i spot = record { place = i.place; kind = i.kind; spot = spot }
 
 -- the variables that `++` or `--` copies, where what is still to come assigns these: all, where the old value is given
@@ -93,7 +93,7 @@ abbrev pub copied_by : Fixity → VariableSet → VariableSet
 copied_by fixity later = if is_prefix fixity then later else (λ v. true)
 
 -- one more or less, where what is still to come assigns these variables
-abbrev pub stepped_in : VariableSet → Increment → Spot → ℕ → Made Operand
+abbrev pub stepped_in : VariableSet → Increment → Assignee → ℕ → Made Operand
 stepped_in later i spot n =
     held_in (copied_by i.fixity later) (lvalue_of i spot) n ≫ λ x n. advanced_in (lvalue_of i spot) i.change x n ≫ λ y.
     nothing (if is_prefix i.fixity then y else x)

@@ -2,7 +2,7 @@
 #![tactic(auto)]
 
 pub use later::{Change, Later};
-pub use maker::{Condition, Increment, Location, Lvalue, Maker, Spot, test_of};
+pub use maker::{Assignee, Condition, Increment, Location, Lvalue, Maker, test_of};
 
 mod later;
 mod maker;

@@ -24,7 +24,7 @@ pub struct Location {
 
 /// What is assigned: a variable, or an object in memory.
 #[derive(Clone, Copy)]
-pub enum Spot {
+pub enum Assignee {
     Variable(u32),
     Object(Location),
 }
@@ -34,7 +34,7 @@ pub enum Spot {
 pub struct Lvalue {
     pub place: Place,
     pub kind: LoadKind,
-    pub spot: Spot,
+    pub spot: Assignee,
 }
 
 /// An operator `++` or `--`: its place, the type of its operand, the number that it adds, and where it stands.
@@ -298,11 +298,11 @@ impl Maker {
             (Appends (put_in lvalue.place lvalue.kind (spot_of lvalue.spot) y) self.old self.new) }
     {
         match lvalue.spot {
-            Spot::Variable(v) => {
+            Assignee::Variable(v) => {
                 self.item(lvalue.place, Item::Assign(v, Value::Same(y)))?;
                 Ok(y)
             }
-            Spot::Object(location) => {
+            Assignee::Object(location) => {
                 let z = self.store(lvalue.place, lvalue.kind, location, y)?;
                 Ok(z)
             }
@@ -315,11 +315,11 @@ impl Maker {
             (Appends (held_in (is_counted (counts_of later.now)) lvalue) self.old self.new) }
     {
         match lvalue.spot {
-            Spot::Variable(v) => {
+            Assignee::Variable(v) => {
                 let x = self.variable(later, lvalue.place, v)?;
                 Ok(x)
             }
-            Spot::Object(location) => {
+            Assignee::Object(location) => {
                 let z = self.fetch(lvalue.place, lvalue.kind, location)?;
                 Ok(z)
             }
@@ -331,11 +331,11 @@ impl Maker {
         ensures { IfOk result (Appends (held_in (λ v. true) lvalue) self.old self.new) }
     {
         match lvalue.spot {
-            Spot::Variable(v) => {
+            Assignee::Variable(v) => {
                 let x = self.copy(lvalue.place, v)?;
                 Ok(x)
             }
-            Spot::Object(location) => {
+            Assignee::Object(location) => {
                 let z = self.fetch(lvalue.place, lvalue.kind, location)?;
                 Ok(z)
             }
@@ -400,7 +400,7 @@ impl Maker {
         &mut self,
         later: &Later,
         increment: Increment,
-        spot: Spot,
+        spot: Assignee,
     ) -> Result<Operand, AllocError>
         ensures { IfOk result
             (Appends

@@ -12,8 +12,8 @@ use Rattle.dae_lower.specs.Lowering.{Links, effect_of_some, emit, headed_loop, l
 use Rattle.dae_lower_programs.proofs.Rows.{seam_one, seam_two}
 use Rattle.dae_program.proofs.LawsOfTrees.{statements_at, statements_end}
 use Rattle.dae_meaning.specs.declared.Spelling.TheVariants.{Byte}
-use Rattle.dae_program.specs.declared.statements.Piece.{Piece}
-use Rattle.dae_program.specs.declared.statements.Piece.TheVariants as piece
+use Rattle.dae_program.specs.declared.statements.FormatPiece.{FormatPiece}
+use Rattle.dae_program.specs.declared.statements.FormatPiece.TheVariants as piece
 use Rattle.dae_program.specs.declared.statements.Setting.{Setting}
 use Rattle.dae_program.specs.declared.statements.Statement.{Statement}
 use Rattle.dae_program.specs.declared.statements.Statement.TheVariants as statement
@@ -21,15 +21,15 @@ use Rattle.dae_program.specs.Printing.{argument}
 use Rattle.dae_program.specs.Trees as tree
 use Rattle.dae_program.specs.Views.{row_then, statement_then, view, view_settings, view_some, view_statements}
 
-prints_first : (p : Place) (x : Piece) (ps : List Piece) (xs : List Operand) (n : ℕ) → prints p (x ∷ ps) xs n ≡ (prints p (x ∷ []) xs n ≫ λ u. prints p ps xs)
+prints_first : (p : Place) (x : FormatPiece) (ps : List FormatPiece) (xs : List Operand) (n : ℕ) → prints p (x ∷ ps) xs n ≡ (prints p (x ∷ []) xs n ≫ λ u. prints p ps xs)
 prints_first p (piece.Byte b) ps xs n = seam_one (emit (one p (Print Byte (Number b))) n) (prints p ps xs)
 prints_first p (piece.Word spelling k) ps xs n = seam_one (emit (one p (Print spelling (argument (Number 0) xs k))) n) (prints p ps xs)
 prints_first p (piece.String k) ps xs n = seam_one (text_loop p (argument (Number 0) xs k) n) (prints p ps xs)
 
-pub prints_at : (p : Place) (ps : List Piece) (xs : List Operand) (i : ℕ) (x : Piece) → i < length ps → x ≡ get_or ps i x → (n : ℕ) → prints p (drop i ps) xs n ≡ (prints p (x ∷ []) xs n ≫ λ u. prints p (drop (i + 1) ps) xs)
+pub prints_at : (p : Place) (ps : List FormatPiece) (xs : List Operand) (i : ℕ) (x : FormatPiece) → i < length ps → x ≡ get_or ps i x → (n : ℕ) → prints p (drop i ps) xs n ≡ (prints p (x ∷ []) xs n ≫ λ u. prints p (drop (i + 1) ps) xs)
 prints_at p ps xs i x lt is n = ap (λ qs. prints p qs xs n) (drop_at ps i x lt is) ∙ prints_first p x (drop (i + 1) ps) xs n
 
-pub prints_end : (p : Place) (ps : List Piece) (xs : List Operand) (i : ℕ) → length ps ≤ i → prints p (drop i ps) xs ≡ skip
+pub prints_end : (p : Place) (ps : List FormatPiece) (xs : List Operand) (i : ℕ) → length ps ≤ i → prints p (drop i ps) xs ≡ skip
 prints_end p ps xs i le = ap (λ qs. prints p qs xs) (drop_all i ps le)
 
 settings_first : (l : Links) (p : Place) (v : ℕ) (x : Setting) (xs : List Setting) (n : ℕ) → settings l p v (view_settings (x ∷ xs)) n ≡ (settings l p v (view_settings (x ∷ [])) n ≫ λ u. settings l p v (view_settings xs))

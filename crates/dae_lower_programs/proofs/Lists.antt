@@ -8,7 +8,7 @@ use Rattle.dae_base.proofs.Laws.{and_first, and_second, drop_at}
 use Rattle.dae_lower_formed.specs.Formed.{AreFormsOf, IsFunctionFormOf}
 use Rattle.dae_ir.specs.declared.form.Function.{Function as FormFunction}
 use Rattle.dae_lower_programs.specs.Sound.{IsNumbered}
-use Rattle.dae_program.specs.Lawful.{Bounds, are_inside, are_sound_statements, is_lawful_in, is_lawful_memory, is_main, is_ready, is_sound_slot, is_well_placed, parameter_count, spares}
+use Rattle.dae_program.specs.Lawful.{FunctionBounds, are_inside, are_sound_statements, is_lawful_in, is_lawful_memory, is_main, is_ready, is_sound_slot, is_well_placed, parameter_count, spares}
 use Rattle.dae_program.specs.Resolved.{function_in}
 use Rattle.dae_program.specs.declared.program.Function.{Function}
 use Rattle.dae_program.specs.declared.program.Links.{Links}
@@ -53,7 +53,7 @@ numbered_at (g ∷ gs) (suc i) f lt is all = numbered_at gs i f (omega (arith, l
 lawful_numbers : (memory : ℕ) (links : List Links) (functions : List Function) (f : Function) → is_lawful_in memory links functions true f ≡ true → IsNumbered f
 lawful_numbers memory links functions f h =
     let g = function_in (length functions) links (Some f) in
-    let b : Bounds = record { variables = f.variables; parameters = λ k. parameter_count (slice_get functions (g.callee k)); address = g.address; memory = memory; frame = g.frame } in
+    let b : FunctionBounds = record { variables = f.variables; parameters = λ k. parameter_count (slice_get functions (g.callee k)); address = g.address; memory = memory; frame = g.frame } in
     let sound = list_all (is_sound_slot g.frame) g.parameters && are_sound_statements b g.body in
     let first = nat_eq (g.frame % 4) 0 && nat_le (1 + length g.parameters) f.variables in
     let both = and_first (first && sound) (are_inside false false true g.body) h in

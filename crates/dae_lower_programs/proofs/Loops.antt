@@ -15,13 +15,13 @@ use Rattle.dae_lower_programs.proofs.Reserving.{two_reserved}
 use Rattle.dae_lower_programs.proofs.Rows.{two_codes, two_items}
 use Rattle.dae_lower_programs.specs.Parts.{text_turn, zero_then, zero_turn}
 use Rattle.dae_lower_maker.proofs.Laws.{behind_behind, behind_done, form_of_pushed, parts_written}
-use Rattle.dae_lower_maker.specs.Making.{Written, Writes}
+use Rattle.dae_lower_maker.specs.Making.{CodeSoFar, Writes}
 use Rattle.dae_lower_maker.specs.Numbers.{late, late_in, number_after}
 use Rattle.dae_meaning.specs.declared.Comparison.TheVariants.{NotEqual}
 use Rattle.dae_meaning.specs.declared.Operator.TheVariants.{Add, Subtract}
 
 -- a variable that nothing reads, whatever was given for it
-pub unread_written : (place : Place) (a b : Written) (y : Operand) → Writes (set place (Same (Number 0)) a.next) a b y → Writes (unread place a.next) a b tt
+pub unread_written : (place : Place) (a b : CodeSoFar) (y : Operand) → Writes (set place (Same (Number 0)) a.next) a b y → Writes (unread place a.next) a b tt
 unread_written place a b y h = record {
   grows = h.grows;
   fits = λ lt. (let w = h.fits lt in record { code = w.code; given = refl; next = w.next });
@@ -31,7 +31,7 @@ unread_written place a b y h = record {
 abbrev text_code : Place → Operand → ℕ → ℕ → Form
 text_code p x n m = Do p (Assign n (Same x)) (Loop p (text_turn p n m) (one p (Assign n (Binary Add (Variable n) (Number 1)))) Done)
 
-pub text_written : (place : Place) (x : Operand) (a b c d e : Written) (v u : ℕ) (body step : List Statement)
+pub text_written : (place : Place) (x : Operand) (a b c d e : CodeSoFar) (v u : ℕ) (body step : List Statement)
     → v ≡ a.next → b ≡ record { code = a.code; next = number_after v } → u ≡ b.next → c ≡ record { code = b.code; next = number_after u }
     → form_of body ≡ text_turn place v u → form_of step ≡ one place (Assign v (Binary Add (Variable v) (Number 1)))
     → Writes (only (one place (Assign v (Same x))) (tt {0}) c.next) c d tt
@@ -91,7 +91,7 @@ turn_made p size n m count leave xs ys block a b e is h =
 abbrev zero_code : Place → (offset size n m : ℕ) → Form
 zero_code p offset size n m = Do p (Assign m (FrameAddress offset)) (Do p (Assign n (Binary Subtract (Variable m) (Number size))) (Loop p (zero_turn p size n m) Done Done))
 
-pub zeros_written : (place : Place) (offset size behind : ℕ) (a b c d e f : Written) (v u : ℕ) (body step : List Statement)
+pub zeros_written : (place : Place) (offset size behind : ℕ) (a b c d e f : CodeSoFar) (v u : ℕ) (body step : List Statement)
     → v ≡ a.next → b ≡ record { code = a.code; next = number_after v } → u ≡ b.next → c ≡ record { code = b.code; next = number_after u }
     → behind ≡ plus offset size → form_of body ≡ zero_turn place size v u → step ≡ []
     → Writes (only (one place (Assign u (FrameAddress behind))) (tt {0}) c.next) c d tt

@@ -9,12 +9,12 @@ use Rattle.dae_ir.specs.declared.form.Operand.TheVariants.{Number, Variable}
 use Rattle.dae_ir.specs.declared.form.Statement.{Statement}
 use Rattle.dae_ir.specs.declared.form.Value.TheVariants.{Same}
 use Rattle.dae_lower.specs.Lowering.{emit, one, only, search, test_of, where_so, ◌⨾◌}
-use Rattle.dae_lower_expressions.specs.Lowered.{State, Whole}
+use Rattle.dae_lower_expressions.specs.Lowered.{LoweringState, Whole}
 use Rattle.dae_lower_programs.proofs.Reserving.{two_reserved}
 use Rattle.dae_lower_programs.proofs.Rows.{two_codes}
 use Rattle.dae_lower_programs.specs.Switching.{switch_begun, switch_ended}
 use Rattle.dae_lower_maker.proofs.Laws.{parts_written}
-use Rattle.dae_lower_maker.specs.Making.{Written, Writes}
+use Rattle.dae_lower_maker.specs.Making.{CodeSoFar, Writes}
 use Rattle.dae_lower_maker.specs.Numbers.{late, late_in, number_after}
 use Rattle.dae_meaning.specs.declared.Comparison.TheVariants.{NotEqual}
 use Rattle.dae_program.specs.Trees.{Arms}
@@ -26,7 +26,7 @@ cleared p u goes_on = where_so goes_on (one p (Assign u (Same (Number 0))))
 abbrev begun : Place → (v other : ℕ) → (searching none : Form) → Form → Form
 begun p v other searching none k = Do p (Assign v (Same (Number other))) (Loop p searching none k)
 
-pub begun_whole : (p : Place) (x : Operand) (number other : ℕ) (arms : Arms) (goes_on : Bool) (a z : State) (b c d e : Written) (v u : ℕ) (searching none : List Statement)
+pub begun_whole : (p : Place) (x : Operand) (number other : ℕ) (arms : Arms) (goes_on : Bool) (a z : LoweringState) (b c d e : CodeSoFar) (v u : ℕ) (searching none : List Statement)
     → number ≡ other → v ≡ a.written.next → b ≡ record { code = a.written.code; next = number_after v } → u ≡ b.next → c ≡ record { code = b.code; next = number_after u }
     → form_of searching ≡ search p x v 0 arms → none ≡ []
     → Writes (only (one p (Assign v (Same (Number number)))) (tt {0}) c.next) c d tt
@@ -70,7 +70,7 @@ noted p u goes_on = where_so goes_on (Do p (Assign u (Same (Number 1))) (one p B
 abbrev pub going_on : Place → ℕ → Bool → Form
 going_on p u goes_on = where_so goes_on (If p (test_of NotEqual (Variable u) (Number 0)) (one p Continue) Done Done)
 
-pub ended_whole : (p : Place) (u : ℕ) (goes_on : Bool) (body step : List Statement) (a z : State) (b : Written)
+pub ended_whole : (p : Place) (u : ℕ) (goes_on : Bool) (body step : List Statement) (a z : LoweringState) (b : CodeSoFar)
     → form_of step ≡ noted p u goes_on
     → Writes (emit (Loop p (form_of body) (form_of step) Done) a.written.next) a.written b tt
     → Whole (emit (going_on p u goes_on)) (record { written = b; later = a.later }) z tt

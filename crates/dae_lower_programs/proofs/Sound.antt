@@ -6,7 +6,7 @@ use Rattle.std.specs.Prelude.{Bool, Option}
 use Rattle.dae_base.proofs.Laws.{and_first, and_second}
 use Rattle.dae_base.specs.declared.Place.{Place}
 use Rattle.dae_lower_programs.specs.Sound.{AreArmsSound, AreSound}
-use Rattle.dae_program.specs.Lawful.{Bounds, are_sound_arms, are_sound_statements, is_label_word, is_sound, is_sound_some, is_word}
+use Rattle.dae_program.specs.Lawful.{FunctionBounds, are_sound_arms, are_sound_statements, is_label_word, is_sound, is_sound_some, is_word}
 use Rattle.dae_program.specs.Switches.{count_arms}
 use Rattle.dae_program.specs.Trees as tree
 use Rattle.dae_program.specs.Trees.{Expression, Statements}
@@ -28,7 +28,7 @@ fourth a b c d h =
 second : (a b : Bool) → (a && b) ≡ true → ((a && true) ≡ true) × (b ≡ true)
 second a b h = (and_from a true (and_first a b h) refl, and_second a b h)
 
-split : (b : Bounds) (s : Statement) (k : Statements) → are_sound_statements b (statement_then s k) ≡ true → (are_sound_statements b (statement_then s tree.Done) ≡ true) × (are_sound_statements b k ≡ true)
+split : (b : FunctionBounds) (s : Statement) (k : Statements) → are_sound_statements b (statement_then s k) ≡ true → (are_sound_statements b (statement_then s tree.Done) ≡ true) × (are_sound_statements b k ≡ true)
 split b (statement.Evaluate p e) k h = second _ (are_sound_statements b k) h
 split b (statement.Initialise p offset size items) k h = third _ _ (are_sound_statements b k) h
 split b (statement.Print p xs pieces) k h = second _ (are_sound_statements b k) h
@@ -40,7 +40,7 @@ split b (statement.Break p) k h = (refl, h)
 split b (statement.Continue p) k h = (refl, h)
 split b (statement.Return p e) k h = second _ (are_sound_statements b k) h
 
-by_bounds : (b : Bounds) (xs : List Statement) (i : ℕ) (s : Statement) → i < length xs → s ≡ get_or xs i s → are_sound_statements b (view_statements xs) ≡ true → are_sound_statements b (statement_then s tree.Done) ≡ true
+by_bounds : (b : FunctionBounds) (xs : List Statement) (i : ℕ) (s : Statement) → i < length xs → s ≡ get_or xs i s → are_sound_statements b (view_statements xs) ≡ true → are_sound_statements b (statement_then s tree.Done) ≡ true
 by_bounds b [] i s lt is h = absurd (omega (arith, lt))
 by_bounds b (x ∷ xs) zero s lt is h = subst (λ (y : Statement). are_sound_statements b (statement_then y tree.Done) ≡ true) (sym is) (split b x (view_statements xs) h).0
 by_bounds b (x ∷ xs) (suc i) s lt is h = by_bounds b xs i s (omega (arith, lt)) is (split b x (view_statements xs) h).1
@@ -78,7 +78,7 @@ counted (a ∷ xs) = ap suc (counted xs)
 pub few_arms : (xs : List Arm) → AreArmsSound (arms_of xs) → length xs < 2 ^ 32
 few_arms xs h = subst (λ (n : ℕ). n < 2 ^ 32) (counted xs) h.few
 
-arm_by : (b : Bounds) (xs : List Arm) (i : ℕ) (a : Arm) → i < length xs → a ≡ get_or xs i a → are_sound_arms b (arms_of xs) ≡ true → are_sound_statements b (view_statements a.statements.items) ≡ true
+arm_by : (b : FunctionBounds) (xs : List Arm) (i : ℕ) (a : Arm) → i < length xs → a ≡ get_or xs i a → are_sound_arms b (arms_of xs) ≡ true → are_sound_statements b (view_statements a.statements.items) ≡ true
 arm_by b [] i a lt is h = absurd (omega (arith, lt))
 arm_by b (x ∷ xs) zero a lt is h = subst (λ (y : Arm). are_sound_statements b (view_statements y.statements.items) ≡ true) (sym is) (and_first _ _ (and_second (list_all is_label_word x.labels.items) _ h))
 arm_by b (x ∷ xs) (suc i) a lt is h = arm_by b xs i a (omega (arith, lt)) is (and_second _ _ (and_second (list_all is_label_word x.labels.items) _ h))

@@ -8,7 +8,7 @@ use Rattle.dae_ir.specs.declared.form.Operand.{Operand}
 use Rattle.dae_ir.specs.declared.form.Operand.TheVariants.{Number, Variable}
 use Rattle.dae_ir.specs.declared.form.Statement.{Statement as FormStatement}
 use Rattle.dae_lower.specs.Lowering.{Links, Made, arms_from, emit, one, only, search, skip, statements, switch, test_of, ◌⨾◌, ◌≫◌}
-use Rattle.dae_lower_expressions.specs.Lowered.{IsBlock, State, Whole}
+use Rattle.dae_lower_expressions.specs.Lowered.{IsBlock, LoweringState, Whole}
 use Rattle.dae_lower_maker.proofs.Laws.{after_fits, after_most, below_or_last, late_then}
 use Rattle.dae_lower_maker.specs.Making.{Writes, Wrote}
 use Rattle.dae_lower_maker.specs.Numbers.{late_in, number_after}
@@ -27,7 +27,7 @@ use Rattle.dae_program.specs.Views.{view_statements, arms_of}
 abbrev pub arm_made : Links → Place → (v k : ℕ) → tree.Statements → ℕ → Made (Unit {0})
 arm_made l p v k t n = let made = statements l t n in emit (If p (test_of AtLeastUnsigned (Number k) (Variable v)) made.code Done Done) made.next
 
-pub arm_whole : (l : Links) (p : Place) (v k i : ℕ) (t : tree.Statements) (a b c : State) (body : List FormStatement) → k ≡ i → WholeBlock (statements l t) a b body → Whole (arm_done p v k (form_of body)) b c tt → Whole (arm_made l p v i t) a c tt
+pub arm_whole : (l : Links) (p : Place) (v k i : ℕ) (t : tree.Statements) (a b c : LoweringState) (body : List FormStatement) → k ≡ i → WholeBlock (statements l t) a b body → Whole (arm_done p v k (form_of body)) b c tt → Whole (arm_made l p v i t) a c tt
 arm_whole l p v k i t a b c body same h g = record {
   by = λ q. let j = h.by q in let m = g.by j.0 in (m.0, whole j.1 m.1);
 } where
@@ -57,7 +57,7 @@ abbrev arms_turned : Links → Place → Bool → tree.Arms → (u v n : ℕ) �
 arms_turned l p goes_on arms u v n = only (turned p goes_on ((arms_from l p v 0 arms n).code ⨾ one p Break) u) (tt {0}) (arms_from l p v 0 arms n).next
 
 -- a switch, once its value is known
-pub switch_whole : (l : Links) (p : Place) (x : Operand) (other : ℕ) (arms : tree.Arms) (goes_on : Bool) (a b c d : State) (v u : ℕ) (body : List FormStatement)
+pub switch_whole : (l : Links) (p : Place) (x : Operand) (other : ℕ) (arms : tree.Arms) (goes_on : Bool) (a b c d : LoweringState) (v u : ℕ) (body : List FormStatement)
     → u ≡ number_after v
     → Whole (switch_begun p x other arms goes_on) a b v
     → WholeBlock (λ n. arms_from l p v 0 arms n ≫ λ u. emit (one p Break)) b c body

@@ -14,13 +14,13 @@ use Rattle.dae_ir.specs.declared.form.Item.TheVariants.{Assign, Expect, Store}
 use Rattle.dae_ir.specs.declared.form.Operand.TheVariants.{Variable}
 use Rattle.dae_ir.specs.declared.form.Value.TheVariants.{FrameAddress}
 use Rattle.dae_lower.specs.Lowering.{Made, checks, closed, emit, function_code, is_closed, one, only, parameters_stored, skip, ◌⨾◌, ◌≫◌}
-use Rattle.dae_lower_expressions.specs.Lowered.{State, Whole}
+use Rattle.dae_lower_expressions.specs.Lowered.{LoweringState, Whole}
 use Rattle.dae_lower_programs.proofs.Closing.{front_closed}
 use Rattle.dae_lower_programs.proofs.Reserving.{one_reserved}
 use Rattle.dae_lower_programs.specs.Functions.{HasNumbers, HasNumbersWith, IsFormWith, linked, slot_stored}
 use Rattle.dae_lower_programs.proofs.Laws.{then_whole, two_items}
 use Rattle.dae_lower_maker.specs.Counting.{never}
-use Rattle.dae_lower_maker.specs.Making.{Written, Writes}
+use Rattle.dae_lower_maker.specs.Making.{CodeSoFar, Writes}
 use Rattle.dae_lower_maker.specs.Numbers.{late, late_in, number_after}
 use Rattle.dae_lower_maker.proofs.Laws.{below_or_last, late_checks, late_then}
 use Rattle.dae_program.specs.Resolved.{address_in, callee_in}
@@ -29,23 +29,23 @@ use Rattle.dae_program.specs.Views.{view_statements}
 use Rattle.dae_program.specs.declared.program.Function.{Function}
 use Rattle.dae_program.specs.declared.program.Links.{Links}
 use Rattle.dae_program.specs.declared.program.Program.{Program}
-use Rattle.dae_program.specs.declared.program.Slot.{Slot}
+use Rattle.dae_program.specs.declared.program.FrameSlot.{FrameSlot}
 
 -- ---- parameters
 
 -- a parameter, and then those behind it
-slots_split : (p : Place) (slot : Option Slot) (slots : List (Option Slot)) (k n : ℕ) → parameters_stored p (slot ∷ slots) k n ≡ (parameters_stored p (slot ∷ []) k n ≫ λ x. parameters_stored p slots (k + 1))
+slots_split : (p : Place) (slot : Option FrameSlot) (slots : List (Option FrameSlot)) (k n : ℕ) → parameters_stored p (slot ∷ slots) k n ≡ (parameters_stored p (slot ∷ []) k n ≫ λ x. parameters_stored p slots (k + 1))
 slots_split p None slots k n = refl
 slots_split p (Some slot) slots k n = refl
 
-pub slots_at : (p : Place) (slots : List (Option Slot)) (i : ℕ) (slot : Option Slot) (k : ℕ) → i < length slots → slot ≡ get_or slots i slot → (n : ℕ) → parameters_stored p (drop i slots) k n ≡ (parameters_stored p (slot ∷ []) k n ≫ λ x. parameters_stored p (drop (i + 1) slots) (k + 1))
+pub slots_at : (p : Place) (slots : List (Option FrameSlot)) (i : ℕ) (slot : Option FrameSlot) (k : ℕ) → i < length slots → slot ≡ get_or slots i slot → (n : ℕ) → parameters_stored p (drop i slots) k n ≡ (parameters_stored p (slot ∷ []) k n ≫ λ x. parameters_stored p (drop (i + 1) slots) (k + 1))
 slots_at p slots i slot k lt is n = ap (λ s. parameters_stored p s k n) (drop_at slots i slot lt is) ∙ slots_split p slot (drop (i + 1) slots) k n
 
-pub slots_end : (p : Place) (slots : List (Option Slot)) (i k : ℕ) → length slots ≤ i → parameters_stored p (drop i slots) k ≡ skip
+pub slots_end : (p : Place) (slots : List (Option FrameSlot)) (i k : ℕ) → length slots ≤ i → parameters_stored p (drop i slots) k ≡ skip
 slots_end p slots i k le = ap (λ s. parameters_stored p s k) (drop_all i slots le)
 
 -- the address in the next variable, and the store
-pub slot_written : (p : Place) (v : ℕ) (slot : Slot) (a b c d : Written) (address : ℕ) → address ≡ a.next → b ≡ record { code = a.code; next = number_after address }
+pub slot_written : (p : Place) (v : ℕ) (slot : FrameSlot) (a b c d : CodeSoFar) (address : ℕ) → address ≡ a.next → b ≡ record { code = a.code; next = number_after address }
     → Writes (only (one p (Assign address (FrameAddress slot.offset))) (tt {0}) b.next) b c tt
     → Writes (only (one p (Store slot.width (Variable address) (Variable v))) (tt {0}) c.next) c d tt
     → Writes (slot_stored p v slot a.next) a d tt
@@ -65,18 +65,18 @@ slot_written p v slot a b c d address is begun h k =
 -- ---- the parts
 
 -- what is written of a function with n variables of its own
-pub record Written_so (p : Place) (flag : Bool) (body : ℕ → Made (Unit {0})) (n : ℕ) (d : State) : Type 0 where
+pub record Written_so (p : Place) (flag : Bool) (body : ℕ → Made (Unit {0})) (n : ℕ) (d : LoweringState) : Type 0 where
   pub fits : d.written.next < 2 ^ 32 - 1 → (d.written.code ≡ checks flag p (Expect Frame) Done ⨾ (body n).code) × (d.written.next ≡ (body n).next)
   pub full : n < 2 ^ 32 - 1 → 2 ^ 32 - 1 ≤ d.written.next → 0 < late_in (body n).code
 
-abbrev pub begun : ℕ → State
+abbrev pub begun : ℕ → LoweringState
 begun n = record { written = record { code = Done; next = n }; later = never }
 
 frame_late : (flag : Bool) (p : Place) → late_in (checks flag p (Expect Frame) Done) ≡ 0
 frame_late true p = refl
 frame_late false p = refl
 
-pub function_written : (p : Place) (flag : Bool) (first second : ℕ → Made (Unit {0})) (n : ℕ) (a b c d : State) → a ≡ begun n
+pub function_written : (p : Place) (flag : Bool) (first second : ℕ → Made (Unit {0})) (n : ℕ) (a b c d : LoweringState) → a ≡ begun n
     → Whole (emit (checks flag p (Expect Frame) Done)) a b tt → Whole first b c tt → Whole second c d tt
     → Written_so p flag (λ n. first n ≫ λ x. second) n d
 function_written p flag first second n a b c d is h i j = record {
@@ -95,11 +95,11 @@ function_written p flag first second n a b c d is h i j = record {
 
   all_written : (d.later ≡ never) × Writes (front n ≫ λ x. all) (let s = begun n in s.written) d.written tt
   all_written =
-      let e = then_whole front (λ x. all) (begun n) b d tt tt (subst (λ (s : State). Whole front s b tt) is h) (then_whole first (λ x. second) b c d tt tt i j) in
+      let e = then_whole front (λ x. all) (begun n) b d tt tt (subst (λ (s : LoweringState). Whole front s b tt) is h) (then_whole first (λ x. second) b c d tt tt i j) in
       e.by refl
 
 -- with its end
-pub code_closed : (p : Place) (flag : Bool) (last : Item) (body : ℕ → Made (Unit {0})) (n : ℕ) (d : State) (block code : Form) → d.written.code ≡ checks flag p (Expect Frame) Done ⨾ (body n).code → block ≡ d.written.code → code ≡ closed p last block → code ≡ checks flag p (Expect Frame) (closed p last (body n).code)
+pub code_closed : (p : Place) (flag : Bool) (last : Item) (body : ℕ → Made (Unit {0})) (n : ℕ) (d : LoweringState) (block code : Form) → d.written.code ≡ checks flag p (Expect Frame) Done ⨾ (body n).code → block ≡ d.written.code → code ≡ closed p last block → code ≡ checks flag p (Expect Frame) (closed p last (body n).code)
 code_closed p flag last body n d block code w e h = h ∙ ap (closed p last) (e ∙ w) ∙ front_closed flag p Frame last (body n).code
 
 closed_late : (p : Place) (last : Item) (code : Form) → late_in code ≤ late_in (closed p last code)
@@ -109,7 +109,7 @@ closed_late p last code = by (is_closed code) where
   by false = let l = late_then code (one p last) in omega (arith, l)
 
 -- where no item sets one of the last variables, numbers don't come to the last
-pub stays_below : (p : Place) (flag : Bool) (last : Item) (body : ℕ → Made (Unit {0})) (n : ℕ) (d : State) → Written_so p flag body n d → n < 2 ^ 32 - 1 → late_in (checks flag p (Expect Frame) (closed p last (body n).code)) ≡ 0 → d.written.next < 2 ^ 32 - 1
+pub stays_below : (p : Place) (flag : Bool) (last : Item) (body : ℕ → Made (Unit {0})) (n : ℕ) (d : LoweringState) → Written_so p flag body n d → n < 2 ^ 32 - 1 → late_in (checks flag p (Expect Frame) (closed p last (body n).code)) ≡ 0 → d.written.next < 2 ^ 32 - 1
 stays_below p flag last body n d w start none = by (below_or_last d.written.next) where
   by : (d.written.next < 2 ^ 32 - 1) ⊎ (2 ^ 32 - 1 ≤ d.written.next) → d.written.next < 2 ^ 32 - 1
   by (inl lt) = lt

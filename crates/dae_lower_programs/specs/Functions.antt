@@ -13,7 +13,7 @@ use Rattle.dae_lower_maker.specs.Numbers.{late_in}
 use Rattle.dae_program.specs.declared.program.Function.{Function}
 use Rattle.dae_program.specs.declared.program.Links.{Links}
 use Rattle.dae_program.specs.declared.program.Program.{Program}
-use Rattle.dae_program.specs.declared.program.Slot.{Slot}
+use Rattle.dae_program.specs.declared.program.FrameSlot.{FrameSlot}
 use Rattle.dae_program.specs.Resolved.{address_in, callee_in}
 use Rattle.dae_program.specs.Trees as tree
 use Rattle.dae_program.specs.Views.{view_statements}
@@ -48,6 +48,6 @@ pub record IsFormWith (none : ℕ) (links : Links) (is_main : Bool) (f : Functio
   pub body : form_of g.body ≡ function_code f.place is_main (linked none links f) f.variables
 
 -- a variable is stored in the frame, whose address is in the next one
-abbrev pub slot_stored : Place → (variable : ℕ) → Slot → ℕ → Made (Unit {0})
+abbrev pub slot_stored : Place → (variable : ℕ) → FrameSlot → ℕ → Made (Unit {0})
 slot_stored p v slot n =
     emit (Do p (Assign n (FrameAddress slot.offset)) (one p (Store slot.width (Variable n) (Variable v)))) (n + 1)

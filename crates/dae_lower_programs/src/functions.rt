@@ -18,7 +18,7 @@ use crate::make_statements;
 use dae_base::{Items, Place, Text};
 use dae_ir::{Check, Function as FormFunction, Item, Operand, Statement, Value};
 use dae_lower_expressions::Lowerer;
-use dae_program::{Function, Links, Program, Slot};
+use dae_program::{FrameSlot, Function, Links, Program};
 use std::alloc::{AllocError, Global};
 
 /// How a function is invoked: at the program's startup, as main is, or by calls.
@@ -33,7 +33,7 @@ fn store_in(
     lowerer: &mut Lowerer,
     place: Place,
     variable: u32,
-    slot: Slot,
+    slot: FrameSlot,
 ) -> Result<(), AllocError>
     ensures { IfOk result (MakesWhole (slot_stored place variable slot) lowerer.old lowerer.new) }
 {
@@ -54,7 +54,7 @@ fn store_parameter(
     lowerer: &mut Lowerer,
     place: Place,
     number: u32,
-    slot: &Option<Slot>,
+    slot: &Option<FrameSlot>,
 ) -> Result<(), AllocError>
     ensures { IfOk result
         (MakesWhole (parameters_stored place (slot.now ∷ []) number) lowerer.old lowerer.new) }
@@ -72,7 +72,7 @@ fn store_parameter(
 fn store_parameters(
     lowerer: &mut Lowerer,
     place: Place,
-    slots: &[Option<Slot>],
+    slots: &[Option<FrameSlot>],
 ) -> Result<(), AllocError>
     requires { 1 + length slots.now < 2 ^ 32 }
     ensures { IfOk result

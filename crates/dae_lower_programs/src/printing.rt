@@ -13,7 +13,7 @@ use dae_base::{LoadKind, Place, Width};
 use dae_ir::{Check, Item, Operand, Statement, Test, Value};
 use dae_lower_expressions::Lowerer;
 use dae_meaning::{Comparison, Spelling};
-use dae_program::Piece;
+use dae_program::FormatPiece;
 use std::alloc::{AllocError, Global};
 
 /// A turn of printing a text: the byte at an address is printed, but a 0 leaves the loop.
@@ -71,23 +71,23 @@ fn print_piece(
     lowerer: &mut Lowerer,
     place: Place,
     xs: &[Operand],
-    piece: &Piece,
+    piece: &FormatPiece,
 ) -> Result<(), AllocError>
     ensures { IfOk result
         (MakesWhole (prints place (piece.now ∷ []) xs.now) lowerer.old lowerer.new) }
 {
     match piece {
-        Piece::Byte(byte) => {
+        FormatPiece::Byte(byte) => {
             let x = Operand::Number(u32::from(*byte));
             lowerer.maker.item(place, Item::Print(Spelling::Byte, x))?;
             Ok(())
         }
-        Piece::Word(spelling, number) => {
+        FormatPiece::Word(spelling, number) => {
             let x = argument(xs, *number);
             lowerer.maker.item(place, Item::Print(*spelling, x))?;
             Ok(())
         }
-        Piece::String(number) => {
+        FormatPiece::String(number) => {
             let x = argument(xs, *number);
             print_text(lowerer, place, x)?;
             Ok(())
@@ -100,7 +100,7 @@ pub fn print(
     lowerer: &mut Lowerer,
     place: Place,
     xs: &[Operand],
-    pieces: &[Piece],
+    pieces: &[FormatPiece],
 ) -> Result<(), AllocError>
     ensures { IfOk result (MakesWhole (prints place pieces.now xs.now) lowerer.old lowerer.new) }
 {

@@ -6,8 +6,8 @@ use Rattle.dae_base.specs.declared.Side.TheVariants.{A, E}
 use Rattle.dae_encode.specs.declared.QueueUse.{QueueUse}
 use Rattle.dae_base.specs.Words.{width_of}
 use Rattle.dae_encode.specs.declared.Inst.{Inst}
-use Rattle.dae_encode.specs.declared.Form.{Form}
-use Rattle.dae_encode.specs.declared.Form.TheVariants.{Computes, Loads, Stores, Calls}
+use Rattle.dae_encode.specs.declared.InstructionForm.{InstructionForm}
+use Rattle.dae_encode.specs.declared.InstructionForm.TheVariants.{Computes, Loads, Stores, Calls}
 use Rattle.dae_encode.specs.Instructions.{form}
 use Rattle.dae_encode.specs.Processor.{Processor, After, address, is_good_private, is_shared, finish}
 use Rattle.dae_core.specs.Queues.{Queues, peek, commit, loads_of, with_loads_of}
@@ -15,7 +15,7 @@ use Rattle.dae_queues.specs.Lists.{with_value}
 use Rattle.dae_core.proofs.Laws.{UseOfA, UseOfE, a_nothing, a_load_ld, a_load_al, a_take_al, a_address, a_push_ab, a_push_cq, a_take_eb, e_nothing, e_take_ld, e_push_sd, e_take_ab, e_take_cq, e_push_eb, of_a, of_e}
 use Rattle.dae_machine.specs.declared.Pick.{Pick}
 use Rattle.dae_machine.specs.Machine.{Setup, State, step}
-use Rattle.dae_machine.specs.Held.{Counted, is_plain}
+use Rattle.dae_machine.specs.Held.{AreCounted, is_plain}
 use Rattle.dae_machine.proofs.CountLaws.{counted_fill}
 use Rattle.dae_machine.proofs.Diamond.{Did, by_a, by_e, by_fill, by_drain, did, counted_did}
 
@@ -43,7 +43,7 @@ after_e w n q e_take_ab m = record { ld = omega (arith, m.ld); al = omega (arith
 after_e w n q e_take_cq m = record { ld = omega (arith, m.ld); al = omega (arith, m.al); stores = omega (arith, m.stores) }
 after_e w n q e_push_eb m = record { ld = omega (arith, m.ld); al = omega (arith, m.al); stores = omega (arith, m.stores) }
 
-at_most : (s : State) → Counted s.queues s.steps → AtMost s.queues s.steps
+at_most : (s : State) → AreCounted s.queues s.steps → AtMost s.queues s.steps
 at_most s c = record { ld = c.ld; al = c.al; stores = c.stores }
 
 after_did : {setup : Setup} {s t : State} {p : Pick} → AtMost s.queues s.steps → Did setup s p t → AtMost t.queues t.steps
@@ -53,13 +53,13 @@ after_did {setup} {s} m (by_fill {side = A} f) = record { ld = omega (arith, m.l
 after_did {setup} {s} m (by_fill {side = E} f) = record { ld = omega (arith, m.ld); al = omega (arith, m.al); stores = omega (arith, m.stores) }
 after_did {setup} {s} m (by_drain f) = record { ld = omega (arith, m.ld); al = omega (arith, m.al); stores = omega (arith, m.stores) }
 
-pub counted_after : (setup : Setup) (s t : State) (p : Pick) → Counted s.queues s.steps → step setup s p ≡ Some t → Counted t.queues t.steps
+pub counted_after : (setup : Setup) (s t : State) (p : Pick) → AreCounted s.queues s.steps → step setup s p ≡ Some t → AreCounted t.queues t.steps
 counted_after setup s t p c h =
     let d = did setup s t p h in
     let m = after_did (at_most s c) d in
     record { counts = counted_did c.counts d; ld = m.ld; al = m.al; stores = m.stores }
 
-pub counted_filled : (side : Side) (n w : ℕ) (q : Queues) (steps : ℕ) → Counted q steps → Counted (with_loads_of side (with_value n w (loads_of side q).slots) q) (steps + 1)
+pub counted_filled : (side : Side) (n w : ℕ) (q : Queues) (steps : ℕ) → AreCounted q steps → AreCounted (with_loads_of side (with_value n w (loads_of side q).slots) q) (steps + 1)
 counted_filled A n w q steps c = record { counts = counted_fill A n w q c.counts; ld = omega (arith, c.ld); al = omega (arith, c.al); stores = omega (arith, c.stores) }
 counted_filled E n w q steps c = record { counts = counted_fill E n w q c.counts; ld = omega (arith, c.ld); al = omega (arith, c.al); stores = omega (arith, c.stores) }
 
@@ -73,7 +73,7 @@ if_unplain : (b : Bool) (x y : Option After) → Unplain x → Unplain y → Unp
 if_unplain true x y h k = h
 if_unplain false x y h k = k
 
-unplain_finish : (p : Processor) (u : QueueUse) (i : Inst) (f : Form) (w : ℕ) → is_plain p.halt ≡ false → Unplain (finish E p u i f w)
+unplain_finish : (p : Processor) (u : QueueUse) (i : Inst) (f : InstructionForm) (w : ℕ) → is_plain p.halt ≡ false → Unplain (finish E p u i f w)
 unfolding finish Unplain
 unplain_finish p u i (Computes rd first second) w h = h
 unplain_finish p u i (Loads kind rd base offset) w h = if_unplain (is_shared u) _ _ h (if_unplain (is_good_private p (width_of kind) (address p w base offset)) _ _ h tt)

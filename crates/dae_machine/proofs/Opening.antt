@@ -4,7 +4,7 @@ use Rattle.std.specs.Prelude.{replicate}
 use Rattle.std.proofs.lemmas.List.{length-replicate}
 use Rattle.dae_image.specs.declared.Image.{Image}
 use Rattle.dae_core.specs.Queues.{empty_queues}
-use Rattle.dae_machine.specs.Held.{Counted, DataFit}
+use Rattle.dae_machine.specs.Held.{AreCounted, DataFit}
 use Rattle.dae_machine.specs.Machine.{IsCounted}
 use Rattle.dae_machine.specs.Opened.{opened}
 
@@ -15,7 +15,7 @@ memory_length content size fit =
     let zeros = length-replicate {A = ℕ} (size - (16 + length content)) 0 in
     omega (arith, inner, outer, zeros)
 
-pub none_counted : Counted empty_queues 0
+pub none_counted : AreCounted empty_queues 0
 none_counted = record {
   counts = record { ld = record { numbers = refl; stamps = tt }; al = record { numbers = refl; stamps = tt }; sa = refl };
   ld = omega arith;

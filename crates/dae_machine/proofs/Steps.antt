@@ -16,7 +16,7 @@ use Rattle.dae_queues.specs.Lists.{with_value}
 use Rattle.dae_machine.specs.Answers.{answer, is_done}
 use Rattle.dae_machine.specs.Machine.{Setup, State, filled, step}
 use Rattle.dae_machine.specs.Memory.{fill, filling}
-use Rattle.dae_machine.specs.Held.{Counted, HeldMachine, IsSound, is_plain, seen}
+use Rattle.dae_machine.specs.Held.{AreCounted, HeldMachine, IsSound, is_plain, seen}
 use Rattle.dae_machine.proofs.Moves.{opens, fronts, afters, answer_is, a_moved, a_told, e_moved, e_told, tells_same, ToldBy}
 use Rattle.dae_machine.proofs.Kept.{counted_after, counted_filled, unplain_after}
 
@@ -77,7 +77,7 @@ module _ (a e : HeldCore) (q : HeldQueues) (memory : List ℕ) (taken : ℕ) (so
           on_a = kept.side ∙ sound.on_a;
           on_e = sound.on_e;
           same = sound.same ∙ sym kept.copies;
-          counted = subst (λ (t : State). Counted t.queues t.steps) moved.0 counted;
+          counted = subst (λ (t : State). AreCounted t.queues t.steps) moved.0 counted;
           small = sound.small;
           ends = sound.ends;
         };
@@ -97,7 +97,7 @@ module _ (a e : HeldCore) (q : HeldQueues) (memory : List ℕ) (taken : ℕ) (so
             on_a = sound.on_a;
             on_e = kept.side ∙ sound.on_e;
             same = kept.copies ∙ sound.same;
-            counted = subst (λ (t : State). Counted t.queues t.steps) moved.2 counted;
+            counted = subst (λ (t : State). AreCounted t.queues t.steps) moved.2 counted;
             small = sound.small;
             ends = subst (λ (t : State). is_plain t.e.halt ≡ false) moved.2 (unplain_after whole.setup whole.state found.0 MoveE sound.ends found.1);
           };

@@ -13,7 +13,7 @@ use Rattle.dae_base.specs.declared.Side.TheVariants.{A, E}
 use Rattle.dae_queues.specs.declared.Slot.{Slot}
 use Rattle.dae_queues.specs.declared.StoreAt.{StoreAt}
 use Rattle.dae_queues.specs.Lists.{bars, can_be_filled, filling_of, is_waiting, waiting, with_value}
-use Rattle.dae_queues.specs.Numbers.{Counts}
+use Rattle.dae_queues.specs.Numbers.{CountsUp}
 use Rattle.dae_core.specs.Queues.{loads_of, with_loads_of}
 use Rattle.dae_machine.specs.declared.Pick.{Pick}
 use Rattle.dae_machine.specs.declared.Pick.TheVariants.{A as MoveA, E as MoveE, Fill, Drain}
@@ -94,7 +94,7 @@ all_fillable_by sa whole ss memory z same later true h =
     let found : waiting z.number whole ≡ Some z = same ∙ rw (waits_here z parts.0) in
     (fill_found sa whole memory z found (not-true (list_any (bars z) sa) parts.1), later)
 
-all_fillable : (sa : List StoreAt) (whole ss : List Slot) (memory : List ℕ) (low high : ℕ) → Counts low (map (λ (s : Slot). s.number) ss) high → ((n : ℕ) → low ≤ n → waiting n whole ≡ waiting n ss) → AllByRecursion (fillable sa whole memory) (filter (can_be_filled sa) ss)
+all_fillable : (sa : List StoreAt) (whole ss : List Slot) (memory : List ℕ) (low high : ℕ) → CountsUp low (map (λ (s : Slot). s.number) ss) high → ((n : ℕ) → low ≤ n → waiting n whole ≡ waiting n ss) → AllByRecursion (fillable sa whole memory) (filter (can_be_filled sa) ss)
 all_fillable sa whole [] memory low high c same = tt
 all_fillable sa whole (z ∷ ss) memory low high c same =
     let here : z.number ≡ low = c.0 in

@@ -16,7 +16,7 @@ pub record HeldMachine : Type 0 where
   pub silent : state.printed ≡ []
 
 -- the numbers of slots and stores are in order, and none is above the number of steps
-pub record Counted (q : Queues) (steps : ℕ) : Type 0 where
+pub record AreCounted (q : Queues) (steps : ℕ) : Type 0 where
   pub counts : QueuesCount q
   pub ld : q.ld.reserved ≤ steps
   pub al : q.al.reserved ≤ steps
@@ -43,7 +43,7 @@ pub record IsSound (a e : HeldCore) (q : HeldQueues) (memory : List ℕ) (taken 
   pub on_a : a.side ≡ A
   pub on_e : e.side ≡ E
   pub same : e.copies ≡ a.copies
-  pub counted : Counted q.queues taken
+  pub counted : AreCounted q.queues taken
   pub small : length memory < 2 ^ 32
   pub ends : is_plain e.processor.halt ≡ false
 

@@ -12,7 +12,7 @@ use Rattle.dae_ir.specs.Rounds.{is_a_item, Round, Group, Alone, Region, Decision
 use Rattle.dae_ir.specs.Canonical.{Sides, PairCalls, pair_calls_of, entered_both}
 use Rattle.dae_ir.specs.Streams.{Actions, stream_of}
 use Rattle.dae_ir_pair.specs.Budget.{OwnWithin, Covers, AWithin, EWithin, AtMost}
-use Rattle.dae_machine_rounds.specs.Spots.{Ends, point, Waiting, Spot}
+use Rattle.dae_machine_rounds.specs.Spots.{Ends, point, HeldCall, Spot}
 use Rattle.dae_machine_rounds.specs.Sides.{Implements}
 use Rattle.dae_machine_rounds.proofs.Laws.{exits, Lands}
 use Rattle.dae_machine_rounds.proofs.Regions.{ItemOfA, region_a_lands, region_e_lands}
@@ -47,7 +47,7 @@ module _ (setup : Setup) (p : Program) (of : ℕ → Classes) (cap : ℕ) where
     abbrev rounds_of : ℕ → Rounds
     rounds_of f = rounds (of f) cap true (p.body f) []
 
-    any_way : (s : State) (base : ℕ) (ca ce : List Waiting) (r : Result Sides) → Lands setup most At_a At_e s base n n (exits Done Ends Done Ends) ca ce r → Lands setup most At_a At_e s base n n (λ (way : Way). (point Done Ends, point Done Ends)) ca ce r
+    any_way : (s : State) (base : ℕ) (ca ce : List HeldCall) (r : Result Sides) → Lands setup most At_a At_e s base n n (exits Done Ends Done Ends) ca ce r → Lands setup most At_a At_e s base n n (λ (way : Way). (point Done Ends, point Done Ends)) ca ce r
     any_way s base ca ce (At Next b w) x = x
     any_way s base ca ce (At Leaves b w) x = x
     any_way s base ca ce (At Skips b w) x = x

@@ -18,7 +18,7 @@ use Rattle.dae_ir.specs.declared.stream.Mark.{Mark}
 use Rattle.dae_ir.specs.declared.stream.Action.TheVariants.{Stop}
 use Rattle.dae_ir.specs.declared.stream.Branch.TheVariants.{Tells, Hears}
 use Rattle.dae_machine_rounds.specs.Follows.{halts}
-use Rattle.dae_machine_rounds.specs.Spots.{weight, Behind, After, Point, point, Waiting, Spot, spot, Arrives, Halted, Moves, acts, tells, hears}
+use Rattle.dae_machine_rounds.specs.Spots.{weight, Behind, After, Point, point, HeldCall, Spot, spot, Arrives, Halted, Moves, acts, tells, hears}
 use Rattle.dae_machine_rounds.specs.Sides.{Implements}
 use Rattle.dae_machine.specs.Walks.{nothing}
 use Rattle.dae_machine.specs.Walks.{state_of, ends, grants}
@@ -42,7 +42,7 @@ told_word false = omega arith
 
 module _ (setup : Setup) (p : Program) (body_a body_e : ℕ → Actions) (most : ℕ) (At_a At_e : Spot → Processor → Type 0) (code_a : Implements setup p true body_a most At_a) (code_e : Implements setup p false body_e most At_e) (positive : 1 ≤ most) where
   -- each side goes on without a use of a queue that the other sees
-  pub control : (s : State) (base : ℕ) (at at' : Point × Point) (ca ce ca' ce' : List Waiting) (b b' : Sides) (w w' : World) (na ne le : ℕ) → Stands setup most At_a At_e at ca ce b w s → IsSound setup w'
+  pub control : (s : State) (base : ℕ) (at at' : Point × Point) (ca ce ca' ce' : List HeldCall) (b b' : Sides) (w w' : World) (na ne le : ℕ) → Stands setup most At_a At_e at ca ce b w s → IsSound setup w'
       → ((m : List ℕ) (x : Counts) → Part setup p true body_a m (spot at.0 b.a w ca) (resting x) [] (Arrives (spot at'.0 b'.a w' ca')) (resting x) na 0) → ((m : List ℕ) (x : Counts) → Part setup p false body_e m (spot at.1 b.e w ce) (resting x) [] (Arrives (spot at'.1 b'.e w' ce')) (resting x) ne le)
       → w'.memory ≡ w.memory → w'.printed ≡ w.printed → na + ne + base ≤ 8 * w'.items → Arrived setup most At_a At_e s base le at' ca' ce' b' w'
   control s base at at' ca ce ca' ce' b b' w w' na ne le stands sound part_a part_e memory printed cost =
@@ -56,7 +56,7 @@ module _ (setup : Setup) (p : Program) (body_a body_e : ℕ → Actions) (most :
       (record { a = played.agrees_a; e = played.agrees_e; counts = x; queues = refl; memory = stands.memory ∙ sym memory; printed = append-nil s.printed ∙ (stands.printed ∙ sym printed) }) sound
 
   -- A decides, and tells E
-  pub told_by_a : (s : State) (base : ℕ) (m : Mark) (t : Test) (xa ya ka : Actions) (ba : Behind) (xe ye ke : Actions) (be : Behind) (ca ce : List Waiting) (b : Sides) (w : World) → Stands setup most At_a At_e (point (If m (Tells t) xa ya ka) ba, point (If m Hears xe ye ke) be) ca ce b w s → IsSound setup w → 1 ≤ setup.depths.ab → base + 2 ≤ 8 * w.items + 8
+  pub told_by_a : (s : State) (base : ℕ) (m : Mark) (t : Test) (xa ya ka : Actions) (ba : Behind) (xe ye ke : Actions) (be : Behind) (ca ce : List HeldCall) (b : Sides) (w : World) → Stands setup most At_a At_e (point (If m (Tells t) xa ya ka) ba, point (If m Hears xe ye ke) be) ca ce b w s → IsSound setup w → 1 ≤ setup.depths.ab → base + 2 ≤ 8 * w.items + 8
       → Arrived setup most At_a At_e s base 1 (point (if holds t b.a then xa else ya) (After ka ba), point (if holds t b.a then xe else ye) (After ke be)) ca ce b (ticked w)
   told_by_a s base m t xa ya ka ba xe ye ke be ca ce b w stands sound room cost =
       let x = stands.counts in
@@ -76,7 +76,7 @@ module _ (setup : Setup) (p : Program) (body_a body_e : ℕ → Actions) (most :
       (record { a = played.agrees_a; e = played.agrees_e; counts = x; queues = refl; memory = stands.memory; printed = append-nil s.printed ∙ stands.printed }) (record { size = sound.size; bytes = sound.bytes })
 
   -- E decides, and tells A
-  pub told_by_e : (s : State) (base : ℕ) (m : Mark) (t : Test) (xa ya ka : Actions) (ba : Behind) (xe ye ke : Actions) (be : Behind) (ca ce : List Waiting) (b : Sides) (w : World) → Stands setup most At_a At_e (point (If m Hears xa ya ka) ba, point (If m (Tells t) xe ye ke) be) ca ce b w s → IsSound setup w → 1 ≤ setup.depths.eb → base + 2 ≤ 8 * w.items + 8
+  pub told_by_e : (s : State) (base : ℕ) (m : Mark) (t : Test) (xa ya ka : Actions) (ba : Behind) (xe ye ke : Actions) (be : Behind) (ca ce : List HeldCall) (b : Sides) (w : World) → Stands setup most At_a At_e (point (If m Hears xa ya ka) ba, point (If m (Tells t) xe ye ke) be) ca ce b w s → IsSound setup w → 1 ≤ setup.depths.eb → base + 2 ≤ 8 * w.items + 8
       → Arrived setup most At_a At_e s base 1 (point (if holds t b.e then xa else ya) (After ka ba), point (if holds t b.e then xe else ye) (After ke be)) ca ce b (ticked w)
   told_by_e s base m t xa ya ka ba xe ye ke be ca ce b w stands sound room cost =
       let x = stands.counts in
@@ -102,7 +102,7 @@ module _ (setup : Setup) (p : Program) (body_a body_e : ℕ → Actions) (most :
       (record { a = heard.agrees; e = played.agrees_e; counts = x; queues = refl; memory = stands.memory; printed = append-nil s.printed ∙ stands.printed }) (record { size = sound.size; bytes = sound.bytes })
 
   -- both halt
-  pub both_halt : (s : State) (base : ℕ) (m : Mark) (v : Operand) (ka : Actions) (ba : Behind) (ke : Actions) (be : Behind) (ca ce : List Waiting) (b : Sides) (w : World) → Stands setup most At_a At_e (point (Do m (Stop None) ka) ba, point (Do m (Stop (Some v)) ke) be) ca ce b w s → IsSound setup w → base + 2 ≤ 8 * w.items + 8
+  pub both_halt : (s : State) (base : ℕ) (m : Mark) (v : Operand) (ka : Actions) (ba : Behind) (ke : Actions) (be : Behind) (ca ce : List HeldCall) (b : Sides) (w : World) → Stands setup most At_a At_e (point (Do m (Stop None) ka) ba, point (Do m (Stop (Some v)) ke) be) ca ce b w s → IsSound setup w → base + 2 ≤ 8 * w.items + 8
       → Ended setup most At_a At_e s base (Status (value v b.e)) (ticked w)
   both_halt s base m v ka ba ke be ca ce b w stands sound cost =
       let x = stands.counts in

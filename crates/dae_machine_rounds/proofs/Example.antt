@@ -34,7 +34,7 @@ use Rattle.dae_machine.specs.Uses.{Use, Says}
 use Rattle.dae_machine_rounds.specs.Follows.{IsFit, halts}
 use Rattle.dae_machine_rounds.specs.Spots.{weight, Spot, Came, Moves, acts, goes_behind, ends_body, ends_step, breaks, continues, branches, tells, hears, enters, calls_it, returns, goes_back}
 use Rattle.dae_machine.specs.Walks.{Goes, stays, quiet}
-use Rattle.dae_machine_rounds.specs.Sides.{Walked}
+use Rattle.dae_machine_rounds.specs.Sides.{SideWalked}
 use Rattle.dae_machine_rounds.specs.Promises.{OnlyEnds}
 use Rattle.dae_machine_rounds.proofs.Calls.{body_of}
 use Rattle.dae_machine_rounds.proofs.Whole.{ends_as}
@@ -114,7 +114,7 @@ At_a s q = At_code Before_a s.point.code q
 abbrev At_e : Spot → Processor → Type 0
 At_e s q = At_code Before_e s.point.code q
 
-moved_a : {n : ℕ} {s : Spot} {uses : List Use} {c : Came} (q : Processor) → At_a s q → Moves program true 16 (body_of setup program none_needed 1 true) n s uses c → AllByRecursion (IsFit 16) uses → Walked setup true At_a n (1 * weight s) q uses c
+moved_a : {n : ℕ} {s : Spot} {uses : List Use} {c : Came} (q : Processor) → At_a s q → Moves program true 16 (body_of setup program none_needed 1 true) n s uses c → AllByRecursion (IsFit 16) uses → SideWalked setup true At_a n (1 * weight s) q uses c
 moved_a q at (acts {x = Stop None} w is size halts) fit =
     let f = goes_a q at in record { after = f.0; steps = 1; walks = quiet f.1 stays; agrees = f.2; some = omega arith; few = omega arith; words = tt }
 moved_a q at (acts {x = Stop (Some y)} w is size follows) fit = absurd at
@@ -147,7 +147,7 @@ moved_a q at (calls_it w size room) fit = absurd at
 moved_a q at (returns w) fit = absurd at
 moved_a q at (goes_back w) fit = absurd at
 
-moved_e : {n : ℕ} {s : Spot} {uses : List Use} {c : Came} (q : Processor) → At_e s q → Moves program false 16 (body_of setup program none_needed 1 false) n s uses c → AllByRecursion (IsFit 16) uses → Walked setup false At_e n (1 * weight s) q uses c
+moved_e : {n : ℕ} {s : Spot} {uses : List Use} {c : Came} (q : Processor) → At_e s q → Moves program false 16 (body_of setup program none_needed 1 false) n s uses c → AllByRecursion (IsFit 16) uses → SideWalked setup false At_e n (1 * weight s) q uses c
 moved_e q at (acts {x = Stop (Some (Number k))} w is size halts) fit =
     let f = goes_e q at.0 in record { after = f.0; steps = 1; walks = quiet f.1 stays; agrees = f.2 ∙ ap (λ (j : ℕ). Some (Status j)) (sym at.1); some = omega arith; few = omega arith; words = tt }
 moved_e q at (acts {x = Stop (Some (Variable v))} w is size follows) fit = absurd at

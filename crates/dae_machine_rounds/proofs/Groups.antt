@@ -33,10 +33,10 @@ use Rattle.dae_ir.specs.declared.stream.Part.TheVariants.{Sets, Loads as Load', 
 use Rattle.dae_ir.specs.declared.stream.Last.{Last}
 use Rattle.dae_ir.specs.declared.stream.Last.TheVariants.{Nothing, Stores, Prints, Decides}
 use Rattle.dae_ir_pair.specs.Budget.{is_test, any_part, is_store, is_decided}
-use Rattle.dae_machine_rounds.specs.Spots.{Behind, Point, point, Waiting, Spot, spot, Came, Arrives, Halted}
+use Rattle.dae_machine_rounds.specs.Spots.{Behind, Point, point, HeldCall, Spot, spot, Came, Arrives, Halted}
 use Rattle.dae_machine_rounds.specs.Sides.{Implements}
 use Rattle.dae_machine.specs.Walks.{nothing}
-use Rattle.dae_machine_rounds.specs.Order.{Round, picks_of, IsRound, IsEmpty, Rounds, none, more}
+use Rattle.dae_machine_rounds.specs.Order.{PickRound, picks_of, IsRound, IsEmpty, PickRounds, none, more}
 use Rattle.dae_machine.specs.Walks.{state_of}
 use Rattle.dae_machine.specs.Walks.{AreWords, WordsWait}
 use Rattle.dae_machine_rounds.proofs.Does.{Does, here, did_a}
@@ -52,7 +52,7 @@ use Rattle.dae_machine_rounds.proofs.Landing.{level, exits, IsSound, Stands, Arr
 use Rattle.dae_machine_rounds.proofs.Play.{one_each, Part, Played, play, Whole, ends_with}
 use Rattle.dae_machine_rounds.proofs.Final.{final}
 
-pub spot_like : (at : Point) (env : Env) (w u : World) (calls : List Waiting) → Like w u → spot at env w calls ≡ spot at env u calls
+pub spot_like : (at : Point) (env : Env) (w u : World) (calls : List HeldCall) → Like w u → spot at env w calls ≡ spot at env u calls
 spot_like at env w u calls h = rw (h.frame, h.top, h.depth) refl
 
 pub rest_is : (c : Counts) → resting c ≡ sending c [] [] [] []
@@ -64,8 +64,8 @@ rest_empty q c e = subst (λ (z : Queues). IsEmpty z) (sym e) (record { ld = ref
 pub rest_words : (c : Counts) → WordsWait (resting c)
 rest_words c = record { ab = tt; eb = tt; cq = tt }
 
-pub one_round : {setup : Setup} {s t : State} (r : Round) → IsRound r → IsEmpty s.queues → Runs setup s (picks_of r) t → IsEmpty t.queues → Rounds setup s (picks_of r) t
-one_round {setup} {s} {t} r is e h f = subst (λ (zs : List Pick). Rounds setup s zs t) (append-nil (picks_of r)) (more r is e h (none f))
+pub one_round : {setup : Setup} {s t : State} (r : PickRound) → IsRound r → IsEmpty s.queues → Runs setup s (picks_of r) t → IsEmpty t.queues → PickRounds setup s (picks_of r) t
+one_round {setup} {s} {t} r is e h f = subst (λ (zs : List Pick). PickRounds setup s zs t) (append-nil (picks_of r)) (more r is e h (none f))
 
 tests_few : (g : List GroupPart) → bit (any_part is_test g) ≤ length g
 tests_few [] = omega arith
@@ -82,7 +82,7 @@ pub record GroupFits (c : Classes) (d : Depths) (g : List GroupPart) (last : Las
 
 module _ (setup : Setup) (p : Program) (body_a body_e : ℕ → Actions) (most : ℕ) (At_a At_e : Spot → Processor → Type 0) (code_a : Implements setup p true body_a most At_a) (code_e : Implements setup p false body_e most At_e) (positive : 1 ≤ most) where
   -- a whole round leads to where both sides stand again
-  pub arrives : (s t : State) (base : ℕ) (w' : World) (at : Point × Point) (ca ce : List Waiting) (b : Sides) (n least : ℕ) → IsEmpty s.queues → Whole setup p body_a body_e most At_a At_e code_a code_e positive s t n least → n + base ≤ 8 * w'.items → Stands setup most At_a At_e at ca ce b w' t → IsSound setup w'
+  pub arrives : (s t : State) (base : ℕ) (w' : World) (at : Point × Point) (ca ce : List HeldCall) (b : Sides) (n least : ℕ) → IsEmpty s.queues → Whole setup p body_a body_e most At_a At_e code_a code_e positive s t n least → n + base ≤ 8 * w'.items → Stands setup most At_a At_e at ca ce b w' t → IsSound setup w'
       → Arrived setup most At_a At_e s base least at ca ce b w'
   arrives s t base w' at ca ce b n least empty r cost stands sound =
       let u = r.bound in
@@ -106,7 +106,7 @@ module _ (setup : Setup) (p : Program) (body_a body_e : ℕ → Actions) (most :
         printed = out;
       }
 
-  module _ (c : Classes) (n : ℕ) (g : List GroupPart) (ka : Actions) (ba : Behind) (ke : Actions) (be : Behind) (ca ce : List Waiting) (w : World) (s : State) (bound : ℕ) where
+  module _ (c : Classes) (n : ℕ) (g : List GroupPart) (ka : Actions) (ba : Behind) (ke : Actions) (be : Behind) (ca ce : List HeldCall) (w : World) (s : State) (bound : ℕ) where
     abbrev begin_a : Last → Point
     begin_a last = point (a_group c n g last ka) ba
 

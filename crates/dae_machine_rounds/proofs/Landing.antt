@@ -17,8 +17,8 @@ use Rattle.dae_ir.specs.Code.{Done}
 use Rattle.dae_ir.specs.Canonical.{Sides}
 use Rattle.dae_ir.specs.Streams.{Actions}
 use Rattle.dae_machine.proofs.LawsOfRuns.{often-append}
-use Rattle.dae_machine_rounds.specs.Spots.{Behind, Ends, Point, point, left, skipped, Waiting, Spot, spot}
-use Rattle.dae_machine_rounds.specs.Order.{picks_of, Rounds, none, more, InOrder}
+use Rattle.dae_machine_rounds.specs.Spots.{Behind, Ends, Point, point, left, skipped, HeldCall, Spot, spot}
+use Rattle.dae_machine_rounds.specs.Order.{picks_of, PickRounds, none, more, InOrder}
 use Rattle.dae_machine_rounds.proofs.Slots.{Counts, resting}
 
 -- as many loads were taken as reserved
@@ -46,7 +46,7 @@ pub record IsSound (setup : Setup) (w : World) : Type 0 where
 
 module _ (setup : Setup) (most : ℕ) (At_a At_e : Spot → Processor → Type 0) where
   -- both sides have come so far, nothing is in the queues, and memory and output are the world's
-  pub record Stands (at : Point × Point) (ca ce : List Waiting) (b : Sides) (w : World) (s : State) : Type 0 where
+  pub record Stands (at : Point × Point) (ca ce : List HeldCall) (b : Sides) (w : World) (s : State) : Type 0 where
     pub a : At_a (spot at.0 b.a w ca) s.a
     pub e : At_e (spot at.1 b.e w ce) s.e
     pub counts : Counts
@@ -55,10 +55,10 @@ module _ (setup : Setup) (most : ℕ) (At_a At_e : Spot → Processor → Type 0
     pub printed : s.printed ≡ w.printed
 
   -- whole rounds lead there. The account began with base, and 8 are added for each item
-  pub record Arrived (s : State) (base : ℕ) (least : ℕ) (at : Point × Point) (ca ce : List Waiting) (b : Sides) (w' : World) : Type 0 where
+  pub record Arrived (s : State) (base : ℕ) (least : ℕ) (at : Point × Point) (ca ce : List HeldCall) (b : Sides) (w' : World) : Type 0 where
     pub state : State
     pub picks : List Pick
-    pub rounds : Rounds setup s picks state
+    pub rounds : PickRounds setup s picks state
     pub units : ℕ
     pub few : length picks ≤ most * units
     pub cost : units + base ≤ 8 * w'.items
@@ -90,7 +90,7 @@ module _ (setup : Setup) (most : ℕ) (At_a At_e : Spot → Processor → Type 0
     pub moves : (n ≤ often is_e picks) ⊎ ((bound ≤ often is_a picks) × AwaitsMessage setup state)
     pub printed : state.printed ≡ w'.printed
 
-  abbrev pub Lands : State → ℕ → ℕ → ℕ → (Way → Point × Point) → List Waiting → List Waiting → Result Sides → Type 0
+  abbrev pub Lands : State → ℕ → ℕ → ℕ → (Way → Point × Point) → List HeldCall → List HeldCall → Result Sides → Type 0
   Lands s base bound n go ca ce (At way b w') = Arrived s base (least_of way) (go way) ca ce b w'
   Lands s base bound n go ca ce (Over (HaltedWith x) w') = Ended s base (Status x) w'
   Lands s base bound n go ca ce (Over (Trapped code) w') = Ended s base (Trap code) w'
@@ -99,11 +99,11 @@ module _ (setup : Setup) (most : ℕ) (At_a At_e : Spot → Processor → Type 0
 
 -- ---- rounds, one after the other
 
-pub rounds-append : {setup : Setup} {s t u : State} {ps qs : List Pick} → Rounds setup s ps t → Rounds setup t qs u → Rounds setup s (ps ++ qs) u
+pub rounds-append : {setup : Setup} {s t u : State} {ps qs : List Pick} → PickRounds setup s ps t → PickRounds setup t qs u → PickRounds setup s (ps ++ qs) u
 rounds-append (none e) y = y
-rounds-append {setup} {s} {u = u} {qs = qs} (more {ps = ps} r is e h x) y = subst (λ (zs : List Pick). Rounds setup s zs u) (sym (append_assoc (picks_of r) ps qs)) (more r is e h (rounds-append x y))
+rounds-append {setup} {s} {u = u} {qs = qs} (more {ps = ps} r is e h x) y = subst (λ (zs : List Pick). PickRounds setup s zs u) (sym (append_assoc (picks_of r) ps qs)) (more r is e h (rounds-append x y))
 
-pub rounds_run : {setup : Setup} {s t : State} {ps : List Pick} → Rounds setup s ps t → Runs setup s ps t
+pub rounds_run : {setup : Setup} {s t : State} {ps : List Pick} → PickRounds setup s ps t → Runs setup s ps t
 rounds_run (none e) = refl
 rounds_run {setup} {s} (more {t = t} {u = u} {ps = ps} r is e h x) = run-on (step setup) s t u (picks_of r) ps h (rounds_run x)
 
@@ -111,7 +111,7 @@ pub order_run : {setup : Setup} {s t : State} {ps : List Pick} → InOrder setup
 order_run {setup} {s} {t} o = subst (λ (zs : List Pick). Runs setup s zs t) o.all (run-on (step setup) s o.between t o.whole o.last (rounds_run o.rounds) o.runs)
 
 -- rounds, and then a run in order
-pub then_order : {setup : Setup} {s t u : State} {ps qs : List Pick} → Rounds setup s ps t → InOrder setup t qs u → InOrder setup s (ps ++ qs) u
+pub then_order : {setup : Setup} {s t u : State} {ps qs : List Pick} → PickRounds setup s ps t → InOrder setup t qs u → InOrder setup s (ps ++ qs) u
 then_order {ps = ps} x o = record {
   whole = ps ++ o.whole;
   between = o.between;
@@ -127,7 +127,7 @@ then_order {ps = ps} x o = record {
 
 module _ {setup : Setup} {most : ℕ} {At_a At_e : Spot → Processor → Type 0} where
   -- a stretch that has arrived somewhere, and what lands from there: of the account, d is left for the way there
-  pub then_lands : (s : State) (base d base0 base1 bound k j j' : ℕ) (at : Point × Point) (go : Way → Point × Point) (ca ce ca' ce' : List Waiting) (b : Sides) (w1 : World) (r : Result Sides) → base + d ≤ base0 → 8 * w1.items ≤ base1 + d → j' ≤ k + j → (x : Arrived setup most At_a At_e s base0 k at ca' ce' b w1)
+  pub then_lands : (s : State) (base d base0 base1 bound k j j' : ℕ) (at : Point × Point) (go : Way → Point × Point) (ca ce ca' ce' : List HeldCall) (b : Sides) (w1 : World) (r : Result Sides) → base + d ≤ base0 → 8 * w1.items ≤ base1 + d → j' ≤ k + j → (x : Arrived setup most At_a At_e s base0 k at ca' ce' b w1)
       → Lands setup most At_a At_e x.state base1 bound j go ca ce r → Lands setup most At_a At_e s base bound j' go ca ce r
   then_lands s base d base0 base1 bound k j j' at go ca ce ca' ce' b w1 (At way b' w') h i l x y =
       let lengths = length-append x.picks y.picks in
@@ -165,7 +165,7 @@ module _ {setup : Setup} {most : ℕ} {At_a At_e : Spot → Processor → Type 0
 
 module _ (setup : Setup) (most : ℕ) (At_a At_e : Spot → Processor → Type 0) where
   -- there is less in the account, and fewer steps of E are claimed
-  pub less : (s : State) (base base' bound j j' : ℕ) (go : Way → Point × Point) (ca ce : List Waiting) (r : Result Sides) → base' ≤ base → j' ≤ j → Lands setup most At_a At_e s base bound j go ca ce r → Lands setup most At_a At_e s base' bound j' go ca ce r
+  pub less : (s : State) (base base' bound j j' : ℕ) (go : Way → Point × Point) (ca ce : List HeldCall) (r : Result Sides) → base' ≤ base → j' ≤ j → Lands setup most At_a At_e s base bound j go ca ce r → Lands setup most At_a At_e s base' bound j' go ca ce r
   less s base base' bound j j' go ca ce (At way b w) h i y = let c = y.cost in record { state = y.state; picks = y.picks; rounds = y.rounds; units = y.units; few = y.few; cost = omega arith; some = y.some; stands = y.stands; sound = y.sound }
   less s base base' bound j j' go ca ce (Over (HaltedWith x) w) h i y = let c = y.cost in record { state = y.state; picks = y.picks; order = y.order; units = y.units; few = y.few; cost = omega arith; final = y.final; halt' = y.halt'; memory = y.memory; printed = y.printed }
   less s base base' bound j j' go ca ce (Over (Trapped x) w) h i y = let c = y.cost in record { state = y.state; picks = y.picks; order = y.order; units = y.units; few = y.few; cost = omega arith; final = y.final; halt' = y.halt'; memory = y.memory; printed = y.printed }

@@ -29,7 +29,7 @@ use Rattle.dae_ir.specs.declared.stream.Action.TheVariants.{Set, Issue, Own, Off
 use Rattle.dae_ir_pair.specs.Budget.{is_own_part, is_test, any_part}
 use Rattle.dae_machine.specs.Uses.{Pushes, Reserves}
 use Rattle.dae_machine_rounds.specs.Follows.{Leaves, Quits, Follows, went, takes, pushes, reserves, halts}
-use Rattle.dae_machine_rounds.specs.Spots.{Behind, Waiting, Spot, Arrives, Halted, point, spot, acts}
+use Rattle.dae_machine_rounds.specs.Spots.{Behind, HeldCall, Spot, Arrives, Halted, point, spot, acts}
 use Rattle.dae_machine.specs.Walks.{ends, grants, owns}
 use Rattle.dae_machine_rounds.proofs.Does.{Does, here, stops}
 use Rattle.dae_machine_rounds.proofs.Both.{does_to, does_both, does_one}
@@ -46,7 +46,7 @@ pub record HasRoom (c : Classes) (d : Depths) (loads copies : ℕ) (g : List Par
 abbrev pub with_al : ℕ → ℕ → Counts → Counts
 with_al t r c = record c { al_taken = t; al_reserved = r }
 
-module _ (setup : Setup) (p : Program) (body : ℕ → Actions) (k : Actions) (b : Behind) (calls : List Waiting) where
+module _ (setup : Setup) (p : Program) (body : ℕ → Actions) (k : Actions) (b : Behind) (calls : List HeldCall) where
   abbrev at_code : Actions → Env → World → Spot
   at_code code env u = spot (point code b) env u calls
 

@@ -19,7 +19,7 @@ use Rattle.dae_ir.specs.declared.stream.Part.{Part}
 use Rattle.dae_ir.specs.declared.stream.Part.TheVariants.{Sets, Loads as Load', Tests}
 use Rattle.dae_ir.specs.declared.stream.Action.TheVariants.{Set, Receive, Accept}
 use Rattle.dae_machine_rounds.specs.Follows.{went, takes}
-use Rattle.dae_machine_rounds.specs.Spots.{Behind, Waiting, Spot, Arrives, point, spot, acts}
+use Rattle.dae_machine_rounds.specs.Spots.{Behind, HeldCall, Spot, Arrives, point, spot, acts}
 use Rattle.dae_machine.specs.Walks.{ends, grants}
 use Rattle.dae_machine.specs.Walks.{AreWords}
 use Rattle.dae_machine_rounds.proofs.Does.{Does, here}
@@ -30,7 +30,7 @@ use Rattle.dae_machine_rounds.proofs.Slots.{Counts, Loads, held, filled_slots, w
 no_more : {X : Type 0} (n : ℕ) → length {A = ℕ} [] ≡ 1 + n → X
 no_more n h = absurd (omega (arith, h))
 
-module _ (setup : Setup) (p : Program) (body : ℕ → Actions) (k : Actions) (b : Behind) (calls : List Waiting) (m : List ℕ) (stamp : ℕ) (sa : List StoreAt) where
+module _ (setup : Setup) (p : Program) (body : ℕ → Actions) (k : Actions) (b : Behind) (calls : List HeldCall) (m : List ℕ) (stamp : ℕ) (sa : List StoreAt) where
   -- loads for E that are filled, and copies
   abbrev pub receiving : Counts → Loads → List ℕ → Queues
   receiving c ls cq = held c (filled_slots c.ld_taken stamp m ls) sa [] [] [] cq

@@ -17,7 +17,7 @@ use Rattle.dae_machine.specs.Walks.{IsExecute}
 use Rattle.dae_machine_rounds.specs.Spots.{Spot, Came}
 use Rattle.dae_machine_rounds.specs.Sides.{Agrees, Implements}
 use Rattle.dae_machine.specs.Walks.{IsAccess}
-use Rattle.dae_machine_rounds.specs.Order.{Round, picks_of, IsRound, IsFill}
+use Rattle.dae_machine_rounds.specs.Order.{PickRound, picks_of, IsRound, IsFill}
 use Rattle.dae_machine.specs.Walks.{state_of}
 use Rattle.dae_machine.specs.Walks.{WordsWait}
 use Rattle.dae_machine_rounds.proofs.Does.{Does, did_a, did_e}
@@ -108,7 +108,7 @@ module _ (setup : Setup) (p : Program) (body_a body_e : ℕ → Actions) (most :
 
   -- nothing more
   pub record Whole (s t : State) (n least : ℕ) : Type 0 where
-    pub round : Round
+    pub round : PickRound
     pub is : IsRound round
     pub runs : Runs setup s (picks_of round) t
     pub units : ℕ

@@ -4,7 +4,7 @@ use Rattle.std.proofs.lemmas.Bool.{and_parts, or_parts}
 use Rattle.dae_base.specs.Words.{width_of}
 use Rattle.dae_meaning.specs.Worlds.{World, ticked}
 use Rattle.dae_meaning.specs.Results.{Result, At, Over, Next, Leaves, Skips, Returns, Halted, Trapped, Going, Astray, Run, ◌▷◌, ◌↻◌, turns, within}
-use Rattle.dae_ir.specs.Code.{Done, Do, If, Loop, Meaning, exec}
+use Rattle.dae_ir.specs.Code.{Done, Do, If, Loop, CodeMeaning, exec}
 use Rattle.dae_meaning.specs.Operations.{misplaced}
 use Rattle.dae_meaning.specs.Variables.{Env}
 use Rattle.dae_ir.specs.Form.{Form, value, holds}
@@ -79,7 +79,7 @@ going_if true r s y z = y
 going_if false r s y z = z
 
 module _ (does : Item → Run Env) (way : (item : Item) (env : Env) (w : World) → WayFits (is_jump item) (does item env w)) (going : (item : Item) (env : Env) (w : World) → NotGoing (does item env w)) (n : ℕ) where
-  abbrev m : Meaning Item Test Env
+  abbrev m : CodeMeaning Item Test Env
   m = region_meaning does
 
   turns_fit : (f g : Run Env) → ((env : Env) (w : World) → WayFits true (f env w)) → ((env : Env) (w : World) → WayFits true (g env w)) → (j : ℕ) (env : Env) (w : World) → WayFits false (turns f g j env w)

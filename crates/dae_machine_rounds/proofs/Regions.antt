@@ -30,11 +30,11 @@ use Rattle.dae_ir.specs.declared.form.Test.{Test}
 use Rattle.dae_ir.specs.declared.stream.Action.TheVariants.{Tell, Hear}
 use Rattle.dae_machine.specs.Uses.{Use, Takes}
 use Rattle.dae_machine_rounds.specs.Follows.{Leaves as Leaves', Follows, went, takes, pushes}
-use Rattle.dae_machine_rounds.specs.Spots.{Behind, Point, point, Waiting, Spot, spot, Arrives, acts}
+use Rattle.dae_machine_rounds.specs.Spots.{Behind, Point, point, HeldCall, Spot, spot, Arrives, acts}
 use Rattle.dae_machine.specs.Walks.{Walks, stays as stays', quiet, makes}
 use Rattle.dae_machine_rounds.specs.Sides.{Implements}
 use Rattle.dae_machine.specs.Walks.{nothing}
-use Rattle.dae_machine_rounds.specs.Order.{Round, none}
+use Rattle.dae_machine_rounds.specs.Order.{PickRound, none}
 use Rattle.dae_machine.specs.Walks.{state_of, Grants, ends, grants}
 use Rattle.dae_machine.proofs.LawsOfRuns.{ran_e}
 use Rattle.dae_machine.proofs.LawsOfRuns.{often-append}
@@ -59,7 +59,7 @@ before_message : {setup : Setup} {p q : Processor} {x n : ℕ} {uses : List Use}
 before_message (quiet g w) = let b = before_message w in let f = b.few in record { processor = b.processor; steps = suc b.steps; walks = quiet g b.walks; few = omega arith; word = b.word; inst = b.inst; asks = b.asks }
 before_message {p = p} (makes g w) = record { processor = p; steps = 0; walks = stays'; few = omega arith; word = g.word; inst = g.inst; asks = g.asks }
 
-spot_still : (at : Point) (env : Env) (w u : World) (text : List ℕ) (calls : List Waiting) → Still w text u → spot at env w calls ≡ spot at env u calls
+spot_still : (at : Point) (env : Env) (w u : World) (text : List ℕ) (calls : List HeldCall) → Still w text u → spot at env w calls ≡ spot at env u calls
 spot_still at env w u text calls h = rw (h.frame, h.top, h.depth) refl
 
 still_sound : (setup : Setup) (w u : World) (text : List ℕ) → Still w text u → IsSound setup w → IsSound setup u
@@ -73,11 +73,11 @@ abbrev pub ItemOfE : Classes → Item → Type 0
 ItemOfE c item = is_e_item c item ≡ true
 
 module _ (setup : Setup) (p : Program) (body_a body_e : ℕ → Actions) (most : ℕ) (At_a At_e : Spot → Processor → Type 0) (code_a : Implements setup p true body_a most At_a) (code_e : Implements setup p false body_e most At_e) (positive : 1 ≤ most) (of : ℕ → Classes) (cap n : ℕ) where
-  abbrev Lands' : State → ℕ → (Way → Point × Point) → List Waiting → List Waiting → Result Sides → Type 0
+  abbrev Lands' : State → ℕ → (Way → Point × Point) → List HeldCall → List HeldCall → Result Sides → Type 0
   Lands' s base go ca ce r = Lands setup most At_a At_e s base n n go ca ce r
 
   -- one round in which each side does its part
-  one_part : (s : State) (base : ℕ) (at at' : Point × Point) (ca ce : List Waiting) (b b' : Sides) (w w' : World) (text ab : List ℕ) (t r na ne : ℕ) → (stands : Stands setup most At_a At_e at ca ce b w s) → IsSound setup w → Still w text w'
+  one_part : (s : State) (base : ℕ) (at at' : Point × Point) (ca ce : List HeldCall) (b b' : Sides) (w w' : World) (text ab : List ℕ) (t r na ne : ℕ) → (stands : Stands setup most At_a At_e at ca ce b w s) → IsSound setup w → Still w text w'
       → Part setup p true body_a w.memory (spot at.0 b.a w ca) (resting (level stands.counts)) [] (Arrives (spot at'.0 b'.a w' ca)) (held (with_al t r (level stands.counts)) [] [] [] ab [] []) na 0
       → Part setup p false body_e w.memory (spot at.1 b.e w ce) (held (with_al t r (level stands.counts)) [] [] [] ab [] []) text (Arrives (spot at'.1 b'.e w' ce)) (resting (with_al t r (level stands.counts))) ne 0
       → na + ne + base ≤ 8 * w'.items → Arrived setup most At_a At_e s base 0 at' ca ce b' w'
@@ -91,7 +91,7 @@ module _ (setup : Setup) (p : Program) (body_a body_e : ℕ → Actions) (most :
       (ends_with setup p body_a body_e most At_a At_e code_a code_e positive s t' _ _ text (resting x') _ 0 0 played [] [] nothing (inl refl) (omega arith) refl) (omega arith)
       (record { a = played.agrees_a; e = played.agrees_e; counts = with_al t r stands.counts; queues = refl; memory = stands.memory ∙ sym still.memory; printed = ap (λ (z : List ℕ). z ++ text) stands.printed ∙ sym still.printed }) (still_sound setup w w' text still sound)
 
-  e_part : (s : State) (base : ℕ) (at at' : Point × Point) (ca ce : List Waiting) (b b' : Sides) (w w' : World) (text : List ℕ) (t r na ne : ℕ) → (stands : Stands setup most At_a At_e at ca ce b w s) → IsSound setup w → Still w text w'
+  e_part : (s : State) (base : ℕ) (at at' : Point × Point) (ca ce : List HeldCall) (b b' : Sides) (w w' : World) (text : List ℕ) (t r na ne : ℕ) → (stands : Stands setup most At_a At_e at ca ce b w s) → IsSound setup w → Still w text w'
       → Part setup p true body_a w.memory (spot at.0 b.a w ca) (resting (level stands.counts)) [] (Arrives (spot at'.0 b'.a w' ca)) (resting (level stands.counts)) na 0
       → Part setup p false body_e w.memory (spot at.1 b.e w ce) (resting (level stands.counts)) text (Arrives (spot at'.1 b'.e w' ce)) (resting (with_al t r (level stands.counts))) ne 0
       → na + ne + base ≤ 8 * w'.items → Arrived setup most At_a At_e s base 0 at' ca ce b' w'
@@ -107,7 +107,7 @@ module _ (setup : Setup) (p : Program) (body_a body_e : ℕ → Actions) (most :
 
   -- ---- A's
 
-  module _ (c : Classes) (place : Place) (ng : ℕ) (ka : Actions) (ba : Behind) (ke : Actions) (be : Behind) (ca ce : List Waiting) (b : Sides) (w : World) (s : State) (sound : IsSound setup w) where
+  module _ (c : Classes) (place : Place) (ng : ℕ) (ka : Actions) (ba : Behind) (ke : Actions) (be : Behind) (ca ce : List HeldCall) (b : Sides) (w : World) (s : State) (sound : IsSound setup w) where
     a_lands : (code : Actions) (loops : Bool) → (loops ≡ true → 1 ≤ setup.depths.ab) → (stands : Stands setup most At_a At_e (point code ba, point (when loops (mark place ng) (Hear None) ke) be) ca ce b w s) → (r : Result Env) → WayFits false r → (loops ≡ false → NotGoing r)
         → Does_as setup p true body_a w.memory ca (spot (point code ba) b.a w ca) (level stands.counts) w (8 * w.items + 2) n (exit (when loops (mark place ng) (Tell (Number 0)) ka) ba) r → Lands' s (8 * w.items) (exits ka ba ke be) ca ce (on_side (with_a b.e) r)
     a_lands code false room stands (At Next env w') way going y =
@@ -149,7 +149,7 @@ module _ (setup : Setup) (p : Program) (body_a body_e : ℕ → Actions) (most :
         let none_e : Grants setup.depths E s.memory 0 (resting x') [] (resting x') = ends in
         let re = ran_e setup s1 before.walks none_e in
         let s2 = state_of d.after before.processor (resting x') s.memory (s.printed ++ []) re.total in
-        let round : Round = record { access = ra.picks; fills = []; execute = re.picks; hears = []; drains = [] } in
+        let round : PickRound = record { access = ra.picks; fills = []; execute = re.picks; hears = []; drains = [] } in
         let still : Still w [] w' = subst (λ (z : List ℕ). Still w z w') (y.quiet refl) y.still in
         let all = run-on (step setup) s s1 s2 ra.picks re.picks ra.runs re.runs in
         let shape : ra.picks ++ re.picks ≡ ra.picks ++ (re.picks ++ []) = ap (λ (zs : List Pick). ra.picks ++ zs) (sym (append-nil re.picks)) in
@@ -191,7 +191,7 @@ module _ (setup : Setup) (p : Program) (body_a body_e : ℕ → Actions) (most :
         let x = level stands.counts in
         let d = did_e setup p body_e most At_e code_e w.memory s stands.memory stands.queues stands.e y.does in
         let re = d.ran in
-        let round : Round = record { access = []; fills = []; execute = re.picks; hears = []; drains = [] } in
+        let round : PickRound = record { access = []; fills = []; execute = re.picks; hears = []; drains = [] } in
         let c2 = re.count in let f1 = d.few in let cost = y.cost in let some = y.some in let some' = d.some in let v = re.moves' in
         record {
           state = state_of s.a d.after (resting (with_al y.al_taken y.al_reserved x)) s.memory (s.printed ++ y.text) re.total;

@@ -6,7 +6,7 @@ use Rattle.dae_base.proofs.Laws.{and_false, not_true}
 use Rattle.dae_machine.specs.Machine.{Setup}
 use Rattle.dae_meaning.specs.Worlds.{World, ticked, fetched}
 use Rattle.dae_meaning.specs.Results.{Result, At, Over, Next, Leaves, Skips, Returns, Astray, Run, ◌▷◌, within}
-use Rattle.dae_ir.specs.Code.{Done, Do, If, Loop, Each, Meaning, exec}
+use Rattle.dae_ir.specs.Code.{Done, Do, If, Loop, Each, CodeMeaning, exec}
 use Rattle.dae_meaning.specs.Operations.{misplaced}
 use Rattle.dae_meaning.specs.Variables.{Env, put}
 use Rattle.dae_ir.specs.Form.{Form, Program, value, computed}
@@ -23,7 +23,7 @@ use Rattle.dae_ir.specs.declared.stream.Part.{Part}
 use Rattle.dae_ir.specs.declared.stream.Part.TheVariants.{Sets, Loads as Load', Tests}
 use Rattle.dae_ir_pair.specs.Budget.{is_own_part, is_test, any_part, OwnWithin}
 use Rattle.dae_core.specs.Queues.{Queues}
-use Rattle.dae_machine_rounds.specs.Spots.{Arrives, Behind, After, Body, Turn, point, left, skipped, Waiting, spot, breaks, continues}
+use Rattle.dae_machine_rounds.specs.Spots.{Arrives, Behind, After, Body, Turn, point, left, skipped, HeldCall, spot, breaks, continues}
 use Rattle.dae_machine_rounds.proofs.Laws.{LoadsWords, does_to, Does, here, Counts, Loads, resting, sending, words_for, HasRoom, Comes, parts_come, with_al, IsMessage, silent, message_is, rest_is}
 use Rattle.dae_machine_rounds.proofs.Turned.{inside_turn}
 use Rattle.dae_machine_rounds.proofs.Sided.{exit, still_itself, still_ticked, Reached, Does_as, List_does, Spare_does, spare_less, IsBlock, then_does, moved, branch_does, loop_does}
@@ -58,7 +58,7 @@ parts_then does (r ∷ g) q f env w =
       by h (At Returns env w) = refl
       by h (Over end w) = refl
 
-module _ (setup : Setup) (p : Program) (body : ℕ → Actions) (m : List ℕ) (calls : List Waiting) (of : ℕ → Classes) (c : Classes) (cap n : ℕ) (size : length m ≡ setup.memory) (words : LoadsWords m) where
+module _ (setup : Setup) (p : Program) (body : ℕ → Actions) (m : List ℕ) (calls : List HeldCall) (of : ℕ → Classes) (c : Classes) (cap n : ℕ) (size : length m ≡ setup.memory) (words : LoadsWords m) where
   -- what A sets in its region, E doesn't need; and there is room for its own loads
   abbrev pub IsPart : Part → Type 0
   IsPart (Sets place v x) = c.needs v ≡ false
@@ -191,7 +191,7 @@ module _ (setup : Setup) (p : Program) (body : ℕ → Actions) (m : List ℕ) (
   if_open ng true h r r' k b f l = absurd (let e : true ≡ false = h in cc)
   if_open ng false h r r' k b f l = l
 
-  abbrev pub region_a : Meaning Item Test Env
+  abbrev pub region_a : CodeMeaning Item Test Env
   region_a = region_meaning (does_a c)
 
   break_does : (ng : ℕ) (place : Place) (r : Rounds) (k : Actions) (b : Behind) (f : Run Env) → List_does setup p true body m calls n (inside_of true of c ng (Do place (Alone Breaks) r) k) k b (λ env w. At Leaves env (ticked w) ▷ f)

@@ -5,7 +5,7 @@ use Rattle.dae_base.proofs.Laws.{and_false, not_true}
 use Rattle.dae_machine.specs.Machine.{Setup}
 use Rattle.dae_meaning.specs.Worlds.{World, ticked}
 use Rattle.dae_meaning.specs.Results.{Result, At, Next, Run, ◌▷◌}
-use Rattle.dae_ir.specs.Code.{Done, Do, If, Loop, Each, Meaning, exec}
+use Rattle.dae_ir.specs.Code.{Done, Do, If, Loop, Each, CodeMeaning, exec}
 use Rattle.dae_meaning.specs.Operations.{spelled}
 use Rattle.dae_meaning.specs.Variables.{Env, put}
 use Rattle.dae_ir.specs.Form.{Form, Program, value, computed, with_printed}
@@ -23,13 +23,13 @@ use Rattle.dae_ir.specs.declared.stream.Part.{Part}
 use Rattle.dae_ir.specs.declared.stream.Part.TheVariants.{Sets, Loads as Load', Tests}
 use Rattle.dae_ir.specs.declared.stream.Last.TheVariants.{Prints}
 use Rattle.dae_ir_pair.specs.Budget.{is_test, any_part}
-use Rattle.dae_machine_rounds.specs.Spots.{Arrives, Behind, After, Body, Turn, Point, point, left, skipped, Waiting, Spot, spot, breaks, continues}
+use Rattle.dae_machine_rounds.specs.Spots.{Arrives, Behind, After, Body, Turn, Point, point, left, skipped, HeldCall, Spot, spot, breaks, continues}
 use Rattle.dae_machine_rounds.proofs.Laws.{LoadsWords, does_to, Does, here, resting, with_al, parts_taken, IsMessage, silent, message_is, emit_does}
 use Rattle.dae_machine_rounds.proofs.Turned.{inside_turn}
 use Rattle.dae_machine_rounds.proofs.Sided.{exit, Still, still_itself, still_ticked, still_on, Reached, Does_as, List_does, spare_less, then_does, moved, branch_does, loop_does}
 use Rattle.dae_machine_rounds.proofs.RegionsA.{item_of, run_parts, parts_then}
 
-module _ (setup : Setup) (p : Program) (body : ℕ → Actions) (m : List ℕ) (calls : List Waiting) (of : ℕ → Classes) (c : Classes) (cap n : ℕ) (size : length m ≡ setup.memory) (words : LoadsWords m) where
+module _ (setup : Setup) (p : Program) (body : ℕ → Actions) (m : List ℕ) (calls : List HeldCall) (of : ℕ → Classes) (c : Classes) (cap n : ℕ) (size : length m ≡ setup.memory) (words : LoadsWords m) where
   -- what E sets in its region, A doesn't need, and a load is for nobody
   abbrev pub IsPart : Part → Type 0
   IsPart (Sets place v x) = c.s v ≡ false
@@ -134,7 +134,7 @@ module _ (setup : Setup) (p : Program) (body : ℕ → Actions) (m : List ℕ) (
   abbrev pub IsItem : Item → Type 0
   IsItem item = is_e_item c item ≡ true
 
-  abbrev pub region_e : Meaning Item Test Env
+  abbrev pub region_e : CodeMeaning Item Test Env
   region_e = region_meaning (does_e c)
 
   prints_does : (ng : ℕ) (place : Place) (spelling : Spelling) (v : Operand) (k' k : Actions) (b : Behind) (f : Run Env) → List_does setup p false body m calls n k' k b f → List_does setup p false body m calls n (e_last ng (Prints place spelling v) k') k b (λ env w. does_e c (Print spelling v) env w ▷ f)

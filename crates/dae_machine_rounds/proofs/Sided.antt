@@ -10,7 +10,7 @@ use Rattle.dae_ir.specs.Streams.{Actions}
 use Rattle.dae_ir.specs.declared.form.Test.{Test}
 use Rattle.dae_ir.specs.declared.stream.Mark.{Mark}
 use Rattle.dae_ir.specs.declared.stream.Branch.TheVariants.{Silent}
-use Rattle.dae_machine_rounds.specs.Spots.{turn_least, weight, Behind, Ends, After, Body, Turn, Point, point, left, skipped, Waiting, Spot, spot, Arrives, Moves, goes_behind, ends_body, ends_step, branches, enters}
+use Rattle.dae_machine_rounds.specs.Spots.{turn_least, weight, Behind, Ends, After, Body, Turn, Point, point, left, skipped, HeldCall, Spot, spot, Arrives, Moves, goes_behind, ends_body, ends_step, branches, enters}
 use Rattle.dae_machine.specs.Walks.{ends}
 use Rattle.dae_machine_rounds.proofs.Laws.{Does, here, does_same, does_both, does_one, Counts, resting, with_al, least_of}
 
@@ -48,7 +48,7 @@ still_on w u v t t' h k = record { memory = k.memory ∙ h.memory; printed = k.p
 none_said : (xs ys : List ℕ) → xs ≡ [] → ys ≡ [] → xs ++ ys ≡ []
 none_said xs ys h k = rw (h, k) refl
 
-module _ (setup : Setup) (p : Program) (by_a : Bool) (body : ℕ → Actions) (m : List ℕ) (calls : List Waiting) where
+module _ (setup : Setup) (p : Program) (by_a : Bool) (body : ℕ → Actions) (m : List ℕ) (calls : List HeldCall) where
   pub record Reached (s : Spot) (x : Counts) (w : World) (base least : ℕ) (at : Point) (env : Env) (w' : World) : Type 0 where
     pub al_taken : ℕ
     pub al_reserved : ℕ

@@ -5,7 +5,7 @@ use Rattle.dae_encode.specs.Processor.{Processor}
 use Rattle.dae_machine.specs.Machine.{Setup, State}
 use Rattle.dae_meaning.specs.Worlds.{World, ticked, back}
 use Rattle.dae_meaning.specs.Results.{Result, At, Over, Way, Next, Leaves, Skips, Returns, Halted, Trapped, Going, Astray, Run, ◌▷◌, ◌↻◌, turns, within}
-use Rattle.dae_ir.specs.Code.{Done, Do, If, Loop, Each, Meaning, exec}
+use Rattle.dae_ir.specs.Code.{Done, Do, If, Loop, Each, CodeMeaning, exec}
 use Rattle.dae_meaning.specs.Variables.{Env, put, entered}
 use Rattle.dae_ir.specs.Form.{called, Form, Program, value, values, fault, ended, deeper, holds}
 use Rattle.dae_ir.specs.Classes.{Classes, VariableSet}
@@ -16,11 +16,11 @@ use Rattle.dae_ir.specs.declared.form.Operand.{Operand}
 use Rattle.dae_ir.specs.declared.stream.Mark.{Mark}
 use Rattle.dae_ir.specs.declared.stream.Branch.TheVariants.{Tells, Hears}
 use Rattle.dae_ir.specs.declared.form.Check.TheVariants.{Room}
-use Rattle.dae_machine_rounds.specs.Spots.{turn_least, weight_of, Behind, Ends, After, Body, Turn, Point, point, left, skipped, Waiting, waits, Spot, spot, put_some, given, with_result, Arrives, Moves, goes_behind, ends_body, ends_step, breaks, continues, enters, calls_it, returns, goes_back}
+use Rattle.dae_machine_rounds.specs.Spots.{turn_least, weight_of, Behind, Ends, After, Body, Turn, Point, point, left, skipped, HeldCall, waits, Spot, spot, put_some, given, with_result, Arrives, Moves, goes_behind, ends_body, ends_step, breaks, continues, enters, calls_it, returns, goes_back}
 use Rattle.dae_machine_rounds.specs.Sides.{Implements}
 use Rattle.dae_machine_rounds.proofs.Laws.{level, exits, least_of, IsSound, Stands, Arrived, Lands, then_lands, less, rest_empty, GroupFits, group_lands, Part, one_move, control, told_by_a, told_by_e, both_halt}
 use Rattle.dae_machine.specs.Walks.{nothing}
-use Rattle.dae_machine_rounds.specs.Order.{Round as Turn_of, none}
+use Rattle.dae_machine_rounds.specs.Order.{PickRound as Turn_of, none}
 use Rattle.dae_core.specs.Queues.{Queues}
 use Rattle.dae_machine_rounds.proofs.Turned.{IsTold, one_is_none, told_group, told_region}
 
@@ -51,31 +51,31 @@ arguments_few callee k (x ∷ xs) = by (callee k) (arguments_few callee (k + 1) 
   by false h = omega arith
 
 module _ (setup : Setup) (p : Program) (body_a body_e : ℕ → Actions) (most : ℕ) (At_a At_e : Spot → Processor → Type 0) (code_a : Implements setup p true body_a most At_a) (code_e : Implements setup p false body_e most At_e) (positive : 1 ≤ most) (of : ℕ → Classes) (cap n : ℕ) where
-  abbrev Lands' : State → ℕ → ℕ → (Way → Point × Point) → List Waiting → List Waiting → Result Sides → Type 0
+  abbrev Lands' : State → ℕ → ℕ → (Way → Point × Point) → List HeldCall → List HeldCall → Result Sides → Type 0
   Lands' s base j go ca ce r = Lands setup most At_a At_e s base n j go ca ce r
 
-  abbrev Stands' : Point × Point → List Waiting → List Waiting → Sides → World → State → Type 0
+  abbrev Stands' : Point × Point → List HeldCall → List HeldCall → Sides → World → State → Type 0
   Stands' = Stands setup most At_a At_e
 
-  abbrev Arrived' : State → ℕ → ℕ → Point × Point → List Waiting → List Waiting → Sides → World → Type 0
+  abbrev Arrived' : State → ℕ → ℕ → Point × Point → List HeldCall → List HeldCall → Sides → World → Type 0
   Arrived' = Arrived setup most At_a At_e
 
-  stands_ticked : (at : Point × Point) (ca ce : List Waiting) (b : Sides) (w : World) (s : State) → Stands' at ca ce b w s → Stands' at ca ce b (ticked w) s
+  stands_ticked : (at : Point × Point) (ca ce : List HeldCall) (b : Sides) (w : World) (s : State) → Stands' at ca ce b w s → Stands' at ca ce b (ticked w) s
   stands_ticked at ca ce b w s h = record { a = h.a; e = h.e; counts = h.counts; queues = h.queues; memory = h.memory; printed = h.printed }
 
-  stands_unticked : (at : Point × Point) (ca ce : List Waiting) (b : Sides) (w : World) (s : State) → Stands' at ca ce b (ticked w) s → Stands' at ca ce b w s
+  stands_unticked : (at : Point × Point) (ca ce : List HeldCall) (b : Sides) (w : World) (s : State) → Stands' at ca ce b (ticked w) s → Stands' at ca ce b w s
   stands_unticked at ca ce b w s h = record { a = h.a; e = h.e; counts = h.counts; queues = h.queues; memory = h.memory; printed = h.printed }
 
   sound_ticked : (w : World) → IsSound setup w → IsSound setup (ticked w)
   sound_ticked w h = record { size = h.size; bytes = h.bytes }
 
-  elsewhere : (s : State) (base base' k : ℕ) (at at' : Point × Point) (ca ce : List Waiting) (b : Sides) (w : World) → at ≡ at' → base' ≤ base → Arrived' s base k at ca ce b w → Arrived' s base' k at' ca ce b w
+  elsewhere : (s : State) (base base' k : ℕ) (at at' : Point × Point) (ca ce : List HeldCall) (b : Sides) (w : World) → at ≡ at' → base' ≤ base → Arrived' s base k at ca ce b w → Arrived' s base' k at' ca ce b w
   elsewhere s base base' k at at' ca ce b w e h y =
       let c = y.cost in
       record { state = y.state; picks = y.picks; rounds = y.rounds; units = y.units; few = y.few; cost = omega arith; some = y.some; stands = subst (λ (z : Point × Point). Stands' z ca ce b w y.state) e y.stands; sound = y.sound }
 
   -- one stretch, and then another, with d of the account for the way to it
-  bind : (s : State) (base d j : ℕ) (go go' : Way → Point × Point) (ca ce : List Waiting) (r : Result Sides) (f : Run Sides) → go Leaves ≡ go' Leaves → go Skips ≡ go' Skips → go Returns ≡ go' Returns → Lands' s (base + d) j go ca ce r
+  bind : (s : State) (base d j : ℕ) (go go' : Way → Point × Point) (ca ce : List HeldCall) (r : Result Sides) (f : Run Sides) → go Leaves ≡ go' Leaves → go Skips ≡ go' Skips → go Returns ≡ go' Returns → Lands' s (base + d) j go ca ce r
       → ((b : Sides) (w : World) (x : Arrived' s (base + d) 0 (go Next) ca ce b w) → Lands' x.state (8 * w.items - d) j go' ca ce (f b w)) → Lands' s base j go' ca ce (r ▷ f)
   bind s base d j go go' ca ce (At Next b w) f l k t x h = let c = x.cost in then_lands s base d (base + d) (8 * w.items - d) n 0 j j (go Next) go' ca ce ca ce b w (f b w) (omega arith) (omega arith) (omega arith) x (h b w x)
   bind s base d j go go' ca ce (At Leaves b w) f l k t x h = elsewhere s (base + d) base 0 _ _ ca ce b w l (omega arith) x
@@ -87,7 +87,7 @@ module _ (setup : Setup) (p : Program) (body_a body_e : ℕ → Actions) (most :
   bind s base d j go go' ca ce (Over Astray w) f l k t x h = tt
 
   -- the same in a loop
-  turn : (s : State) (base d j : ℕ) (go go' : Way → Point × Point) (ca ce : List Waiting) (r : Result Sides) (f : Run Sides) → go Leaves ≡ go' Next → go Returns ≡ go' Returns → Lands' s (base + d) j go ca ce r
+  turn : (s : State) (base d j : ℕ) (go go' : Way → Point × Point) (ca ce : List HeldCall) (r : Result Sides) (f : Run Sides) → go Leaves ≡ go' Next → go Returns ≡ go' Returns → Lands' s (base + d) j go ca ce r
       → ((b : Sides) (w : World) (x : Arrived' s (base + d) 0 (go Next) ca ce b w) → Lands' x.state (8 * w.items - d) j go' ca ce (f b w)) → ((b : Sides) (w : World) (x : Arrived' s (base + d) 1 (go Skips) ca ce b w) → (k : ℕ) × (Lands' x.state (8 * w.items - d) k go' ca ce (f b w)) × (j ≤ 1 + k)) → Lands' s base j go' ca ce (r ↻ f)
   turn s base d j go go' ca ce (At Next b w) f l t x h i = let c = x.cost in then_lands s base d (base + d) (8 * w.items - d) n 0 j j (go Next) go' ca ce ca ce b w (f b w) (omega arith) (omega arith) (omega arith) x (h b w x)
   turn s base d j go go' ca ce (At Leaves b w) f l t x h i = elsewhere s (base + d) base 0 _ _ ca ce b w l (omega arith) x
@@ -99,7 +99,7 @@ module _ (setup : Setup) (p : Program) (body_a body_e : ℕ → Actions) (most :
   turn s base d j go go' ca ce (Over Astray w) f l t x h i = tt
 
   -- two stretches of a turn, where the second is told of from where the first has come to
-  bind_turn : (s : State) (base d j : ℕ) (go go' : Way → Point × Point) (ca ce : List Waiting) (r : Result Sides) (g f : Run Sides) → go Leaves ≡ go' Next → go Returns ≡ go' Returns → Lands' s (base + d) j go ca ce r
+  bind_turn : (s : State) (base d j : ℕ) (go go' : Way → Point × Point) (ca ce : List HeldCall) (r : Result Sides) (g f : Run Sides) → go Leaves ≡ go' Next → go Returns ≡ go' Returns → Lands' s (base + d) j go ca ce r
       → ((b : Sides) (w : World) (x : Arrived' s (base + d) 0 (go Next) ca ce b w) → Lands' x.state (8 * w.items - d) j go' ca ce (g b w ↻ f)) → ((b : Sides) (w : World) (x : Arrived' s (base + d) 1 (go Skips) ca ce b w) → (k : ℕ) × (Lands' x.state (8 * w.items - d) k go' ca ce (f b w)) × (j ≤ 1 + k)) → Lands' s base j go' ca ce ((r ▷ g) ↻ f)
   bind_turn s base d j go go' ca ce (At Next b w) g f l t x h i = let c = x.cost in then_lands s base d (base + d) (8 * w.items - d) n 0 j j (go Next) go' ca ce ca ce b w (g b w ↻ f) (omega arith) (omega arith) (omega arith) x (h b w x)
   bind_turn s base d j go go' ca ce (At Leaves b w) g f l t x h i = elsewhere s (base + d) base 0 _ _ ca ce b w l (omega arith) x
@@ -117,11 +117,11 @@ module _ (setup : Setup) (p : Program) (body_a body_e : ℕ → Actions) (most :
 
   -- a call of a function lands at its end
   abbrev pub CallsLand : PairCalls → Type 0
-  CallsLand calls = (f : ℕ) (xs ys : List ℕ) (w : World) (s : State) (ca ce : List Waiting) → Stands' (point (body_a f) Ends, point (body_e f) Ends) ca ce (entered_both (of f) xs ys) (deeper p f w) s → IsSound setup w
+  CallsLand calls = (f : ℕ) (xs ys : List ℕ) (w : World) (s : State) (ca ce : List HeldCall) → Stands' (point (body_a f) Ends, point (body_e f) Ends) ca ce (entered_both (of f) xs ys) (deeper p f w) s → IsSound setup w
       → Lands' s (8 * w.items) n ends_at ca ce (calls f xs ys w)
 
   abbrev pub RegionLands : PairCalls → Classes → Bool → Form → Type 0
-  RegionLands calls c by_a code = (place : Place) (ng : ℕ) (ka : Actions) (ba : Behind) (ke : Actions) (be : Behind) (ca ce : List Waiting) (b : Sides) (w : World) (s : State) → Stands' (point (region_of true of c cap ng place by_a code ka) ba, point (region_of false of c cap ng place by_a code ke) be) ca ce b w s → IsSound setup w
+  RegionLands calls c by_a code = (place : Place) (ng : ℕ) (ka : Actions) (ba : Behind) (ke : Actions) (be : Behind) (ca ce : List HeldCall) (b : Sides) (w : World) (s : State) → Stands' (point (region_of true of c cap ng place by_a code ka) ba, point (region_of false of c cap ng place by_a code ke) be) ca ce b w s → IsSound setup w
       → Lands' s (8 * w.items) n (exits ka ba ke be) ca ce (does_round p n calls c (Region by_a code) b w)
 
   -- there is room for each group and each told condition, and each region lands
@@ -135,11 +135,11 @@ module _ (setup : Setup) (p : Program) (body_a body_e : ℕ → Actions) (most :
 
   -- ---- control flow
 
-  nothing_done : (s : State) (at : Point × Point) (ca ce : List Waiting) (b : Sides) (w : World) → Stands' at ca ce b w s → IsSound setup w → Arrived' s (8 * w.items) 0 at ca ce b w
+  nothing_done : (s : State) (at : Point × Point) (ca ce : List HeldCall) (b : Sides) (w : World) → Stands' at ca ce b w s → IsSound setup w → Arrived' s (8 * w.items) 0 at ca ce b w
   nothing_done s at ca ce b w stands sound = record { state = s; picks = []; rounds = none (rest_empty s.queues (level stands.counts) stands.queues); units = 0; few = omega arith; cost = omega arith; some = omega arith; stands = stands; sound = sound }
 
   -- both sides make one silent move each, of which E's number counts, and the world is ticked or not
-  both_move : (s : State) (base la le : ℕ) (at at' : Point × Point) (ca ce : List Waiting) (b b' : Sides) (w w' : World) → Stands' at ca ce b w s → IsSound setup w' → Moves p true setup.memory body_a la (spot at.0 b.a w ca) [] (Arrives (spot at'.0 b'.a w' ca)) → Moves p false setup.memory body_e le (spot at.1 b.e w ce) [] (Arrives (spot at'.1 b'.e w' ce))
+  both_move : (s : State) (base la le : ℕ) (at at' : Point × Point) (ca ce : List HeldCall) (b b' : Sides) (w w' : World) → Stands' at ca ce b w s → IsSound setup w' → Moves p true setup.memory body_a la (spot at.0 b.a w ca) [] (Arrives (spot at'.0 b'.a w' ca)) → Moves p false setup.memory body_e le (spot at.1 b.e w ce) [] (Arrives (spot at'.1 b'.e w' ce))
       → weight_of at.0.code at.0.behind ≡ 1 → weight_of at.1.code at.1.behind ≡ 1 → w'.memory ≡ w.memory → w'.printed ≡ w.printed → 2 + base ≤ 8 * w'.items → Arrived' s base le at' ca ce b' w'
   both_move s base la le at at' ca ce b b' w w' stands sound move_a move_e one_a one_e memory printed cost =
       control setup p body_a body_e most At_a At_e code_a code_e positive s base at at' ca ce ca ce b b' w w' 1 1 le stands sound (λ m x. part_a one_a (one_move move_a)) (λ m x. part_e one_e (one_move move_e)) memory printed (omega arith) where
@@ -150,26 +150,26 @@ module _ (setup : Setup) (p : Program) (body_a body_e : ℕ → Actions) (most :
         part_e e y = let f = y.few in record { moves = y.moves; fills = y.fills; instructions = y.instructions; does = y.does; few = omega arith; some = y.some }
 
   -- behind a branch
-  behind_branch : (s : State) (base : ℕ) (ka : Actions) (ba : Behind) (ke : Actions) (be : Behind) (ca ce : List Waiting) (b : Sides) (w : World) → Stands' (point Done (After ka ba), point Done (After ke be)) ca ce b w s → IsSound setup w → 2 + base ≤ 8 * w.items → Arrived' s base 0 (point ka ba, point ke be) ca ce b w
+  behind_branch : (s : State) (base : ℕ) (ka : Actions) (ba : Behind) (ke : Actions) (be : Behind) (ca ce : List HeldCall) (b : Sides) (w : World) → Stands' (point Done (After ka ba), point Done (After ke be)) ca ce b w s → IsSound setup w → 2 + base ≤ 8 * w.items → Arrived' s base 0 (point ka ba, point ke be) ca ce b w
   behind_branch s base ka ba ke be ca ce b w stands sound cost = both_move s base 0 0 (point Done (After ka ba), point Done (After ke be)) (point ka ba, point ke be) ca ce b b w w stands sound (goes_behind w) (goes_behind w) refl refl refl refl cost
 
-  module _ (m : Meaning Round Decision Sides) where
+  module _ (m : CodeMeaning Round Decision Sides) where
     -- what code does from where it stands
     abbrev pub CodeLands : Classes → Rounds → Type 0
-    CodeLands c r = (ng : ℕ) (ka : Actions) (ba : Behind) (ke : Actions) (be : Behind) (ca ce : List Waiting) (b : Sides) (w : World) (s : State) → Stands' (point (side_of true of c cap ng r ka) ba, point (side_of false of c cap ng r ke) be) ca ce b w s → IsSound setup w → Lands' s (8 * w.items) n (exits ka ba ke be) ca ce (exec m n r b w)
+    CodeLands c r = (ng : ℕ) (ka : Actions) (ba : Behind) (ke : Actions) (be : Behind) (ca ce : List HeldCall) (b : Sides) (w : World) (s : State) → Stands' (point (side_of true of c cap ng r ka) ba, point (side_of false of c cap ng r ke) be) ca ce b w s → IsSound setup w → Lands' s (8 * w.items) n (exits ka ba ke be) ca ce (exec m n r b w)
 
     -- what code does as the body of a turn that begins with a test that is told: with what is behind it, an instruction more
-    abbrev pub Onward_from : Point × Point → List Waiting → List Waiting → (Way → Point × Point) → ℕ → Run Sides → Type 0
+    abbrev pub Onward_from : Point × Point → List HeldCall → List HeldCall → (Way → Point × Point) → ℕ → Run Sides → Type 0
     Onward_from at ca ce go j f = (b : Sides) (w : World) (s : State) → Stands' at ca ce b w s → IsSound setup w → 1 ≤ w.items → Lands' s (8 * w.items - 6) j go ca ce (f b w)
 
     abbrev pub TurnLands : Classes → Rounds → Type 0
     TurnLands c r =
-        (ng : ℕ) (ba be : Behind) (ca ce : List Waiting) (go : Way → Point × Point) (j : ℕ) (f : Run Sides) → IsTold (side_of false of c cap ng r Done) → suc j ≤ n → exits Done ba Done be Leaves ≡ go Next → exits Done ba Done be Returns ≡ go Returns
+        (ng : ℕ) (ba be : Behind) (ca ce : List HeldCall) (go : Way → Point × Point) (j : ℕ) (f : Run Sides) → IsTold (side_of false of c cap ng r Done) → suc j ≤ n → exits Done ba Done be Leaves ≡ go Next → exits Done ba Done be Returns ≡ go Returns
         → Onward_from (exits Done ba Done be Next) ca ce go j f → Onward_from (exits Done ba Done be Skips) ca ce go j f
         → (b : Sides) (w : World) (s : State) → Stands' (point (side_of true of c cap ng r Done) ba, point (side_of false of c cap ng r Done) be) ca ce b w s → IsSound setup w → 1 ≤ w.items → Lands' s (8 * w.items - 6) (suc j) go ca ce (exec m n r b w ↻ f)
 
     -- a branch, and what is behind it
-    branch_lands : (c : Classes) (r k : Rounds) → CodeLands c r → CodeLands c k → (ng : ℕ) (ka : Actions) (ba : Behind) (ke : Actions) (be : Behind) (ca ce : List Waiting) (b : Sides) (w : World) (s : State) (told : Arrived' s (8 * w.items + 2) 1 (point (side_of true of c cap 0 r Done) (After (side_of true of c cap ng k ka) ba), point (side_of false of c cap 0 r Done) (After (side_of false of c cap ng k ke) be)) ca ce b (ticked w))
+    branch_lands : (c : Classes) (r k : Rounds) → CodeLands c r → CodeLands c k → (ng : ℕ) (ka : Actions) (ba : Behind) (ke : Actions) (be : Behind) (ca ce : List HeldCall) (b : Sides) (w : World) (s : State) (told : Arrived' s (8 * w.items + 2) 1 (point (side_of true of c cap 0 r Done) (After (side_of true of c cap ng k ka) ba), point (side_of false of c cap 0 r Done) (After (side_of false of c cap ng k ke) be)) ca ce b (ticked w))
         → Lands' s (8 * w.items) n (exits ka ba ke be) ca ce (exec m n r b (ticked w) ▷ exec m n k)
     branch_lands c r k ih ik ng ka ba ke be ca ce b w s told =
         let ka' = side_of true of c cap ng k ka in
@@ -183,7 +183,7 @@ module _ (setup : Setup) (p : Program) (body_a body_e : ℕ → Actions) (most :
         then_lands x.state (8 * w'.items - 2) 0 (8 * w'.items - 2) (8 * w'.items) n 0 n n (point ka' ba, point ke' be) (exits ka ba ke be) ca ce ca ce b' w' (exec m n k b' w') (omega arith) (omega arith) (omega arith) z (ik ng ka ba ke be ca ce b' w' z.state z.stands z.sound)))
 
     -- the same at the begin of a turn
-    branch_turn : (c : Classes) (r k : Rounds) → CodeLands c r → CodeLands c k → (ng : ℕ) (ba be : Behind) (ca ce : List Waiting) (go : Way → Point × Point) (j : ℕ) (f : Run Sides) → suc j ≤ n → exits Done ba Done be Leaves ≡ go Next → exits Done ba Done be Returns ≡ go Returns
+    branch_turn : (c : Classes) (r k : Rounds) → CodeLands c r → CodeLands c k → (ng : ℕ) (ba be : Behind) (ca ce : List HeldCall) (go : Way → Point × Point) (j : ℕ) (f : Run Sides) → suc j ≤ n → exits Done ba Done be Leaves ≡ go Next → exits Done ba Done be Returns ≡ go Returns
         → Onward_from (exits Done ba Done be Next) ca ce go j f → Onward_from (exits Done ba Done be Skips) ca ce go j f → (b : Sides) (w : World) (s : State) → 1 ≤ w.items
         → (told : Arrived' s (8 * w.items + 2) 1 (point (side_of true of c cap 0 r Done) (After (side_of true of c cap ng k Done) ba), point (side_of false of c cap 0 r Done) (After (side_of false of c cap ng k Done) be)) ca ce b (ticked w))
         → Lands' s (8 * w.items - 6) (suc j) go ca ce ((exec m n r b (ticked w) ▷ exec m n k) ↻ f)
@@ -209,7 +209,7 @@ module _ (setup : Setup) (p : Program) (body_a body_e : ℕ → Actions) (most :
 
     -- ---- loops
 
-    module _ (c : Classes) (body step : Rounds) (ih : CodeLands c body) (it : TurnLands c body) (is : CodeLands c step) (ka : Actions) (ba : Behind) (ke : Actions) (be : Behind) (ca ce : List Waiting) where
+    module _ (c : Classes) (body step : Rounds) (ih : CodeLands c body) (it : TurnLands c body) (is : CodeLands c step) (ka : Actions) (ba : Behind) (ke : Actions) (be : Behind) (ca ce : List HeldCall) where
       abbrev xa : Actions
       xa = side_of true of c cap 0 body Done
 
@@ -302,7 +302,7 @@ module _ (setup : Setup) (p : Program) (body_a body_e : ℕ → Actions) (most :
 
   module _ (calls : PairCalls) (calls_land : CallsLand calls) (c : Classes) where
     -- behind a call
-    comes_back : (mark : Mark) (v : ℕ) (ka : Actions) (ba : Behind) (ke : Actions) (be : Behind) (ca ce : List Waiting) (b r : Sides) (w w' : World) (s : State) (base : ℕ)
+    comes_back : (mark : Mark) (v : ℕ) (ka : Actions) (ba : Behind) (ke : Actions) (be : Behind) (ca ce : List HeldCall) (b r : Sides) (w w' : World) (s : State) (base : ℕ)
         → Stands' (point Done Ends, point Done Ends) (waits (kept (c.s v) v) (point ka ba) b.a w ∷ ca) (waits (kept (c.needs v) v) (point ke be) b.e w ∷ ce) r w' s → IsSound setup w' → 6 + base ≤ 8 * w'.items
         → Arrived' s base 0 (point ka ba, point ke be) ca ce (put_both c v (r.a 0) (r.e 0) b) (back w w')
     comes_back mark v ka ba ke be ca ce b r w w' s base stands sound cost =
@@ -315,7 +315,7 @@ module _ (setup : Setup) (p : Program) (body_a body_e : ℕ → Actions) (most :
         control setup p body_a body_e most At_a At_e code_a code_e positive s base (point Done Ends, point Done Ends) (point ka ba, point ke be) (wa ∷ ca) (we ∷ ce) ca ce r (put_both c v (r.a 0) (r.e 0) b) w' (back w w') 3 3 0 stands (record { size = sound.size; bytes = sound.bytes }) (λ m x. one_move move_a) (λ m x. one_move move_e) refl refl (omega arith)
 
     -- how a call has ended, from the entry of the function
-    back_lands : (mark : Mark) (v : ℕ) (ka : Actions) (ba : Behind) (ke : Actions) (be : Behind) (ca ce : List Waiting) (b : Sides) (w : World) (s : State) (base : ℕ) (r : Result Sides)
+    back_lands : (mark : Mark) (v : ℕ) (ka : Actions) (ba : Behind) (ke : Actions) (be : Behind) (ca ce : List HeldCall) (b : Sides) (w : World) (s : State) (base : ℕ) (r : Result Sides)
         → Lands' s (base + 6) n ends_at (waits (kept (c.s v) v) (point ka ba) b.a w ∷ ca) (waits (kept (c.needs v) v) (point ke be) b.e w ∷ ce) r → Lands' s base n (exits ka ba ke be) ca ce (ended (λ (r : Sides). put_both c v (r.a 0) (r.e 0) b) w r)
     back_lands mark v ka ba ke be ca ce b w s base (At way r w') x =
         let cost = x.cost in
@@ -329,7 +329,7 @@ module _ (setup : Setup) (p : Program) (body_a body_e : ℕ → Actions) (most :
     back_lands mark v ka ba ke be ca ce b w s base (Over Going w') x = less setup most At_a At_e s (base + 6) base n n n ends_at ca ce (Over Going w') (omega arith) (omega arith) x
     back_lands mark v ka ba ke be ca ce b w s base (Over Astray w') x = tt
 
-    call_lands : (mark : Mark) (v f : ℕ) (xs : List Operand) (ka : Actions) (ba : Behind) (ke : Actions) (be : Behind) (ca ce : List Waiting) (b : Sides) (w : World) (s : State)
+    call_lands : (mark : Mark) (v f : ℕ) (xs : List Operand) (ka : Actions) (ba : Behind) (ke : Actions) (be : Behind) (ca ce : List HeldCall) (b : Sides) (w : World) (s : State)
         → Stands' (point (Do mark (jump_action true of c (Enters v f xs)) ka) ba, point (Do mark (jump_action false of c (Enters v f xs)) ke) be) ca ce b w s → IsSound setup w → (o : Option ℕ) → fault p (Room f) w b.a ≡ o
         → Lands' s (8 * w.items) n (exits ka ba ke be) ca ce (within o w (ended (λ (r : Sides). put_both c v (r.a 0) (r.e 0) b) w (calls f (values xs b.a) (values xs b.e) (called xs w))))
     call_lands mark v f xs ka ba ke be ca ce b w s stands sound (Some code) e = tt
@@ -352,7 +352,7 @@ module _ (setup : Setup) (p : Program) (body_a body_e : ℕ → Actions) (most :
         (then_lands s (8 * w.items + 6) 0 (8 * w.items + 6) (8 * (w.items + (2 + length xs))) n 0 n n (point (body_a f) Ends, point (body_e f) Ends) ends_at (wa ∷ ca) (we ∷ ce) (wa ∷ ca) (we ∷ ce) entry u (calls f (values xs b.a) (values xs b.e) (called xs w)) (omega arith) (omega arith) (omega arith) z
         (calls_land f (values xs b.a) (values xs b.e) (called xs w) z.state (wa ∷ ca) (we ∷ ce) z.stands (record { size = sound.size; bytes = sound.bytes })))
 
-    at_ends : (mark : Mark) (x : Operand) (ka : Actions) (ba : Behind) (ke : Actions) (be : Behind) (ca ce : List Waiting) (b : Sides) (w : World) (s : State)
+    at_ends : (mark : Mark) (x : Operand) (ka : Actions) (ba : Behind) (ke : Actions) (be : Behind) (ca ce : List HeldCall) (b : Sides) (w : World) (s : State)
         → Stands' (point (Do mark (jump_action true of c (Gives x)) ka) ba, point (Do mark (jump_action false of c (Gives x)) ke) be) ca ce b w s → IsSound setup w → Arrived' s (8 * w.items) 0 (point Done Ends, point Done Ends) ca ce (put_both c 0 (value x b.a) (value x b.e) b) (ticked w)
     at_ends mark x ka ba ke be ca ce b w s stands sound =
         let sa = spot (point (Do mark (jump_action true of c (Gives x)) ka) ba) b.a w ca in
@@ -365,10 +365,10 @@ module _ (setup : Setup) (p : Program) (body_a body_e : ℕ → Actions) (most :
         both_move s (8 * w.items) 0 0 go (point Done Ends, point Done Ends) ca ce b (put_both c 0 (value x b.a) (value x b.e) b) w (ticked w) stands (sound_ticked w sound) move_a move_e refl refl refl refl (omega arith)
 
     -- a condition is told, by the side that decides it
-    told_lands : (place : Place) (d : Decision) (r k q : Rounds) (ng : ℕ) (ka : Actions) (ba : Behind) (ke : Actions) (be : Behind) (ca ce : List Waiting) (b : Sides) (w : World) (s : State) → CodeLands (canonical p n calls c) c r → CodeLands (canonical p n calls c) c q → CodeLands (canonical p n calls c) c k → DecisionFits d
+    told_lands : (place : Place) (d : Decision) (r k q : Rounds) (ng : ℕ) (ka : Actions) (ba : Behind) (ke : Actions) (be : Behind) (ca ce : List HeldCall) (b : Sides) (w : World) (s : State) → CodeLands (canonical p n calls c) c r → CodeLands (canonical p n calls c) c q → CodeLands (canonical p n calls c) c k → DecisionFits d
         → Stands' (point (side_of true of c cap ng (If place d r q k) ka) ba, point (side_of false of c cap ng (If place d r q k) ke) be) ca ce b w s → IsSound setup w → Lands' s (8 * w.items) n (exits ka ba ke be) ca ce (exec (canonical p n calls c) n (If place d r q k) b w)
     told_lands place d r k q ng ka ba ke be ca ce b w s ih iq ik fits stands sound = by d.by_a fits stands where
-      m : Meaning Round Decision Sides
+      m : CodeMeaning Round Decision Sides
       m = canonical p n calls c
 
       by : (by_a : Bool) → (by_a ≡ true → 1 ≤ setup.depths.ab) × (by_a ≡ false → 1 ≤ setup.depths.eb)
@@ -386,7 +386,7 @@ module _ (setup : Setup) (p : Program) (body_a body_e : ℕ → Actions) (most :
         branch false x = branch_lands (canonical p n calls c) c q k iq ik ng ka ba ke be ca ce b w s x
 
     -- the rest behind something that needs nothing of the account
-    rest_lands : (k : Rounds) (ng : ℕ) (ka : Actions) (ba : Behind) (ke : Actions) (be : Behind) (ca ce : List Waiting) (w : World) (s : State) (r : Result Sides) → CodeLands (canonical p n calls c) c k → Lands' s (8 * w.items) n (exits (side_of true of c cap ng k ka) ba (side_of false of c cap ng k ke) be) ca ce r
+    rest_lands : (k : Rounds) (ng : ℕ) (ka : Actions) (ba : Behind) (ke : Actions) (be : Behind) (ca ce : List HeldCall) (w : World) (s : State) (r : Result Sides) → CodeLands (canonical p n calls c) c k → Lands' s (8 * w.items) n (exits (side_of true of c cap ng k ka) ba (side_of false of c cap ng k ke) be) ca ce r
         → Lands' s (8 * w.items) n (exits ka ba ke be) ca ce (r ▷ exec (canonical p n calls c) n k)
     rest_lands k ng ka ba ke be ca ce w s r ih x =
         let go = exits (side_of true of c cap ng k ka) ba (side_of false of c cap ng k ke) be in
@@ -396,7 +396,7 @@ module _ (setup : Setup) (p : Program) (body_a body_e : ℕ → Actions) (most :
     -- a condition is told at the begin of a turn
     told_turn : (place : Place) (d : Decision) (r k q : Rounds) → CodeLands (canonical p n calls c) c r → CodeLands (canonical p n calls c) c q → CodeLands (canonical p n calls c) c k → DecisionFits d → TurnLands (canonical p n calls c) c (If place d r q k)
     told_turn place d r k q ih iq ik fits ng ba be ca ce go j f is small l t next skips b w s stands sound some = by d.by_a fits stands where
-      m : Meaning Round Decision Sides
+      m : CodeMeaning Round Decision Sides
       m = canonical p n calls c
 
       branch : (told : Bool) → Arrived' s (8 * w.items + 2) 1 (point (if told then side_of true of c cap 0 r Done else side_of true of c cap 0 q Done) (After (side_of true of c cap ng k Done) ba), point (if told then side_of false of c cap 0 r Done else side_of false of c cap 0 q Done) (After (side_of false of c cap ng k Done) be)) ca ce b (ticked w)
@@ -411,7 +411,7 @@ module _ (setup : Setup) (p : Program) (body_a body_e : ℕ → Actions) (most :
       by false fits stands = branch (holds d.test b.e) (told_by_e setup p body_a body_e most At_a At_e code_a code_e positive s (8 * w.items + 2) (mark place ng) d.test (side_of true of c cap 0 r Done) (side_of true of c cap 0 q Done) (side_of true of c cap ng k Done) ba (side_of false of c cap 0 r Done) (side_of false of c cap 0 q Done) (side_of false of c cap ng k Done) be ca ce b w stands sound (fits.1 refl) (omega arith))
 
     -- the rest of a turn
-    rest_turn : (k : Rounds) (ng : ℕ) (ba be : Behind) (ca ce : List Waiting) (go : Way → Point × Point) (j : ℕ) (f : Run Sides) (w : World) (s : State) (r : Result Sides) → TurnLands (canonical p n calls c) c k → IsTold (side_of false of c cap ng k Done) → suc j ≤ n → exits Done ba Done be Leaves ≡ go Next → exits Done ba Done be Returns ≡ go Returns
+    rest_turn : (k : Rounds) (ng : ℕ) (ba be : Behind) (ca ce : List HeldCall) (go : Way → Point × Point) (j : ℕ) (f : Run Sides) (w : World) (s : State) (r : Result Sides) → TurnLands (canonical p n calls c) c k → IsTold (side_of false of c cap ng k Done) → suc j ≤ n → exits Done ba Done be Leaves ≡ go Next → exits Done ba Done be Returns ≡ go Returns
         → Onward_from (canonical p n calls c) (exits Done ba Done be Next) ca ce go j f → Onward_from (canonical p n calls c) (exits Done ba Done be Skips) ca ce go j f → 1 ≤ w.items → Lands' s (8 * w.items) n (exits (side_of true of c cap ng k Done) ba (side_of false of c cap ng k Done) be) ca ce r
         → Lands' s (8 * w.items - 6) (suc j) go ca ce ((r ▷ exec (canonical p n calls c) n k) ↻ f)
     rest_turn k ng ba be ca ce go j f w s r ih is small l t next skips some x =

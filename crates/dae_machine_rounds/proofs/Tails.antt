@@ -26,7 +26,7 @@ use Rattle.dae_ir.specs.declared.stream.Last.TheVariants.{Nothing, Stores, Print
 use Rattle.dae_ir_pair.specs.Budget.{is_test, any_part, is_store}
 use Rattle.dae_machine.specs.Uses.{Takes, Pushes}
 use Rattle.dae_machine_rounds.specs.Follows.{Leaves, Quits, Follows, went, takes, pushes, sends, says, halts}
-use Rattle.dae_machine_rounds.specs.Spots.{Behind, Waiting, Spot, Arrives, Halted, point, spot, acts}
+use Rattle.dae_machine_rounds.specs.Spots.{Behind, HeldCall, Spot, Arrives, Halted, point, spot, acts}
 use Rattle.dae_machine.specs.Walks.{ends, grants}
 use Rattle.dae_machine_rounds.proofs.Does.{Does, here, stops}
 use Rattle.dae_machine_rounds.proofs.Both.{does_both, does_one}
@@ -84,7 +84,7 @@ abbrev pub bit : Bool → ℕ
 bit true = 1
 bit false = 0
 
-module _ (setup : Setup) (p : Program) (body : ℕ → Actions) (b : Behind) (calls : List Waiting) where
+module _ (setup : Setup) (p : Program) (body : ℕ → Actions) (b : Behind) (calls : List HeldCall) where
   abbrev at_code : Actions → Env → World → Spot
   at_code code env u = spot (point code b) env u calls
 

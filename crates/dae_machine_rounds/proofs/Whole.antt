@@ -23,7 +23,7 @@ use Rattle.dae_machine.proofs.LawsOfRuns.{often-append}
 use Rattle.dae_machine_rounds.specs.Spots.{Ends, point, Point, Spot, spot}
 use Rattle.dae_machine_rounds.specs.Sides.{Implements}
 use Rattle.dae_machine.specs.Walks.{nothing}
-use Rattle.dae_machine_rounds.specs.Order.{InOrder, Round, picks_of, Rounds}
+use Rattle.dae_machine_rounds.specs.Order.{InOrder, PickRound, picks_of, PickRounds}
 use Rattle.dae_machine_rounds.specs.Promises.{Begins, OnlyEnds, EndsAs}
 use Rattle.dae_machine.specs.Walks.{state_of, Grants, ends}
 use Rattle.dae_machine.proofs.LawsOfRuns.{ran_a, ran_e}
@@ -48,7 +48,7 @@ module _ (setup : Setup) (p : Program) (of : ℕ → Classes) (cap : ℕ) (most 
   record Begun : Type 0 where
     state : State
     picks : List Pick
-    rounds' : Rounds setup start picks state
+    rounds' : PickRounds setup start picks state
     few : length picks ≤ most * 2
     stands : Stands setup most At_a At_e entry [] [] (entered_both (of main) [] []) (deeper p main w) state
 
@@ -60,7 +60,7 @@ module _ (setup : Setup) (p : Program) (of : ℕ → Classes) (cap : ℕ) (most 
       let s1 = state_of begins_a.after start.e start.queues start.memory start.printed ra.total in
       let re = ran_e setup s1 begins_e.walks none_e in
       let s2 = state_of begins_a.after begins_e.after start.queues start.memory (start.printed ++ []) re.total in
-      let round : Round = record { access = ra.picks; fills = []; execute = re.picks; hears = []; drains = [] } in
+      let round : PickRound = record { access = ra.picks; fills = []; execute = re.picks; hears = []; drains = [] } in
       let all = run-on (step setup) start s1 s2 ra.picks re.picks ra.runs re.runs in
       let shape : ra.picks ++ re.picks ≡ picks_of round = ap (λ (zs : List Pick). ra.picks ++ zs) (sym (append-nil re.picks)) in
       let l = length-append ra.picks (re.picks ++ []) in let l' = length-append re.picks [] in

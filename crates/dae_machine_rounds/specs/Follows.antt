@@ -22,17 +22,17 @@ IsFit size (Says text) = Unit {0}
 -- ---- one action
 
 -- the variables after it, or a halt
-pub data Outcome : Type 0 where
-  Leaves : (env : Env) → Outcome
-  Quits : (quit : Quit) → Outcome
+pub data DeedOutcome : Type 0 where
+  Leaves : (env : Env) → DeedOutcome
+  Quits : (quit : Quit) → DeedOutcome
 
 -- the uses of a deed, where the queues give these words
-pub data Follows : Deed → List Use → Outcome → Type 0 where
+pub data Follows : Deed → List Use → DeedOutcome → Type 0 where
   went : {env : Env} → Follows (Went env) [] (Leaves env)
-  takes : {queue : Queue} {go : ℕ → Deed} {uses : List Use} {o : Outcome} (x : ℕ) → Follows (go x) uses o → Follows (Take queue go) (Takes queue x ∷ uses) o
-  pushes : {queue : Queue} {x : ℕ} {rest : Deed} {uses : List Use} {o : Outcome} → Follows rest uses o → Follows (Push queue x rest) (Pushes queue x ∷ uses) o
-  reserves : {queue : Queue} {kind : LoadKind} {address : ℕ} {rest : Deed} {uses : List Use} {o : Outcome}
+  takes : {queue : Queue} {go : ℕ → Deed} {uses : List Use} {o : DeedOutcome} (x : ℕ) → Follows (go x) uses o → Follows (Take queue go) (Takes queue x ∷ uses) o
+  pushes : {queue : Queue} {x : ℕ} {rest : Deed} {uses : List Use} {o : DeedOutcome} → Follows rest uses o → Follows (Push queue x rest) (Pushes queue x ∷ uses) o
+  reserves : {queue : Queue} {kind : LoadKind} {address : ℕ} {rest : Deed} {uses : List Use} {o : DeedOutcome}
       → Follows rest uses o → Follows (Reserve queue kind address rest) (Reserves queue kind address ∷ uses) o
-  sends : {width : Width} {address : ℕ} {rest : Deed} {uses : List Use} {o : Outcome} → Follows rest uses o → Follows (Send width address rest) (Sends width address ∷ uses) o
-  says : {text : List ℕ} {rest : Deed} {uses : List Use} {o : Outcome} → Follows rest uses o → Follows (Say text rest) (Says text ∷ uses) o
+  sends : {width : Width} {address : ℕ} {rest : Deed} {uses : List Use} {o : DeedOutcome} → Follows rest uses o → Follows (Send width address rest) (Sends width address ∷ uses) o
+  says : {text : List ℕ} {rest : Deed} {uses : List Use} {o : DeedOutcome} → Follows rest uses o → Follows (Say text rest) (Says text ∷ uses) o
   halts : {quit : Quit} → Follows (Halts quit) [] (Quits quit)

@@ -11,21 +11,21 @@ use Rattle.dae_machine.specs.declared.Pick.TheVariants.{Fill, Drain}
 use Rattle.dae_machine.specs.Machine.{Setup, State, Runs}
 use Rattle.dae_machine.specs.Walks.{IsAccess, IsExecute}
 
-pub record Round : Type 0 where
+pub record PickRound : Type 0 where
   pub access : List Pick
   pub fills : List Pick
   pub execute : List Pick
   pub hears : List Pick
   pub drains : List Pick
 
-abbrev pub picks_of : Round → List Pick
+abbrev pub picks_of : PickRound → List Pick
 picks_of r = r.access ++ (r.fills ++ (r.execute ++ (r.hears ++ r.drains)))
 
 abbrev pub IsFill : Pick → Type 0
 IsFill (Fill E n) = Unit {0}
 IsFill p = ⊥
 
-pub record IsRound (r : Round) : Type 0 where
+pub record IsRound (r : PickRound) : Type 0 where
   pub access : IsAccess r.access
   pub fills : AllByRecursion IsFill r.fills
   pub execute : IsExecute r.execute
@@ -42,17 +42,17 @@ pub record IsEmpty (q : Queues) : Type 0 where
   pub cq : q.cq ≡ []
 
 -- whole rounds lead from the one state to the other
-pub data Rounds (setup : Setup) : State → List Pick → State → Type 0 where
-  none : {s : State} → IsEmpty s.queues → Rounds setup s [] s
-  more : {s t u : State} {ps : List Pick} (r : Round) → IsRound r → IsEmpty s.queues → Runs setup s (picks_of r) t → Rounds setup t ps u → Rounds setup s (picks_of r ++ ps) u
+pub data PickRounds (setup : Setup) : State → List Pick → State → Type 0 where
+  none : {s : State} → IsEmpty s.queues → PickRounds setup s [] s
+  more : {s t u : State} {ps : List Pick} (r : PickRound) → IsRound r → IsEmpty s.queues → Runs setup s (picks_of r) t → PickRounds setup t ps u → PickRounds setup s (picks_of r ++ ps) u
 
 -- and then a front of one
 pub record InOrder (setup : Setup) (s : State) (ps : List Pick) (t : State) : Type 0 where
   pub whole : List Pick
   pub between : State
-  pub rounds : Rounds setup s whole between
+  pub rounds : PickRounds setup s whole between
   pub last : List Pick
-  pub round : Round
+  pub round : PickRound
   pub is_round : IsRound round
   pub rest : List Pick
   pub front : last ++ rest ≡ picks_of round

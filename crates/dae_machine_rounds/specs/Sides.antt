@@ -25,7 +25,7 @@ Agrees At (Arrives s) p = At s p
 Agrees At (Halted quit) p = p.halt ≡ Some (halt_of quit)
 
 -- at least and at most so many instructions lead to a processor that agrees
-pub record Walked (setup : Setup) (by_a : Bool) (At : Spot → Processor → Type 0) (least most : ℕ) (p : Processor) (uses : List Use) (c : Came) : Type 0 where
+pub record SideWalked (setup : Setup) (by_a : Bool) (At : Spot → Processor → Type 0) (least most : ℕ) (p : Processor) (uses : List Use) (c : Came) : Type 0 where
   pub after : Processor
   pub steps : ℕ
   pub walks : Walks setup (side by_a) p uses steps after
@@ -38,4 +38,4 @@ pub record Walked (setup : Setup) (by_a : Bool) (At : Spot → Processor → Typ
 -- at most for each unit of its weight
 pub record Implements (setup : Setup) (p : Program) (by_a : Bool) (body : ℕ → Actions) (most : ℕ) (At : Spot → Processor → Type 0) : Type 0 where
   pub moves : {n : ℕ} {s : Spot} {uses : List Use} {c : Came} (q : Processor) → At s q → Moves p by_a setup.memory body n s uses c
-      → AllByRecursion (IsFit setup.memory) uses → Walked setup by_a At n (most * weight s) q uses c
+      → AllByRecursion (IsFit setup.memory) uses → SideWalked setup by_a At n (most * weight s) q uses c

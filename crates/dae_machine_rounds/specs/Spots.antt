@@ -15,7 +15,7 @@ use Rattle.dae_ir.specs.declared.stream.Action.{Action}
 use Rattle.dae_ir.specs.declared.stream.Action.TheVariants.{Break, Continue, Call, Return}
 use Rattle.dae_ir.specs.declared.stream.Branch.TheVariants.{Silent, Tells, Hears}
 use Rattle.dae_machine.specs.Uses.{Use, Takes, Pushes}
-use Rattle.dae_machine_rounds.specs.Follows.{Outcome, Leaves, Quits, Follows}
+use Rattle.dae_machine_rounds.specs.Follows.{DeedOutcome, Leaves, Quits, Follows}
 
 -- what comes behind a list of actions: nothing, where a function ends; the rest behind a branch; the step behind a body, or
 -- the body again behind a step, and in both k behind the loop
@@ -46,7 +46,7 @@ skipped (Body body step k b) = point step (Turn body step k b)
 skipped (Turn body step k b) = point body (Body body step k b)
 
 -- a call that waits: the variable that gets its result, where it goes on, its variables, its frame, and its depth
-pub record Waiting : Type 0 where
+pub record HeldCall : Type 0 where
   pub result : Option ℕ
   pub point : Point
   pub env : Env
@@ -60,13 +60,13 @@ pub record Spot : Type 0 where
   pub frame : ℕ
   pub top : ℕ
   pub depth : ℕ
-  pub calls : List Waiting
+  pub calls : List HeldCall
 
 -- in the function that runs in this world
-abbrev pub spot : Point → Env → World → List Waiting → Spot
+abbrev pub spot : Point → Env → World → List HeldCall → Spot
 spot at env w calls = record { point = at; env = env; frame = w.frame; top = w.top; depth = w.depth; calls = calls }
 
-abbrev pub waits : Option ℕ → Point → Env → World → Waiting
+abbrev pub waits : Option ℕ → Point → Env → World → HeldCall
 waits result at env w = record { result = result; point = at; env = env; frame = w.frame; top = w.top; depth = w.depth }
 
 abbrev pub put_some : Option ℕ → ℕ → Env → Env
@@ -74,7 +74,7 @@ put_some None x env = env
 put_some (Some v) x env = put true v x env
 
 -- behind the call
-abbrev pub resumed : Waiting → ℕ → List Waiting → Spot
+abbrev pub resumed : HeldCall → ℕ → List HeldCall → Spot
 resumed c x calls = record { point = c.point; env = put_some c.result x c.env; frame = c.frame; top = c.top; depth = c.depth; calls = calls }
 
 -- the variables at a function's entry
@@ -114,7 +114,7 @@ pub data Came : Type 0 where
   Arrives : (spot : Spot) → Came
   Halted : (quit : Quit) → Came
 
-abbrev pub came : Outcome → (Env → Spot) → Came
+abbrev pub came : DeedOutcome → (Env → Spot) → Came
 came (Leaves env) go = Arrives (go env)
 came (Quits quit) go = Halted quit
 
@@ -128,31 +128,31 @@ turn_least code = 1
 -- one move, over a memory of this size, where body f is the side's code of function f. The number is how many instructions it
 -- takes at least, as far as the turns of loops need it
 pub data Moves (p : Program) (by_a : Bool) (size : ℕ) (body : ℕ → Actions) : ℕ → Spot → List Use → Came → Type 0 where
-  acts : {m : Mark} {x : Action} {k : Actions} {b : Behind} {env : Env} {calls : List Waiting} {uses : List Use} {o : Outcome} (w : World)
+  acts : {m : Mark} {x : Action} {k : Actions} {b : Behind} {env : Env} {calls : List HeldCall} {uses : List Use} {o : DeedOutcome} (w : World)
       → is_deed x ≡ true → length w.memory ≡ size → Follows (deed p by_a x w env) uses o
       → Moves p by_a size body 0 (spot (point (Do m x k) b) env w calls) uses (came o (λ (env : Env). spot (point k b) env w calls))
-  goes_behind : {k : Actions} {b : Behind} {env : Env} {calls : List Waiting} (w : World)
+  goes_behind : {k : Actions} {b : Behind} {env : Env} {calls : List HeldCall} (w : World)
       → Moves p by_a size body 0 (spot (point Done (After k b)) env w calls) [] (Arrives (spot (point k b) env w calls))
-  ends_body : {x y k : Actions} {b : Behind} {env : Env} {calls : List Waiting} (w : World)
+  ends_body : {x y k : Actions} {b : Behind} {env : Env} {calls : List HeldCall} (w : World)
       → Moves p by_a size body 0 (spot (point Done (Body x y k b)) env w calls) [] (Arrives (spot (point y (Turn x y k b)) env w calls))
-  ends_step : {x y k : Actions} {b : Behind} {env : Env} {calls : List Waiting} (w : World)
+  ends_step : {x y k : Actions} {b : Behind} {env : Env} {calls : List HeldCall} (w : World)
       → Moves p by_a size body (turn_least x) (spot (point Done (Turn x y k b)) env w calls) [] (Arrives (spot (point x (Body x y k b)) env w calls))
-  breaks : {m : Mark} {k : Actions} {b : Behind} {env : Env} {calls : List Waiting} (w : World)
+  breaks : {m : Mark} {k : Actions} {b : Behind} {env : Env} {calls : List HeldCall} (w : World)
       → Moves p by_a size body 0 (spot (point (Do m Break k) b) env w calls) [] (Arrives (spot (left b) env w calls))
-  continues : {m : Mark} {k : Actions} {b : Behind} {env : Env} {calls : List Waiting} (w : World)
+  continues : {m : Mark} {k : Actions} {b : Behind} {env : Env} {calls : List HeldCall} (w : World)
       → Moves p by_a size body 1 (spot (point (Do m Continue k) b) env w calls) [] (Arrives (spot (skipped b) env w calls))
-  branches : {m : Mark} {t : Test} {x y k : Actions} {b : Behind} {env : Env} {calls : List Waiting} (w : World)
+  branches : {m : Mark} {t : Test} {x y k : Actions} {b : Behind} {env : Env} {calls : List HeldCall} (w : World)
       → Moves p by_a size body 0 (spot (point (If m (Silent t) x y k) b) env w calls) [] (Arrives (spot (point (if holds t env then x else y) (After k b)) env w calls))
-  tells : {m : Mark} {t : Test} {x y k : Actions} {b : Behind} {env : Env} {calls : List Waiting} (w : World)
+  tells : {m : Mark} {t : Test} {x y k : Actions} {b : Behind} {env : Env} {calls : List HeldCall} (w : World)
       → Moves p by_a size body 1 (spot (point (If m (Tells t) x y k) b) env w calls) (Pushes (told_on by_a) (if holds t env then 1 else 0) ∷ [])
       (Arrives (spot (point (if holds t env then x else y) (After k b)) env w calls))
-  hears : {m : Mark} {x y k : Actions} {b : Behind} {env : Env} {calls : List Waiting} (w : World) (told : Bool)
+  hears : {m : Mark} {x y k : Actions} {b : Behind} {env : Env} {calls : List HeldCall} (w : World) (told : Bool)
       → Moves p by_a size body 1 (spot (point (If m Hears x y k) b) env w calls) (Takes (heard_on by_a) (if told then 1 else 0) ∷ [])
       (Arrives (spot (point (if told then x else y) (After k b)) env w calls))
-  enters : {m : Mark} {x y k : Actions} {b : Behind} {env : Env} {calls : List Waiting} (w : World)
+  enters : {m : Mark} {x y k : Actions} {b : Behind} {env : Env} {calls : List HeldCall} (w : World)
       → Moves p by_a size body 0 (spot (point (Loop m x y k) b) env w calls) [] (Arrives (spot (point x (Body x y k b)) env w calls))
-  calls_it : {m : Mark} {v : Option ℕ} {f : ℕ} {xs : List Argument} {k : Actions} {b : Behind} {env : Env} {calls : List Waiting} (w : World) → length w.memory ≡ size → fault p (Room f) w env ≡ None
+  calls_it : {m : Mark} {v : Option ℕ} {f : ℕ} {xs : List Argument} {k : Actions} {b : Behind} {env : Env} {calls : List HeldCall} (w : World) → length w.memory ≡ size → fault p (Room f) w env ≡ None
       → Moves p by_a size body 0 (spot (point (Do m (Call v f xs) k) b) env w calls) [] (Arrives (spot (point (body f) Ends) (given xs env) (deeper p f w) (waits v (point k b) env w ∷ calls)))
-  returns : {m : Mark} {x : Option Operand} {k : Actions} {b : Behind} {env : Env} {calls : List Waiting} (w : World)
+  returns : {m : Mark} {x : Option Operand} {k : Actions} {b : Behind} {env : Env} {calls : List HeldCall} (w : World)
       → Moves p by_a size body 0 (spot (point (Do m (Return x) k) b) env w calls) [] (Arrives (spot (point Done Ends) (with_result x env) w calls))
-  goes_back : {c : Waiting} {env : Env} {calls : List Waiting} (w : World) → Moves p by_a size body 0 (spot (point Done Ends) env w (c ∷ calls)) [] (Arrives (resumed c (env 0) calls))
+  goes_back : {c : HeldCall} {env : Env} {calls : List HeldCall} (w : World) → Moves p by_a size body 0 (spot (point Done Ends) env w (c ∷ calls)) [] (Arrives (resumed c (env 0) calls))

@@ -10,7 +10,7 @@ use std::marker::Model;
 
 /// A name by its number, and the place of the one that it hides: the latest of this number before it.
 #[derive(Clone, Copy)]
-struct Entry {
+struct IndexedName {
     name: u32,
     hidden: Option<usize>,
 }
@@ -18,7 +18,7 @@ struct Entry {
 /// Names in the order in which they came into scope. Clauses see their numbers.
 #[derive(Drop)]
 pub struct NameIndex {
-    entries: Vec<Entry>,
+    entries: Vec<IndexedName>,
     latest: IndexMap<u32, usize>,
 }
 
@@ -34,7 +34,7 @@ impl Model for NameIndex {
 }
 
 /// An entry is gone: the name that it hid is the latest again.
-fn show_hidden(latest: &mut IndexMap<u32, usize>, entry: Entry)
+fn show_hidden(latest: &mut IndexMap<u32, usize>, entry: IndexedName)
     requires { IsSome (get nat_eq latest.old entry.name) }
     ensures { Updates nat_eq latest.old latest.new entry.name entry.hidden }
 {
@@ -80,7 +80,7 @@ impl NameIndex {
     {
         let at = self.entries.len();
         let hidden = self.latest.get(&name).copied();
-        self.entries.push(Entry { name, hidden })?;
+        self.entries.push(IndexedName { name, hidden })?;
         match self.latest.insert(name, at) {
             Ok(_) => Ok(()),
             Err(_) => {

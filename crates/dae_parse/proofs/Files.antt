@@ -5,14 +5,14 @@ use Rattle.std.specs.List.{range_with_len}
 use Rattle.std.proofs.lemmas.List.Elements.{All-map, All-weaker}
 use Rattle.dae_tree.specs.Reading.{Reading, IsReading, IsNumbered}
 use Rattle.dae_tree.specs.declared.statements.External.{External}
-use Rattle.dae_tree.specs.Files.{Contents, IsFile, IsNumberedMark}
+use Rattle.dae_tree.specs.Files.{FileContents, IsFile, IsNumberedMark}
 use Rattle.dae_tree.specs.Depth.{first_deeper, first_too_long, nodes_file, greatest_depth}
 use Rattle.dae_tree.specs.FileViews.{view_external, view_externals}
 use Rattle.dae_tree.specs.Trees as tree
-use Rattle.dae_tree.specs.Marks.{Mark, mark, marks, word_mark, sign_mark, literal_numbers}
+use Rattle.dae_tree.specs.Marks.{mark, marks, word_mark, sign_mark, literal_numbers}
 use Rattle.dae_tree.specs.Statements.{spell_file}
-use Rattle.dae_tree.specs.declared.tokens.Kind.{Kind}
-use Rattle.dae_tree.specs.declared.tokens.Kind.TheVariants as kinds
+use Rattle.dae_tree.specs.declared.tokens.TokenKind.{TokenKind}
+use Rattle.dae_tree.specs.declared.tokens.TokenKind.TheVariants as kinds
 use Rattle.dae_tree.specs.declared.tokens.Token.{Token}
 use Rattle.dae_tree.specs.declared.words.Keyword.{Keyword}
 use Rattle.dae_tree.specs.declared.words.Keyword.TheVariants as keywords
@@ -24,7 +24,7 @@ use Rattle.dae_parse_grammar.specs.Machine.{onto}
 use Rattle.dae_parse_grammar.proofs.Laws.{unique, first_deep}
 use Rattle.dae_parse_parts.specs.Shown.{firsts_list}
 use Rattle.dae_parse_parts.proofs.Laws.{seen_at}
-use Rattle.dae_parse_states.specs.declared.frames.Before.{Before}
+use Rattle.dae_parse_states.specs.declared.frames.FileSoFar.{FileSoFar}
 use Rattle.dae_parse_states.specs.Frames.{ShowsFile}
 use Rattle.dae_parse.specs.declared.error.ParseError.{ParseError}
 use Rattle.dae_parse.specs.declared.error.ParseError.TheVariants as errors
@@ -40,7 +40,7 @@ views_files [] = refl
 views_files (x ∷ xs) = ap (λ ys. view_external x ∷ ys) (views_files xs)
 
 -- the first node that is too deep stands at the depth behind the greatest
-pub deep_at : (b : Before) (xs : List tree.External) → ShowsFile b xs → first_deeper greatest_depth (nodes_file (onto xs [])) ≡ slice_get b.read.depths.places.items 200
+pub deep_at : (b : FileSoFar) (xs : List tree.External) → ShowsFile b xs → first_deeper greatest_depth (nodes_file (onto xs [])) ≡ slice_get b.read.depths.places.items 200
 deep_at b xs f = first_deep (onto xs []) 200 ∙ firsts_files (onto xs []) 200 ∙ sym (f.read.holds.places.entries 200 (omega arith))
 
 pub none_of : {A : Type 0} (o : Option A) → ((x : A) → o ≡ Some x → ⊥) → o ≡ None
@@ -48,7 +48,7 @@ none_of None h = refl
 none_of (Some x) h = absurd (h x refl)
 
 -- the trees in memory are those that were read
-pub seen_file : (b : Before) (xs : List tree.External) → ShowsFile b xs → (list : _) → b.read.tree ≡ Some list → view_externals list.items ≡ onto xs []
+pub seen_file : (b : FileSoFar) (xs : List tree.External) → ShowsFile b xs → (list : _) → b.read.tree ≡ Some list → view_externals list.items ≡ onto xs []
 seen_file b xs f list e = views_files list.items ∙ seen_at (λ list. map view_external list.items) b.read.tree (onto xs []) list f.read.seen e
 
 some_none : {A : Type 0} (o : Option A) (x : A) → o ≡ Some x → o ≡ None → ⊥
@@ -56,7 +56,7 @@ some_none None x e d = cc
 some_none (Some y) x e d = cc
 
 -- a tree within the limits is found
-pub found : (r : Reading) (result : Result Contents ParseError) (file : List tree.External) → Answers r result → IsWithinLimits r.tokens file → IfErr result (λ e. e ≡ errors.Memory)
+pub found : (r : Reading) (result : Result FileContents ParseError) (file : List tree.External) → Answers r result → IsWithinLimits r.tokens file → IfErr result (λ e. e ≡ errors.Memory)
 found r (Ok f) file a w = tt
 found r (Err (errors.Syntax p)) file a w = absurd (a.0 file w.tree)
 found r (Err (errors.TooDeep p)) file a w =
@@ -81,7 +81,7 @@ word_numbered : (N L : ℕ) (k : Keyword) (p : Place) → IsNumberedMark N L (wo
 word_numbered N L keywords.Else p = tt
 word_numbered N L _ p = tt
 
-numbered_by : (N L : ℕ) (k : Kind) (t : Token) → t.kind ≡ k → IsNumbered N L k → IsNumberedMark N L (mark t)
+numbered_by : (N L : ℕ) (k : TokenKind) (t : Token) → t.kind ≡ k → IsNumbered N L k → IsNumberedMark N L (mark t)
 numbered_by N L (kinds.Keyword k) t e h = rw e (word_numbered N L k t.place)
 numbered_by N L (kinds.Sign s) t e h = rw e (sign_numbered N L s t.place)
 numbered_by N L (kinds.Name n) t e h = rw e h
@@ -91,7 +91,7 @@ numbered_by N L (kinds.Literal n) t e h = rw e h
 marks_numbered : (N L : ℕ) (ts : List Token) → All (λ (t : Token). IsNumbered N L t.kind) ts → All (IsNumberedMark N L) (marks ts)
 marks_numbered N L ts h = All-map (IsNumberedMark N L) mark ts (All-weaker (λ (t : Token). IsNumbered N L t.kind) (λ (t : Token). IsNumberedMark N L (mark t)) (λ t k. numbered_by N L t.kind t refl k) ts h)
 
-pub is_file : (r : Reading) (f : Contents) → IsReading r → IsWithinLimits r.tokens (view_externals f.externals) → f.names ≡ r.names → f.literals ≡ r.literals → IsFile f
+pub is_file : (r : Reading) (f : FileContents) → IsReading r → IsWithinLimits r.tokens (view_externals f.externals) → f.names ≡ r.names → f.literals ≡ r.literals → IsFile f
 is_file r f h w n l = record {
   grammar = w.tree.0;
   shallow = w.shallow;
@@ -115,7 +115,7 @@ deep_or_not file other p e h k = cc
 long_or_not : (file other : List tree.External) (p : Place) → file ≡ other → first_too_long file ≡ Some p → first_too_long other ≡ None → ⊥
 long_or_not file other p e h k = cc
 
-pub one_tree : (r : Reading) (f g : Contents) → IsFileOf r f → IsFileOf r g → view_externals f.externals ≡ view_externals g.externals
+pub one_tree : (r : Reading) (f g : FileContents) → IsFileOf r f → IsFileOf r g → view_externals f.externals ≡ view_externals g.externals
 one_tree r f g h k = unique (marks r.tokens) (view_externals f.externals) (view_externals g.externals) h.tree.tree k.tree.tree
 
 pub none_refused : (r : Reading) (file : List tree.External) (e : ParseError) → IsWithinLimits r.tokens file → IsCause e → IsRefused r e → ⊥

@@ -1,11 +1,11 @@
 -- A run of the parser's machine shows a run of the grammar's: how it goes on, and where it ends.
 use Rattle.std.proofs.Common.{◌≡◌, ℕ, suc, ◌+◌, ◌*◌, ◌<◌, ◌≤◌, arith, List, [], ◌∷◌, length, map, reverse, Option, Some, None, refl, sym, ap, subst, ◌∙◌, Bool}
 use Rattle.dae_tree.specs.declared.tokens.Token.{Token}
-use Rattle.dae_tree.specs.Marks.{Mark, marks}
+use Rattle.dae_tree.specs.Marks.{TokenMark, marks}
 use Rattle.dae_tree.specs.Names.{Names}
 use Rattle.dae_tree.specs.Statements.{IsTreeOf}
 use Rattle.dae_tree.specs.Trees.{External}
-use Rattle.dae_parse_grammar.specs.Frames.{Frame, State, state, externals}
+use Rattle.dae_parse_grammar.specs.Frames.{Frame, ParserState, state, externals}
 use Rattle.dae_parse_grammar.specs.Frames as plain
 use Rattle.dae_parse_grammar.specs.Machine.{step, step_at, begun, onto}
 use Rattle.dae_parse_grammar.specs.Measure.{measure}
@@ -13,9 +13,9 @@ use Rattle.dae_parse_grammar.specs.Runs.{run}
 use Rattle.dae_parse_grammar.specs.Standing.{Holds}
 use Rattle.dae_parse_grammar.specs.Taken.{tokens_of}
 use Rattle.dae_parse_grammar.proofs.Laws.{run_next, stands, run_keeps, step_falls, sound, stopped}
-use Rattle.dae_parse_states.specs.declared.frames.Before.{Before}
+use Rattle.dae_parse_states.specs.declared.frames.FileSoFar.{FileSoFar}
 use Rattle.dae_parse_states.specs.declared.frames.Doing.{Doing}
-use Rattle.dae_parse_states.specs.declared.machine.Machine.{Machine}
+use Rattle.dae_parse_states.specs.declared.machine.Parser.{Parser}
 use Rattle.dae_parse_states.specs.declared.frames.Doing.TheVariants as doing
 use Rattle.dae_parse_states.specs.declared.frames.Frame.{Frame as Top}
 use Rattle.dae_parse_states.specs.Kept.{out_of_box}
@@ -28,23 +28,23 @@ use Rattle.dae_parse.proofs.Bottoms.{bottom_of_run}
 
 -- ---- what holds of each state that is reached
 
-pub holds_there : (tokens : List Mark) (turns : ℕ) (does : Doing) (m : Machine) (r : Reached tokens turns does m) → Holds (state r.does r.stack m.scope.names m.rest)
+pub holds_there : (tokens : List TokenMark) (turns : ℕ) (does : Doing) (m : Parser) (r : Reached tokens turns does m) → Holds (state r.does r.stack m.scope.names m.rest)
 holds_there tokens turns does m r = subst Holds r.come (stands tokens turns)
 
-pub bottom_there : (tokens : List Mark) (turns : ℕ) (does : Doing) (m : Machine) (r : Reached tokens turns does m) → IsBottomState (state r.does r.stack m.scope.names m.rest)
+pub bottom_there : (tokens : List TokenMark) (turns : ℕ) (does : Doing) (m : Parser) (r : Reached tokens turns does m) → IsBottomState (state r.does r.stack m.scope.names m.rest)
 bottom_there tokens turns does m r = subst IsBottomState r.come (bottom_of_run turns tokens)
 
 pub length_marks : (tokens : List Token) → length (marks tokens) ≡ length tokens
 length_marks [] = refl
 length_marks (t ∷ tokens) = ap suc (length_marks tokens)
 
-pub count_there : (tokens : List Token) (turns : ℕ) (does : Doing) (m : Machine) (r : Reached (marks tokens) turns does m) → length (tokens_of (state r.does r.stack m.scope.names m.rest)) ≡ length tokens
+pub count_there : (tokens : List Token) (turns : ℕ) (does : Doing) (m : Parser) (r : Reached (marks tokens) turns does m) → length (tokens_of (state r.does r.stack m.scope.names m.rest)) ≡ length tokens
 count_there tokens turns does m r =
-    ap (λ (s : State). length (tokens_of s)) (sym r.come) ∙ ap length (run_keeps turns (begun (marks tokens))) ∙ length_marks tokens
+    ap (λ (s : ParserState). length (tokens_of s)) (sym r.come) ∙ ap length (run_keeps turns (begun (marks tokens))) ∙ length_marks tokens
 
 -- ---- the first state
 
-pub start : (tokens : List Mark) (m : Machine) (b : Before) → ShowsFile b [] → m.stack.items ≡ [] → m.scope ≡ record { names = []; outside = [] } → m.rest ≡ tokens → Reached tokens 0 (doing.Externals b) m
+pub start : (tokens : List TokenMark) (m : Parser) (b : FileSoFar) → ShowsFile b [] → m.stack.items ≡ [] → m.scope ≡ record { names = []; outside = [] } → m.rest ≡ tokens → Reached tokens 0 (doing.Externals b) m
 start tokens m b f e g h = record {
   does = externals [];
   stack = [];
@@ -62,7 +62,7 @@ lower a b n bound h k = omega arith
 one_more : (n : ℕ) → suc n ≡ n + 1
 one_more n = omega arith
 
-go_on : (tokens : List Mark) (turns : ℕ) (s : State) (next : Doing) (m : Machine) → run turns (begun tokens) ≡ s → measure s + turns ≤ 12 * length tokens + 9 → (r : Option State) → step s ≡ r → Follows (Some next) m r → Reached tokens (turns + 1) next m
+go_on : (tokens : List TokenMark) (turns : ℕ) (s : ParserState) (next : Doing) (m : Parser) → run turns (begun tokens) ≡ s → measure s + turns ≤ 12 * length tokens + 9 → (r : Option ParserState) → step s ≡ r → Follows (Some next) m r → Reached tokens (turns + 1) next m
 go_on tokens turns s next m come spent None e f = absurd f
 go_on tokens turns s next m come spent (Some (state d t names rest)) e f =
     let same : state d t names rest ≡ state d t m.scope.names m.rest = ap (λ (n : Names). state d t n rest) (sym f.2) ∙ ap (state d t m.scope.names) (sym f.3) in
@@ -72,31 +72,31 @@ go_on tokens turns s next m come spent (Some (state d t names rest)) e f =
       come = subst (λ (n : ℕ). run n (begun tokens) ≡ state d t m.scope.names m.rest) (one_more turns) (run_next turns (begun tokens) (state d t names rest) (ap step come ∙ e) ∙ same);
       shown = f.0;
       stands = (f.1, f.4);
-      spent = subst (λ (u : State). measure u + (turns + 1) ≤ 12 * length tokens + 9) same (lower (measure s) (measure (state d t names rest)) turns (12 * length tokens + 9) (step_falls s (state d t names rest) e) spent);
+      spent = subst (λ (u : ParserState). measure u + (turns + 1) ≤ 12 * length tokens + 9) same (lower (measure s) (measure (state d t names rest)) turns (12 * length tokens + 9) (step_falls s (state d t names rest) e) spent);
     }
 
-pub next_reached : (tokens : List Mark) (turns : ℕ) (does next : Doing) (m n : Machine) (r : Reached tokens turns does m) → Follows (Some next) n (step_at r.does r.stack m.scope.names m.rest) → Reached tokens (turns + 1) next n
+pub next_reached : (tokens : List TokenMark) (turns : ℕ) (does next : Doing) (m n : Parser) (r : Reached tokens turns does m) → Follows (Some next) n (step_at r.does r.stack m.scope.names m.rest) → Reached tokens (turns + 1) next n
 next_reached tokens turns does next m n r f = go_on tokens turns (state r.does r.stack m.scope.names m.rest) next n r.come r.spent (step_at r.does r.stack m.scope.names m.rest) refl f
 
 -- no run takes all turns
-pub no_more : (tokens : List Token) (turns : ℕ) (does : Doing) (m : Machine) → Reached (marks tokens) turns does m → 12 * length tokens + 10 ≤ turns → ⊥
+pub no_more : (tokens : List Token) (turns : ℕ) (does : Doing) (m : Parser) → Reached (marks tokens) turns does m → 12 * length tokens + 10 ≤ turns → ⊥
 no_more tokens turns does m r h = omega (arith, h, length_marks tokens, r.spent)
 
 -- ---- the end
 
-ends_whole : (tokens : List Mark) (turns : ℕ) (d : plain.Doing) (s : List Frame) (names : Names) (rest : List Mark) (b : Before) → run turns (begun tokens) ≡ state d s names rest → IsEmptyAt d s → IsWhole b d rest
+ends_whole : (tokens : List TokenMark) (turns : ℕ) (d : plain.Doing) (s : List Frame) (names : Names) (rest : List TokenMark) (b : FileSoFar) → run turns (begun tokens) ≡ state d s names rest → IsEmptyAt d s → IsWhole b d rest
     → (xs : List External) × ShowsFile b xs × IsTreeOf tokens (onto xs [])
 ends_whole tokens turns (externals xs) s names [] b come e w = (xs, w, sound tokens turns xs names (come ∙ ap (λ (t : List Frame). state (externals xs) t names []) e))
 ends_whole tokens turns (externals xs) s names (t ∷ rest) b come e w = absurd w
 ends_whole tokens turns _ s names rest b come e w = absurd w
 
-pub whole_reached : (tokens : List Mark) (turns : ℕ) (does : Doing) (m : Machine) (r : Reached tokens turns does m) (b : Before) → IsWhole b r.does m.rest → (xs : List External) × ShowsFile b xs × IsTreeOf tokens (onto xs [])
+pub whole_reached : (tokens : List TokenMark) (turns : ℕ) (does : Doing) (m : Parser) (r : Reached tokens turns does m) (b : FileSoFar) → IsWhole b r.does m.rest → (xs : List External) × ShowsFile b xs × IsTreeOf tokens (onto xs [])
 whole_reached tokens turns does m r b w = ends_whole tokens turns r.does r.stack m.scope.names m.rest b r.come (bottom_there tokens turns does m r).1 w
 
-abbrev NotEnded : State → Type 0
+abbrev NotEnded : ParserState → Type 0
 NotEnded (state d s names rest) = IsNotWhole d rest
 
-pub none_reached : (tokens : List Mark) (turns : ℕ) (does : Doing) (m : Machine) (r : Reached tokens turns does m) → step_at r.does r.stack m.scope.names m.rest ≡ None → IsNotWhole r.does m.rest → (file : List External) → ¬ IsTreeOf tokens file
+pub none_reached : (tokens : List TokenMark) (turns : ℕ) (does : Doing) (m : Parser) (r : Reached tokens turns does m) → step_at r.does r.stack m.scope.names m.rest ≡ None → IsNotWhole r.does m.rest → (file : List External) → ¬ IsTreeOf tokens file
 none_reached tokens turns does m r e w file i =
     let k = stopped tokens turns (state r.does r.stack m.scope.names m.rest) r.come e file i in
     subst NotEnded k.1 w

@@ -3,8 +3,8 @@ use Rattle.std.specs.Prelude.{◌≡◌, ℕ, suc, ◌+◌, List, ◌++◌, leng
 use Rattle.dae_base.specs.declared.Place.{Place}
 use Rattle.dae_tree.specs.declared.tokens.Token.{Token}
 use Rattle.dae_tree.specs.Reading.{Reading}
-use Rattle.dae_tree.specs.Files.{Contents}
-use Rattle.dae_tree.specs.Marks.{Mark, marks}
+use Rattle.dae_tree.specs.Files.{FileContents}
+use Rattle.dae_tree.specs.Marks.{TokenMark, marks}
 use Rattle.dae_tree.specs.Trees.{External}
 use Rattle.dae_tree.specs.Statements.{IsTreeOf}
 use Rattle.dae_tree.specs.Depth.{nodes_file, first_deeper, greatest_depth, first_too_long}
@@ -22,7 +22,7 @@ pub record IsWithinLimits (tokens : List Token) (file : List External) : Type 0 
   pub short : first_too_long file ≡ None
 
 -- a file: that tree, with the names, literals and headers that were read
-pub record IsFileOf (r : Reading) (f : Contents) : Type 0 where
+pub record IsFileOf (r : Reading) (f : FileContents) : Type 0 where
   pub tree : IsWithinLimits r.tokens (view_externals f.externals)
   pub names : f.names ≡ r.names
   pub literals : f.literals ≡ r.literals
@@ -31,7 +31,7 @@ pub record IsFileOf (r : Reading) (f : Contents) : Type 0 where
 
 -- no file begins with the first so many tokens
 abbrev pub NothingBegins : List Token → ℕ → Type 0
-NothingBegins tokens n = (more : List Mark) (file : List External) → ¬ IsTreeOf (marks (take n tokens) ++ more) file
+NothingBegins tokens n = (more : List TokenMark) (file : List External) → ¬ IsTreeOf (marks (take n tokens) ++ more) file
 
 -- The grammar's machine stops where so many tokens stand before the one at which it is stuck. No file begins with the tokens up
 -- to that one, or all are taken.
@@ -58,7 +58,7 @@ IsRefused r (errors.FunctionTooLong p) =
     (file : List External) × IsTreeOf (marks r.tokens) file × (first_deeper greatest_depth (nodes_file file) ≡ None) × (first_too_long file ≡ Some p)
 IsRefused r errors.Memory = Unit {0}
 
-abbrev pub Answers : Reading → Result Contents ParseError → Type 0
+abbrev pub Answers : Reading → Result FileContents ParseError → Type 0
 Answers r (Ok f) = IsFileOf r f
 Answers r (Err e) = IsRefused r e
 

@@ -17,7 +17,7 @@ use dae_parse_declarations::{
     in_definition, in_enumerator, in_file, in_group, in_list, in_size, in_value, of_cast, of_item,
     of_member, of_parameter, of_sizeof, of_value,
 };
-use dae_parse_nodes::{Declared, Operand, Specified};
+use dae_parse_nodes::{Declared, ReadOperand, Specified};
 use dae_parse_parts::Read;
 use dae_parse_statements::{
     behind_assignment, behind_binary, behind_cast, behind_colon, behind_comma, behind_prefix,
@@ -26,14 +26,17 @@ use dae_parse_statements::{
     in_start, in_statements, in_step, in_test, switch_body, then_branch, while_body,
 };
 use dae_parse_states::{
-    DeclarationFrame, DeclaratorFrame, Doing, ExpressionFrame, InitialiserFrame, Machine,
+    DeclarationFrame, DeclaratorFrame, Doing, ExpressionFrame, InitialiserFrame, Parser,
     SpecifiersFrame, StatementFrame, StatementKind,
 };
 use dae_tree::{Declaration, Initialiser, Statement};
 use std::alloc::AllocError;
 
 /// Behind an expression, for what awaits it.
-pub fn give_expression(machine: &mut Machine<'_>, a: Operand) -> Result<Option<Doing>, AllocError>
+pub fn give_expression(
+    machine: &mut Parser<'_>,
+    a: ReadOperand,
+) -> Result<Option<Doing>, AllocError>
     ensures { (e : Expression) → ShowsOperand a e → Steps machine.old result machine.new (given e) }
 {
     let Some(frame) = machine.pop_expression() else {
@@ -89,7 +92,7 @@ pub fn give_expression(machine: &mut Machine<'_>, a: Operand) -> Result<Option<D
 
 /// Behind specifiers, for what awaits them.
 pub fn give_specifiers(
-    machine: &mut Machine<'_>,
+    machine: &mut Parser<'_>,
     specified: Specified,
 ) -> Result<Option<Doing>, AllocError>
     ensures { (ws : Specifiers) → ShowsSpecified specified ws →
@@ -115,7 +118,7 @@ pub fn give_specifiers(
 
 /// Behind a declarator, for what awaits it.
 pub fn give_declarator(
-    machine: &mut Machine<'_>,
+    machine: &mut Parser<'_>,
     declared: Declared,
 ) -> Result<Option<Doing>, AllocError>
     ensures { (d : Declarator) (s : List PlainFrame) → ShowsDeclared declared d
@@ -159,7 +162,7 @@ pub fn give_declarator(
 
 /// Behind an initialiser, for what awaits it.
 pub fn give_initialiser(
-    machine: &mut Machine<'_>,
+    machine: &mut Parser<'_>,
     initialiser: Read<Initialiser>,
 ) -> Result<Option<Doing>, AllocError>
     ensures { (x : InitialiserTree) → ShowsInitialiser initialiser x →
@@ -178,7 +181,7 @@ pub fn give_initialiser(
 
 /// Behind a declaration, for what awaits it, in a file of so many tokens.
 pub fn give_declaration(
-    machine: &mut Machine<'_>,
+    machine: &mut Parser<'_>,
     found: Read<Declaration>,
     total: usize,
 ) -> Result<Option<Doing>, AllocError>
@@ -200,7 +203,7 @@ pub fn give_declaration(
 
 /// Behind a statement, for what awaits it, in a file of so many tokens.
 pub fn give_statement(
-    machine: &mut Machine<'_>,
+    machine: &mut Parser<'_>,
     found: Read<Box<Statement>>,
     kind: StatementKind,
     total: usize,

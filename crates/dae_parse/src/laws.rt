@@ -1,7 +1,7 @@
 // At most one answer is due.
 
 ghost use Rattle.std.specs.Prelude.{◌≡◌, List};
-ghost use Rattle.dae_tree.specs.Files.{Contents};
+ghost use Rattle.dae_tree.specs.Files.{FileContents};
 ghost use Rattle.dae_tree.specs.FileViews.{view_externals};
 ghost use Rattle.dae_tree.specs.Reading.{Reading};
 ghost use Rattle.dae_tree.specs.Trees.{External};
@@ -10,7 +10,7 @@ ghost use Rattle.dae_parse.specs.declared.error.ParseError.{ParseError};
 
 /// At most one answer but want of memory is due of what is read of a text: one tree, or a refusal of one kind and one place.
 pub fn one_answer_is_due()
-    ensures tree { (r : Reading) (f g : Contents) → IsFileOf r f → IsFileOf r g
+    ensures tree { (r : Reading) (f g : FileContents) → IsFileOf r f → IsFileOf r g
         → view_externals f.externals ≡ view_externals g.externals }
     ensures refused { (r : Reading) (file : List External) (e : ParseError)
         → IsWithinLimits r.tokens file → IsCause e → ¬ IsRefused r e }

@@ -4,15 +4,15 @@ ghost use Rattle.std.specs.Prelude.{◌≡◌, List, [], IfErr, IfOk};
 ghost use Rattle.dae_tree.specs.Trees.{External};
 ghost use Rattle.dae_tree.specs.Reading.{IsReading};
 ghost use Rattle.dae_parse.specs.Reached.{Comes};
-ghost use Rattle.dae_parse.specs.declared.run.Outcome.TheVariants as outcomes;
+ghost use Rattle.dae_parse.specs.declared.run.ParseOutcome.TheVariants as outcomes;
 ghost use Rattle.dae_parse.specs.Parsed.{Answers, IsRefused, IsWithinLimits, place_from};
 ghost use Rattle.dae_parse.specs.declared.error.ParseError.TheVariants as errors;
 
 use crate::error::ParseError;
-use crate::run::{Outcome, run};
+use crate::run::{ParseOutcome, run};
 use dae_base::{Items, Place};
 use dae_parse_parts::tree_or_depth;
-use dae_parse_states::Before;
+use dae_parse_states::FileSoFar;
 use dae_tree::{File, Tokens};
 use std::alloc::{AllocError, Global};
 
@@ -28,8 +28,8 @@ pub fn parse(alloc: Global, tokens: &Tokens<'_>) -> Result<File, ParseError>
         → IfErr result (λ e. e ≡ errors.Memory) }
 {
     match run(alloc, tokens.tokens()) {
-        Ok(Outcome::Whole(before)) => whole(alloc, tokens, before),
-        Ok(Outcome::Stopped(at)) => Err(refusal_at(tokens, at)),
+        Ok(ParseOutcome::Whole(before)) => whole(alloc, tokens, before),
+        Ok(ParseOutcome::Stopped(at)) => Err(refusal_at(tokens, at)),
         Err(_) => Err(ParseError::Memory),
     }
 }
@@ -53,12 +53,12 @@ fn place_at(tokens: &Tokens<'_>, at: usize) -> Place
 }
 
 /// The file of a tree that was read, where it is within the limits.
-fn whole(alloc: Global, tokens: &Tokens<'_>, before: Before) -> Result<File, ParseError>
+fn whole(alloc: Global, tokens: &Tokens<'_>, before: FileSoFar) -> Result<File, ParseError>
     requires reading { IsReading tokens.now }
     requires tree { Comes tokens.now.tokens (outcomes.Whole before) }
     ensures { Answers tokens.now result }
 {
-    let Before {
+    let FileSoFar {
         read,
         taken: _,
         too_long,

@@ -1,7 +1,7 @@
 // A run of the machine, and the token at which it stops.
 
 ghost use Rattle.std.specs.Prelude.{◌≡◌, List, length, IfOk};
-ghost use Rattle.dae_tree.specs.Marks.{Mark};
+ghost use Rattle.dae_tree.specs.Marks.{TokenMark};
 ghost use Rattle.dae_tree.specs.Names.{Names};
 ghost use Rattle.dae_parse_grammar.specs.Frames as plain;
 ghost use Rattle.dae_parse_grammar.specs.Frames.{Frame as PlainFrame, state};
@@ -9,17 +9,17 @@ ghost use Rattle.dae_parse_grammar.specs.Stuck.{stuck};
 ghost use Rattle.dae_parse_states.specs.Frames.{ShowsDoing};
 ghost use Rattle.dae_parse.specs.Reached.{Comes};
 
-use crate::turn::{Turn, take_turn};
+use crate::turn::{ParserTurn, take_turn};
 use dae_parse_nodes::no_externals;
 use dae_parse_parts::Scope;
-use dae_parse_states::{Before, Doing, Machine, Rest};
+use dae_parse_states::{Doing, FileSoFar, Parser, TokensLeft};
 use dae_tree::Token;
 use std::alloc::{AllocError, Global};
 
 /// What a run comes to: a whole file, or the number of the token at which nothing goes on.
 #[derive(Drop)]
-pub enum Outcome {
-    Whole(Before),
+pub enum ParseOutcome {
+    Whole(FileSoFar),
     Stopped(usize),
 }
 
@@ -27,7 +27,7 @@ pub enum Outcome {
 /// behind an operand that is the token behind the sign of a member.
 #[tactic(auto, using(crate::proofs::Stuck::left_behind_operand, crate::proofs::Stuck::left_elsewhere))]
 fn left_where_stuck(doing: &Doing, left: usize) -> usize
-    ensures { (d : plain.Doing) (s : List PlainFrame) (names : Names) (ts : List Mark)
+    ensures { (d : plain.Doing) (s : List PlainFrame) (names : Names) (ts : List TokenMark)
         → ShowsDoing doing.now d → left ≡ length ts → result ≡ length (stuck (state d s names ts)) }
 {
     match doing {
@@ -37,18 +37,18 @@ fn left_where_stuck(doing: &Doing, left: usize) -> usize
 }
 
 /// Reads the tree of tokens. The machine stops within twelve turns a token and nine.
-pub fn run(alloc: Global, tokens: &[Token]) -> Result<Outcome, AllocError>
+pub fn run(alloc: Global, tokens: &[Token]) -> Result<ParseOutcome, AllocError>
     ensures { IfOk result (λ o. Comes tokens.now o) }
 {
     let total = tokens.len();
     let read = no_externals(alloc);
-    let mut machine = Machine {
+    let mut machine = Parser {
         alloc,
-        rest: Rest::new(tokens),
+        rest: TokensLeft::new(tokens),
         scope: Scope::new(alloc),
         stack: Vec::new(alloc),
     };
-    let mut doing = Doing::Externals(Before {
+    let mut doing = Doing::Externals(FileSoFar {
         read,
         taken: 0,
         too_long: None,
@@ -56,9 +56,9 @@ pub fn run(alloc: Global, tokens: &[Token]) -> Result<Outcome, AllocError>
     for _turn in 0..12 * (total as u128) + 10 {
         let left = left_where_stuck(&doing, machine.rest.len());
         match take_turn(&mut machine, doing, total)? {
-            Turn::Next(next) => doing = next,
-            Turn::Whole(before) => return Ok(Outcome::Whole(before)),
-            Turn::Stopped => return Ok(Outcome::Stopped(total.saturating_sub(left))),
+            ParserTurn::Next(next) => doing = next,
+            ParserTurn::Whole(before) => return Ok(ParseOutcome::Whole(before)),
+            ParserTurn::Stopped => return Ok(ParseOutcome::Stopped(total.saturating_sub(left))),
         }
     }
     unreachable!()

@@ -26,13 +26,13 @@ use dae_parse_statements::{
     read_for, read_loop_start, read_loop_step, read_loop_test, read_operator, read_return,
     read_sizeof, read_statement, read_test, seek_operand,
 };
-use dae_parse_states::{Doing, Machine};
+use dae_parse_states::{Doing, Parser};
 use std::alloc::AllocError;
 
 /// One step of the machine, where it does what is done seldom.
 #[inline(never)]
 #[tactic(auto, using(crate::proofs::Seldom::none_left))]
-fn step_seldom(machine: &mut Machine<'_>, doing: Doing) -> Result<Option<Doing>, AllocError>
+fn step_seldom(machine: &mut Parser<'_>, doing: Doing) -> Result<Option<Doing>, AllocError>
     requires { IsSeldom doing }
     ensures { (d : plain.Doing) (s : List PlainFrame) → ShowsDoing doing d
         → Stands machine.old s (outside_doing d (outside_stack s))
@@ -77,7 +77,7 @@ fn step_seldom(machine: &mut Machine<'_>, doing: Doing) -> Result<Option<Doing>,
 /// One step of the machine, in a file of so many tokens: what it does next, or none where the tokens go no further.
 #[tactic(auto, using(crate::proofs::Seldom::seldom_left))]
 pub fn step(
-    machine: &mut Machine<'_>,
+    machine: &mut Parser<'_>,
     doing: Doing,
     total: usize,
 ) -> Result<Option<Doing>, AllocError>

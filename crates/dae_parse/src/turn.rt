@@ -12,19 +12,19 @@ ghost use Rattle.dae_parse_states.specs.Bottom.{IsBottom};
 ghost use Rattle.dae_parse.specs.Reached.{TurnFollows, IsNotWhole};
 
 use crate::step::step;
-use dae_parse_states::{Before, Doing, Machine};
+use dae_parse_states::{Doing, FileSoFar, Parser};
 use std::alloc::AllocError;
 
 /// What a turn comes to: what the machine does next, a whole file, or tokens that go no further.
 #[derive(Drop)]
-pub enum Turn {
+pub enum ParserTurn {
     Next(Doing),
-    Whole(Before),
+    Whole(FileSoFar),
     Stopped,
 }
 
 /// A step of the machine, in a file of so many tokens.
-fn step_on(machine: &mut Machine<'_>, doing: Doing, total: usize) -> Result<Turn, AllocError>
+fn step_on(machine: &mut Parser<'_>, doing: Doing, total: usize) -> Result<ParserTurn, AllocError>
     ensures { (d : plain.Doing) (s : List PlainFrame) → ShowsDoing doing d
         → Stands machine.old s (outside_doing d (outside_stack s))
         → Holds (state d s machine.old.scope.names machine.old.rest) → IsBottom s
@@ -34,13 +34,17 @@ fn step_on(machine: &mut Machine<'_>, doing: Doing, total: usize) -> Result<Turn
         (step_at d s machine.old.scope.names machine.old.rest)) }
 {
     match step(machine, doing, total)? {
-        Some(next) => Ok(Turn::Next(next)),
-        None => Ok(Turn::Stopped),
+        Some(next) => Ok(ParserTurn::Next(next)),
+        None => Ok(ParserTurn::Stopped),
     }
 }
 
 /// A turn of the machine, in a file of so many tokens: the file is whole where it ends between two externals.
-pub fn take_turn(machine: &mut Machine<'_>, doing: Doing, total: usize) -> Result<Turn, AllocError>
+pub fn take_turn(
+    machine: &mut Parser<'_>,
+    doing: Doing,
+    total: usize,
+) -> Result<ParserTurn, AllocError>
     ensures { (d : plain.Doing) (s : List PlainFrame) → ShowsDoing doing d
         → Stands machine.old s (outside_doing d (outside_stack s))
         → Holds (state d s machine.old.scope.names machine.old.rest) → IsBottom s
@@ -52,7 +56,7 @@ pub fn take_turn(machine: &mut Machine<'_>, doing: Doing, total: usize) -> Resul
         return step_on(machine, doing, total);
     }
     match doing {
-        Doing::Externals(before) => Ok(Turn::Whole(before)),
+        Doing::Externals(before) => Ok(ParserTurn::Whole(before)),
         other => step_on(machine, other, total),
     }
 }

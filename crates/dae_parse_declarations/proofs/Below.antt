@@ -1,7 +1,7 @@
 -- What stands below the body of a function.
 use Rattle.std.proofs.Common.{◌≡◌, ℕ, length, List, [], ◌∷◌, Some, None, refl}
 use Rattle.dae_base.specs.declared.Place.{Place}
-use Rattle.dae_tree.specs.Marks.{Mark}
+use Rattle.dae_tree.specs.Marks.{TokenMark}
 use Rattle.dae_tree.specs.Names.{Names}
 use Rattle.dae_tree.specs.Spelling.{spell_specifiers, spell_declarator}
 use Rattle.dae_tree.specs.Statements.{spell_statement}
@@ -9,7 +9,7 @@ use Rattle.dae_tree.specs.declared.statements.Statement.{Statement}
 use Rattle.dae_tree.specs.Trees as tree
 use Rattle.dae_parse_grammar.specs.Frames as plain
 use Rattle.dae_parse_grammar.specs.Machine.{defined}
-use Rattle.dae_parse_states.specs.declared.frames.Before.{Before}
+use Rattle.dae_parse_states.specs.declared.frames.FileSoFar.{FileSoFar}
 use Rattle.dae_parse_states.specs.Kept.{Frame}
 use Rattle.dae_parse_states.specs.Kept as frame
 use Rattle.dae_parse_states.specs.declared.frames.DeclarationFrame.TheVariants as declaration
@@ -24,7 +24,7 @@ use Rattle.dae_parse_states.specs.declared.frames.StatementKind.TheVariants as s
 use Rattle.dae_parse_states.specs.Frames.{ShowsStack, ShowsFile, kind_of_statement}
 
 -- it stands in a file alone
-pub file_or_none : (b : tree.Statement) (ws : tree.Specifiers) (d : tree.Declarator) (outside : Names) (fs : List Frame) (s : List plain.Frame) (ts : List Mark) → ShowsStack fs s → ((f : Before) (below : List Frame) → ¬ (fs ≡ frame.Declaration (declaration.InFile f) ∷ below))
+pub file_or_none : (b : tree.Statement) (ws : tree.Specifiers) (d : tree.Declarator) (outside : Names) (fs : List Frame) (s : List plain.Frame) (ts : List TokenMark) → ShowsStack fs s → ((f : FileSoFar) (below : List Frame) → ¬ (fs ≡ frame.Declaration (declaration.InFile f) ∷ below))
     → defined ws d outside b s ts ≡ None
 file_or_none (tree.Block p ds ss) ws d outside [] (plain.awaits_declaration (plain.in_file xs) ∷ s) ts shows h = absurd shows
 file_or_none (tree.Block p ds ss) ws d outside (frame.Declaration (declaration.InFile f) ∷ below) (plain.awaits_declaration (plain.in_file xs) ∷ s) ts shows h = absurd (h f below refl)
@@ -32,7 +32,7 @@ file_or_none (tree.Block p ds ss) ws d outside (_ ∷ below) (plain.awaits_decla
 file_or_none _ ws d outside fs s ts shows h = refl
 
 -- the parts of a definition, and what stands before it
-pub record IsDefined (b : tree.Statement) (ws : tree.Specifiers) (d : tree.Declarator) (outside : Names) (s : List plain.Frame) (ts : List Mark) (found : Read (Box Statement Global)) (before : Before) (below : List Frame) (os : List Names) (total : ℕ) : Type 0 where
+pub record IsDefined (b : tree.Statement) (ws : tree.Specifiers) (d : tree.Declarator) (outside : Names) (s : List plain.Frame) (ts : List TokenMark) (found : Read (Box Statement Global)) (before : FileSoFar) (below : List Frame) (os : List Names) (total : ℕ) : Type 0 where
   pub place : Place
   pub declarations : List tree.Declaration
   pub statements : tree.Statements
@@ -44,7 +44,7 @@ pub record IsDefined (b : tree.Statement) (ws : tree.Specifiers) (d : tree.Decla
   pub scopes : os ≡ outside ∷ []
   pub same : defined ws d outside b s ts ≡ Some (plain.state (plain.externals (tree.Defined ws d place declarations statements ∷ externals)) [] outside ts)
 
-pub is_defined : (b : tree.Statement) (ws : tree.Specifiers) (d : tree.Declarator) (outside : Names) (s : List plain.Frame) (ts : List Mark) (found : Read (Box Statement Global)) (before : Before) (below : List Frame) (os : List Names) (total : ℕ)
+pub is_defined : (b : tree.Statement) (ws : tree.Specifiers) (d : tree.Declarator) (outside : Names) (s : List plain.Frame) (ts : List TokenMark) (found : Read (Box Statement Global)) (before : FileSoFar) (below : List Frame) (os : List Names) (total : ℕ)
     → ShowsStatement found b → statement_kind.Block ≡ kind_of_statement b → ShowsStack (frame.Declaration (declaration.InFile before) ∷ below) s → IsBottom s → length (stack_taken s (spell_specifiers ws (spell_declarator d (spell_statement b ts)))) ≡ total → os ≡ outside ∷ outside_stack s
     → IsDefined b ws d outside s ts found before below os total
 is_defined (tree.Block p ds ss) ws d outside [] ts found before below os total shows is stack bottom e o = absurd stack

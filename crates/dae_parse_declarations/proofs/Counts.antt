@@ -2,7 +2,7 @@
 use Rattle.std.proofs.Common.{◌≡◌, ℕ, ◌+◌, ◌-◌, Bool, true, false, List, [], ◌∷◌, ◌++◌, length, Option, Some, None, ltb, refl, sym, ap, ◌∙◌, arith}
 use Rattle.std.specs.Prelude.{if◌then◌else◌}
 use Rattle.dae_base.specs.declared.Place.{Place}
-use Rattle.dae_tree.specs.Marks.{Mark}
+use Rattle.dae_tree.specs.Marks.{TokenMark}
 use Rattle.dae_tree.specs.Statements.{spell_external}
 use Rattle.dae_tree.specs.Trees.{Specifiers, Declarator, Declaration, Statements, External, Declared, Defined}
 use Rattle.dae_tree.specs.Depth.{is_too_long, place_of_external, place_of_specifiers, first_too_long}
@@ -11,16 +11,16 @@ use Rattle.dae_parse_grammar.specs.Machine.{onto}
 use Rattle.dae_parse_grammar.specs.Taken.{externals_before}
 use Rattle.dae_parse_grammar.proofs.Laws.{length_adds, onto_last}
 
-pub externals_add : (xs : List External) (ts : List Mark) → length (externals_before xs ts) ≡ length (externals_before xs []) + length ts
+pub externals_add : (xs : List External) (ts : List TokenMark) → length (externals_before xs ts) ≡ length (externals_before xs []) + length ts
 externals_add [] ts = omega arith
 externals_add (x ∷ xs) ts = omega (arith, externals_add xs (spell_external x ts), externals_add xs (spell_external x []), length_adds x ts)
 
 -- what is left is taken from the whole
-pub taken_of : (xs : List External) (ts : List Mark) (total : ℕ) → length (externals_before xs ts) ≡ total → total - length ts ≡ length (externals_before xs [])
+pub taken_of : (xs : List External) (ts : List TokenMark) (total : ℕ) → length (externals_before xs ts) ≡ total → total - length ts ≡ length (externals_before xs [])
 taken_of xs ts total h = omega (arith, h, externals_add xs ts)
 
 -- and what was taken before
-pub length_of : (x : External) (xs : List External) (ts : List Mark) (total : ℕ) → length (externals_before (x ∷ xs) ts) ≡ total
+pub length_of : (x : External) (xs : List External) (ts : List TokenMark) (total : ℕ) → length (externals_before (x ∷ xs) ts) ≡ total
     → total - length ts - length (externals_before xs []) ≡ length (spell_external x [])
 length_of x xs ts total h = omega (arith, h, externals_add (x ∷ xs) ts, externals_add xs (spell_external x []))
 

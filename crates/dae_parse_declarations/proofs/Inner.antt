@@ -1,11 +1,11 @@
 -- The names of the scope of parameters are those that the parameters add, whatever stands outside.
 use Rattle.std.proofs.Common.{◌≡◌, Bool, List, [], ◌∷◌, ◌++◌, refl, sym, ap, ◌∙◌, append_assoc}
 use Rattle.std.proofs.lemmas.List.{append_cancel_right}
-use Rattle.dae_tree.specs.Marks.{Mark}
+use Rattle.dae_tree.specs.Marks.{TokenMark}
 use Rattle.dae_tree.specs.Names.{Names, has_typedef, with_declarator, after_parameter, after_parameters}
 use Rattle.dae_tree.specs.Trees.{Specifiers, Declarator, Parameters, no_parameters, parameter_then}
 use Rattle.dae_tree.specs.Lists.{Parameter}
-use Rattle.dae_parse_grammar.specs.Frames.{Frame, Open, state, gave_declarator, of_parameter, awaits_declarator}
+use Rattle.dae_parse_grammar.specs.Frames.{Frame, OpenParameters, state, gave_declarator, of_parameter, awaits_declarator}
 use Rattle.dae_parse_grammar.specs.Machine.{parameters_onto}
 use Rattle.dae_parse_grammar.specs.Standing.{Holds, now_parameters}
 use Rattle.dae_parse_parts.specs.declared.scope.Binding.{Binding}
@@ -22,7 +22,7 @@ now_onto [] ps names = refl
 now_onto (p ∷ before) ps names = now_onto before (parameter_then p.specifiers p.declarator ps) names
 
 -- with its name bound, a parameter more is among the names
-pub names_bound : (d : Declarator) (o : Open) (before : List Parameter) (ws : Specifiers) (s : List Frame) (is : Bool) (old new : Names) (ts : List Mark) → Holds (state (gave_declarator d) (awaits_declarator (of_parameter o before ws) ∷ s) old ts) → is ≡ has_typedef ws → new ≡ with_declarator is d old
+pub names_bound : (d : Declarator) (o : OpenParameters) (before : List Parameter) (ws : Specifiers) (s : List Frame) (is : Bool) (old new : Names) (ts : List TokenMark) → Holds (state (gave_declarator d) (awaits_declarator (of_parameter o before ws) ∷ s) old ts) → is ≡ has_typedef ws → new ≡ with_declarator is d old
     → new ≡ after_parameters (parameters_onto before (parameter_then ws d no_parameters)) o.outside
 names_bound d o before ws s is old new ts h t e =
     e ∙ ap (λ (type : Bool). with_declarator type d old) t ∙ ap (with_declarator (has_typedef ws) d) h.0 ∙ ap (λ (names : Names). after_parameter ws d (now_parameters before names)) (sym h.2.0.0.1) ∙ sym (now_onto before (parameter_then ws d no_parameters) o.outside)

@@ -13,11 +13,11 @@ ghost use Rattle.dae_parse_states.specs.States.{Steps};
 
 use dae_base::Place;
 use dae_parse_nodes::{
-    Body, Declared, Operand, Specified, grouped, pointer, sized_array, sizeof_type,
+    Declared, ReadOperand, Specified, TypeBody, grouped, pointer, sized_array, sizeof_type,
     with_declarator, with_member, with_valued_enumerator,
 };
 use dae_parse_parts::{CAST, Read};
-use dae_parse_states::{DeclaratorFrame, Doing, ExpressionFrame, Machine, Manner, Presence};
+use dae_parse_states::{DeclaratorFrame, Doing, ExpressionFrame, Manner, Parser, Presence};
 use dae_tree::{Declarator, Enumerator, Member, Name, Sign};
 use std::alloc::AllocError;
 
@@ -25,8 +25,8 @@ use std::alloc::AllocError;
 #[inline(never)]
 #[tactic(auto, using(dae_parse_states::proofs::Laws::bracket_or_none))]
 pub fn in_size(
-    machine: &mut Machine<'_>,
-    size: Operand,
+    machine: &mut Parser<'_>,
+    size: ReadOperand,
     declared: Declared,
     place: Place,
     manner: Manner,
@@ -45,14 +45,15 @@ pub fn in_size(
 /// Behind the value of an enumerator (C90 6.5.2.2).
 #[inline(never)]
 pub fn in_enumerator(
-    machine: &mut Machine<'_>,
-    value: Operand,
-    body: Box<Body>,
+    machine: &mut Parser<'_>,
+    value: ReadOperand,
+    body: Box<TypeBody>,
     list: Read<Vec<Enumerator>>,
     name: Name,
     place: Place,
 ) -> Result<Option<Doing>, AllocError>
-    ensures { (e : Expression) (b : plain.Body) (es : List lists.Entry) → ShowsOperand value e
+    ensures { (e : Expression) (b : plain.TypeBody) (es : List lists.EnumEntry)
+        → ShowsOperand value e
         → ShowsBody body b → ShowsEnumerators list es
         → Steps machine.old result machine.new
         (expression_given e (plain.in_enumerator b es name place)) }
@@ -65,7 +66,7 @@ pub fn in_enumerator(
 /// Behind what a pointer stands before (C90 6.5.4.1).
 #[inline(never)]
 pub fn behind_star(
-    machine: &mut Machine<'_>,
+    machine: &mut Parser<'_>,
     declared: Declared,
     place: Place,
     qualifiers: Vec<Place>,
@@ -82,7 +83,7 @@ pub fn behind_star(
 #[inline(never)]
 #[tactic(auto, using(dae_parse_states::proofs::Laws::paren_or_none))]
 pub fn in_group(
-    machine: &mut Machine<'_>,
+    machine: &mut Parser<'_>,
     declared: Declared,
     place: Place,
     manner: Manner,
@@ -102,7 +103,7 @@ pub fn in_group(
 #[inline(never)]
 #[tactic(auto, using(dae_parse_states::proofs::Laws::paren_or_none))]
 pub fn of_cast(
-    machine: &mut Machine<'_>,
+    machine: &mut Parser<'_>,
     declared: Declared,
     place: Place,
     specified: Specified,
@@ -123,7 +124,7 @@ pub fn of_cast(
 #[inline(never)]
 #[tactic(auto, using(dae_parse_states::proofs::Laws::paren_or_none))]
 pub fn of_sizeof(
-    machine: &mut Machine<'_>,
+    machine: &mut Parser<'_>,
     declared: Declared,
     place: Place,
     paren: Place,
@@ -146,14 +147,15 @@ pub fn of_sizeof(
 #[inline(never)]
 #[tactic(auto, using(crate::proofs::OtherwiseDeclarators::member_or_none))]
 pub fn of_member(
-    machine: &mut Machine<'_>,
+    machine: &mut Parser<'_>,
     declared: Declared,
-    body: Box<Body>,
+    body: Box<TypeBody>,
     members: Read<Vec<Member>>,
     specified: Specified,
     before: Read<Vec<Declarator>>,
 ) -> Result<Option<Doing>, AllocError>
-    ensures { (d : DeclaratorTree) (b : plain.Body) (ms : List lists.MemberLine) (ws : Specifiers)
+    ensures { (d : DeclaratorTree) (b : plain.TypeBody) (ms : List lists.MemberLine)
+        (ws : Specifiers)
         (ds : List DeclaratorTree)
         → ShowsDeclared declared d → ShowsBody body b → ShowsMembers members ms
         → ShowsSpecified specified ws → ShowsDeclarators before ds

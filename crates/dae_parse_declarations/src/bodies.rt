@@ -14,11 +14,11 @@ ghost use Rattle.dae_parse_states.specs.States.{Stands, Follows, ShowsState, out
 
 use dae_base::Place;
 use dae_parse_nodes::{
-    Body, Specified, has_members, no_enumerators, no_members, no_specifiers, with_enumeration,
+    Specified, TypeBody, has_members, no_enumerators, no_members, no_specifiers, with_enumeration,
     with_enumeration_body, with_plain_enumerator, with_structure, with_structure_body,
 };
 use dae_parse_parts::{CONDITIONAL, Read};
-use dae_parse_states::{Doing, ExpressionFrame, Machine, SpecifiersFrame, TagKind};
+use dae_parse_states::{Doing, ExpressionFrame, Parser, SpecifiersFrame, TagKind};
 use dae_tree::{Enumerator, Member, Name, Seen, Sign, TrailingComma};
 use std::alloc::{AllocError, Global};
 
@@ -26,7 +26,7 @@ use std::alloc::{AllocError, Global};
 #[inline(never)]
 #[tactic(auto, using(crate::proofs::OtherwiseDeclarators::tag_or_none))]
 pub fn read_tag(
-    machine: &mut Machine<'_>,
+    machine: &mut Parser<'_>,
     kind: TagKind,
     place: Place,
     seen: Seen,
@@ -42,7 +42,7 @@ pub fn read_tag(
         return Ok(None);
     };
     let tag = None;
-    let body = Body {
+    let body = TypeBody {
         place,
         tag,
         brace,
@@ -54,8 +54,8 @@ pub fn read_tag(
 }
 
 /// Behind the brace of a body.
-fn open_body(machine: &Machine<'_>, kind: TagKind, body: Box<Body>) -> Doing
-    ensures { (b : plain.Body) (s : List PlainFrame) → ShowsBody body b
+fn open_body(machine: &Parser<'_>, kind: TagKind, body: Box<TypeBody>) -> Doing
+    ensures { (b : plain.TypeBody) (s : List PlainFrame) → ShowsBody body b
         → Stands machine.now s (outside_stack s)
         → ShowsState result machine.now
         (body_opened (is_structure_kind kind) b s machine.now.scope.names machine.now.rest) }
@@ -70,7 +70,7 @@ fn open_body(machine: &Machine<'_>, kind: TagKind, body: Box<Body>) -> Doing
 #[inline(never)]
 #[tactic(auto, using(crate::proofs::OtherwiseDeclarators::tag_alone_otherwise))]
 pub fn read_body(
-    machine: &mut Machine<'_>,
+    machine: &mut Parser<'_>,
     kind: TagKind,
     place: Place,
     name: Name,
@@ -83,7 +83,7 @@ pub fn read_body(
 {
     if let Some(brace) = machine.rest.take_sign(Sign::LeftBrace) {
         let tag = Some(name);
-        let body = Body {
+        let body = TypeBody {
             place,
             tag,
             brace,
@@ -119,11 +119,11 @@ fn with_tag(
 #[inline(never)]
 #[tactic(auto, using(crate::proofs::OtherwiseDeclarators::members_otherwise))]
 pub fn read_member(
-    machine: &mut Machine<'_>,
-    body: Box<Body>,
+    machine: &mut Parser<'_>,
+    body: Box<TypeBody>,
     members: Read<Vec<Member>>,
 ) -> Result<Option<Doing>, AllocError>
-    ensures { (b : plain.Body) (ms : List lists.MemberLine) → ShowsBody body b
+    ensures { (b : plain.TypeBody) (ms : List lists.MemberLine) → ShowsBody body b
         → ShowsMembers members ms → Steps machine.old result machine.new (members_followed b ms) }
 {
     if has_members(&members) && machine.rest.take_sign(Sign::RightBrace).is_some() {
@@ -135,8 +135,8 @@ pub fn read_member(
 }
 
 /// Behind the brace that closes a structure.
-fn close_structure(body: Box<Body>, members: Read<Vec<Member>>) -> Result<Doing, AllocError>
-    ensures { (b : plain.Body) (ms : List lists.MemberLine) → ShowsBody body b
+fn close_structure(body: Box<TypeBody>, members: Read<Vec<Member>>) -> Result<Doing, AllocError>
+    ensures { (b : plain.TypeBody) (ms : List lists.MemberLine) → ShowsBody body b
         → ShowsMembers members ms
         → IfOk result (λ d. ShowsDoing d (plain.specifying (with_whole b.seen)
         (StructureBody b.place b.tag b.brace (members_onto ms no_members_tree) ∷ b.before))) }
@@ -151,11 +151,12 @@ fn close_structure(body: Box<Body>, members: Read<Vec<Member>>) -> Result<Doing,
 #[inline(never)]
 #[tactic(auto, using(crate::proofs::OtherwiseDeclarators::enumerator_or_none))]
 pub fn read_enumerator(
-    machine: &mut Machine<'_>,
-    body: Box<Body>,
+    machine: &mut Parser<'_>,
+    body: Box<TypeBody>,
     list: Read<Vec<Enumerator>>,
 ) -> Result<Option<Doing>, AllocError>
-    ensures { (b : plain.Body) (es : List lists.Entry) → ShowsBody body b → ShowsEnumerators list es
+    ensures { (b : plain.TypeBody) (es : List lists.EnumEntry) → ShowsBody body b
+        → ShowsEnumerators list es
         → Steps machine.old result machine.new (enumerator_named b es) }
 {
     match machine.rest.take_name() {
@@ -168,12 +169,13 @@ pub fn read_enumerator(
 #[inline(never)]
 #[tactic(auto, using(crate::proofs::OtherwiseDeclarators::enumerator_otherwise))]
 pub fn read_enumerator_value(
-    machine: &mut Machine<'_>,
-    body: Box<Body>,
+    machine: &mut Parser<'_>,
+    body: Box<TypeBody>,
     list: Read<Vec<Enumerator>>,
     name: Name,
 ) -> Result<Option<Doing>, AllocError>
-    ensures { (b : plain.Body) (es : List lists.Entry) → ShowsBody body b → ShowsEnumerators list es
+    ensures { (b : plain.TypeBody) (es : List lists.EnumEntry) → ShowsBody body b
+        → ShowsEnumerators list es
         → Steps machine.old result machine.new (enumerator_followed b es name) }
 {
     if let Some(place) = machine.rest.take_sign(Sign::Assign) {
@@ -189,11 +191,12 @@ pub fn read_enumerator_value(
 #[inline(never)]
 #[tactic(auto, using(crate::proofs::OtherwiseDeclarators::entry_or_none))]
 pub fn read_behind_enumerator(
-    machine: &mut Machine<'_>,
-    body: Box<Body>,
+    machine: &mut Parser<'_>,
+    body: Box<TypeBody>,
     list: Read<Vec<Enumerator>>,
 ) -> Result<Option<Doing>, AllocError>
-    ensures { (b : plain.Body) (es : List lists.Entry) (e : lists.Entry) → ShowsBody body b
+    ensures { (b : plain.TypeBody) (es : List lists.EnumEntry) (e : lists.EnumEntry)
+        → ShowsBody body b
         → ShowsEnumerators list (e ∷ es)
         → Steps machine.old result machine.new (entry_followed b es e) }
 {
@@ -210,11 +213,12 @@ pub fn read_behind_enumerator(
 #[inline(never)]
 #[tactic(auto, using(crate::proofs::OtherwiseDeclarators::comma_otherwise))]
 pub fn read_behind_comma(
-    machine: &mut Machine<'_>,
-    body: Box<Body>,
+    machine: &mut Parser<'_>,
+    body: Box<TypeBody>,
     list: Read<Vec<Enumerator>>,
 ) -> Result<Option<Doing>, AllocError>
-    ensures { (b : plain.Body) (es : List lists.Entry) (e : lists.Entry) → ShowsBody body b
+    ensures { (b : plain.TypeBody) (es : List lists.EnumEntry) (e : lists.EnumEntry)
+        → ShowsBody body b
         → ShowsEnumerators list (e ∷ es)
         → Steps machine.old result machine.new (comma_followed b es e) }
 {
@@ -226,11 +230,12 @@ pub fn read_behind_comma(
 
 /// Behind the brace that closes an enumeration.
 fn close_enumeration(
-    body: Box<Body>,
+    body: Box<TypeBody>,
     list: Read<Vec<Enumerator>>,
     comma: TrailingComma,
 ) -> Result<Doing, AllocError>
-    ensures { (b : plain.Body) (es : List lists.Entry) → ShowsBody body b → ShowsEnumerators list es
+    ensures { (b : plain.TypeBody) (es : List lists.EnumEntry) → ShowsBody body b
+        → ShowsEnumerators list es
         → IfOk result (λ d. ShowsDoing d
         (plain.specifying (with_whole b.seen) (EnumerationBody b.place b.tag b.brace
         (enumerators_onto es no_enumerators_tree) (has_comma comma) ∷ b.before))) }

@@ -1,7 +1,7 @@
 // Declarations in a file, a block or the head of a function: their items, and where a definition begins (C90 6.5 and 6.7).
 
 ghost use Rattle.std.specs.Prelude.{◌≡◌, ◌∷◌, Bool, true, false, List, [], length, Option, Some, None, IfOk};
-ghost use Rattle.dae_tree.specs.Trees.{Specifiers, Declarator as DeclaratorTree, Initialiser as InitialiserTree, Item as ItemTree, Declaration as DeclarationTree, External as ExternalTree};
+ghost use Rattle.dae_tree.specs.Trees.{Specifiers, Declarator as DeclaratorTree, Initialiser as InitialiserTree, BlockItem as ItemTree, Declaration as DeclarationTree, External as ExternalTree};
 ghost use Rattle.dae_parse_grammar.specs.Frames as plain;
 ghost use Rattle.dae_parse_grammar.specs.Frames.{Frame as PlainFrame};
 ghost use Rattle.dae_parse_grammar.specs.Machine.{specifiers_given, declarator_given, item_given, initialiser_taken, item_followed, declaration_taken, external_begun, definition_begun};
@@ -20,16 +20,16 @@ use dae_parse_nodes::{
 };
 use dae_parse_parts::Read;
 use dae_parse_states::{
-    Before, DeclarationFrame, DeclaratorFrame, Doing, FunctionBody, InitialiserFrame, Inside,
-    Machine, Manner, Presence, SpecifiersFrame, StatementFrame,
+    DeclarationFrame, DeclaratorFrame, Doing, FileSoFar, FunctionBody, InitialiserFrame, Inside,
+    Manner, Parser, Presence, SpecifiersFrame, StatementFrame,
 };
-use dae_tree::{Declaration, Initialiser, Item, Seen, Sign};
+use dae_tree::{BlockItem, Declaration, Initialiser, Seen, Sign};
 use std::alloc::AllocError;
 
 /// Behind the specifiers of a declaration, at file scope or inside (C90 6.5). At file scope it may be a definition.
 #[tactic(auto, using(crate::proofs::OtherwiseDeclarations::declaration_otherwise))]
 pub fn for_declaration(
-    machine: &mut Machine<'_>,
+    machine: &mut Parser<'_>,
     specified: Specified,
     function_body: FunctionBody,
 ) -> Result<Option<Doing>, AllocError>
@@ -48,11 +48,11 @@ pub fn for_declaration(
 
 /// Behind a declarator of a declaration. The first at file scope may begin the definition of a function (C90 6.5.4 and 6.7.1).
 pub fn of_item(
-    machine: &mut Machine<'_>,
+    machine: &mut Parser<'_>,
     declared: Declared,
     function_body: FunctionBody,
     specified: Specified,
-    items: Read<Vec<Item>>,
+    items: Read<Vec<BlockItem>>,
 ) -> Result<Option<Doing>, AllocError>
     ensures { (d : DeclaratorTree) (ws : Specifiers) (is : List ItemTree) → ShowsDeclared declared d
         → ShowsSpecified specified ws → ShowsItems items is
@@ -65,11 +65,11 @@ pub fn of_item(
 
 /// Behind a declarator whose name is bound.
 fn read_behind_declarator(
-    machine: &mut Machine<'_>,
+    machine: &mut Parser<'_>,
     declared: Declared,
     function_body: FunctionBody,
     specified: Specified,
-    items: Read<Vec<Item>>,
+    items: Read<Vec<BlockItem>>,
 ) -> Result<Option<Doing>, AllocError>
     ensures { (d : DeclaratorTree) (ws : Specifiers) (is : List ItemTree) → ShowsDeclared declared d
         → ShowsSpecified specified ws → ShowsItems items is
@@ -93,10 +93,10 @@ fn read_behind_declarator(
 /// Behind a declarator inside, where no value is given.
 #[tactic(auto, using(crate::proofs::OtherwiseDeclarations::inner_otherwise))]
 fn read_behind_inner(
-    machine: &mut Machine<'_>,
+    machine: &mut Parser<'_>,
     declared: Declared,
     specified: Specified,
-    items: Read<Vec<Item>>,
+    items: Read<Vec<BlockItem>>,
 ) -> Result<Option<Doing>, AllocError>
     ensures { (d : DeclaratorTree) (ws : Specifiers) (is : List ItemTree)
         → ¬ (sign_at machine.old.rest ≡ Some signs.Assign) → ShowsDeclared declared d
@@ -109,10 +109,10 @@ fn read_behind_inner(
 
 /// Behind a declarator that is not the first, where no value is given.
 fn read_behind_later(
-    machine: &mut Machine<'_>,
+    machine: &mut Parser<'_>,
     declared: Declared,
     specified: Specified,
-    items: Read<Vec<Item>>,
+    items: Read<Vec<BlockItem>>,
 ) -> Result<Option<Doing>, AllocError>
     ensures { (outer : Bool) (d : DeclaratorTree) (ws : Specifiers) (is : List ItemTree)
         → ¬ (sign_at machine.old.rest ≡ Some signs.Assign) → true ≡ is_some_list is
@@ -126,10 +126,10 @@ fn read_behind_later(
 /// Behind the first declarator at file scope, where no value is given.
 #[tactic(auto, using(crate::proofs::OtherwiseDeclarations::first_otherwise, crate::proofs::OtherwiseDeclarations::begun_by_brace))]
 fn read_behind_first(
-    machine: &mut Machine<'_>,
+    machine: &mut Parser<'_>,
     declared: Declared,
     specified: Specified,
-    items: Read<Vec<Item>>,
+    items: Read<Vec<BlockItem>>,
 ) -> Result<Option<Doing>, AllocError>
     ensures { (d : DeclaratorTree) (ws : Specifiers) (is : List ItemTree)
         → ¬ (sign_at machine.old.rest ≡ Some signs.Assign) → false ≡ is_some_list is
@@ -145,7 +145,7 @@ fn read_behind_first(
 
 /// Behind the brace of a function's body: its parameters are names there, in a scope round that of the body (C90 6.7.1 and 6.1.2.1).
 fn begin_definition(
-    machine: &mut Machine<'_>,
+    machine: &mut Parser<'_>,
     declared: Declared,
     specified: Specified,
     brace: Place,
@@ -170,10 +170,10 @@ fn begin_definition(
 
 /// Behind an initialiser of a declaration (C90 6.5.7).
 pub fn of_value(
-    machine: &mut Machine<'_>,
+    machine: &mut Parser<'_>,
     initialiser: Read<Initialiser>,
     specified: Specified,
-    items: Read<Vec<Item>>,
+    items: Read<Vec<BlockItem>>,
     declared: Declared,
     place: Place,
 ) -> Result<Option<Doing>, AllocError>
@@ -192,9 +192,9 @@ pub fn of_value(
 /// Behind an item of a declaration.
 #[tactic(auto, using(crate::proofs::OtherwiseDeclarations::item_or_none))]
 pub fn read_behind_item(
-    machine: &mut Machine<'_>,
+    machine: &mut Parser<'_>,
     specified: Specified,
-    items: Read<Vec<Item>>,
+    items: Read<Vec<BlockItem>>,
 ) -> Result<Option<Doing>, AllocError>
     ensures { (ws : Specifiers) (i : ItemTree) (is : List ItemTree) → ShowsSpecified specified ws
         → ShowsItems items (i ∷ is) → Steps machine.old result machine.new (item_followed ws i is) }
@@ -212,9 +212,9 @@ pub fn read_behind_item(
 
 /// Behind a declaration at file scope, in a file of so many tokens.
 pub fn in_file(
-    machine: &mut Machine<'_>,
+    machine: &mut Parser<'_>,
     found: Read<Declaration>,
-    before: Before,
+    before: FileSoFar,
     total: usize,
 ) -> Result<Option<Doing>, AllocError>
     ensures { (d : DeclarationTree) (xs : List ExternalTree) (s : List PlainFrame)
@@ -228,14 +228,14 @@ pub fn in_file(
         (declaration_taken d (plain.awaits_declaration (plain.in_file xs) ∷ s)
         machine.old.scope.names machine.old.rest)) }
 {
-    let Before {
+    let FileSoFar {
         read,
         taken: _,
         too_long,
     } = before;
     let read = with_external(read, declared_external(found))?;
     let taken = total.saturating_sub(machine.rest.len());
-    Ok(Some(Doing::Externals(Before {
+    Ok(Some(Doing::Externals(FileSoFar {
         read,
         taken,
         too_long,
@@ -244,7 +244,7 @@ pub fn in_file(
 
 /// Behind a declaration in a block.
 pub fn in_block(
-    machine: &mut Machine<'_>,
+    machine: &mut Parser<'_>,
     found: Read<Declaration>,
     inside: Inside,
 ) -> Result<Option<Doing>, AllocError>
@@ -268,7 +268,10 @@ pub fn in_block(
 
 /// At file scope, before a declaration or definition (C90 6.7).
 #[tactic(auto, using(crate::proofs::OtherwiseDeclarations::ended_file, crate::proofs::OtherwiseDeclarations::file_goes_on))]
-pub fn read_external(machine: &mut Machine<'_>, before: Before) -> Result<Option<Doing>, AllocError>
+pub fn read_external(
+    machine: &mut Parser<'_>,
+    before: FileSoFar,
+) -> Result<Option<Doing>, AllocError>
     ensures { (xs : List ExternalTree) → ShowsFile before xs →
         Steps machine.old result machine.new (external_begun xs) }
 {

@@ -19,15 +19,15 @@ use dae_parse_nodes::{
 };
 use dae_parse_parts::{CONDITIONAL, Scope};
 use dae_parse_states::{
-    DeclaratorFrame, Doing, ExpressionFrame, Machine, Manner, Open, Presence, Rest,
-    SpecifiersFrame, begins_specifiers,
+    DeclaratorFrame, Doing, ExpressionFrame, Manner, OpenParameters, Parser, Presence,
+    SpecifiersFrame, TokensLeft, begins_specifiers,
 };
 use dae_tree::{Keyword, Seen, Sign};
 use std::alloc::AllocError;
 
 /// Before a declarator, of which a part is required or none (C90 6.5.4 and 6.5.5).
 pub fn read_declarator(
-    machine: &mut Machine<'_>,
+    machine: &mut Parser<'_>,
     manner: Manner,
     presence: Presence,
 ) -> Result<Option<Doing>, AllocError>
@@ -47,7 +47,7 @@ pub fn read_declarator(
 /// Before a bracket: the suffix of no part, where a name may be lacking.
 #[tactic(auto, using(crate::proofs::OtherwiseDeclarators::bracket_by_name, crate::proofs::OtherwiseDeclarators::bracket_without, crate::proofs::OtherwiseDeclarators::bracket_either))]
 fn read_bracket(
-    machine: &Machine<'_>,
+    machine: &Parser<'_>,
     manner: Manner,
     presence: Presence,
 ) -> Result<Option<Doing>, AllocError>
@@ -68,7 +68,7 @@ fn read_bracket(
 
 /// No part, where none is required and a name may be lacking.
 fn read_nothing(
-    machine: &Machine<'_>,
+    machine: &Parser<'_>,
     manner: Manner,
     presence: Presence,
 ) -> Result<Option<Doing>, AllocError>
@@ -89,7 +89,7 @@ fn read_nothing(
 /// Before what is neither a star nor a parenthesis nor a bracket: a name, or no part.
 #[tactic(auto, using(crate::proofs::OtherwiseDeclarators::declared_otherwise, crate::proofs::OtherwiseDeclarators::without_otherwise))]
 fn read_name_or_nothing(
-    machine: &mut Machine<'_>,
+    machine: &mut Parser<'_>,
     manner: Manner,
     presence: Presence,
 ) -> Result<Option<Doing>, AllocError>
@@ -111,7 +111,7 @@ fn read_name_or_nothing(
 /// Before a parenthesis: parameters of no part, where a name may be lacking, or a declarator in parentheses.
 #[tactic(auto, using(crate::proofs::OtherwiseDeclarators::parameters_declared, crate::proofs::OtherwiseDeclarators::group_declared))]
 fn read_parenthesis(
-    machine: &mut Machine<'_>,
+    machine: &mut Parser<'_>,
     manner: Manner,
     presence: Presence,
 ) -> Result<Option<Doing>, AllocError>
@@ -130,7 +130,7 @@ fn read_parenthesis(
 }
 
 /// Whether parameters begin behind the next token, where a name may be lacking.
-fn begins_parameters(machine: &Machine<'_>, manner: Manner) -> bool
+fn begins_parameters(machine: &Parser<'_>, manner: Manner) -> bool
     ensures { result ≡ parameters_ahead (manner_of manner) machine.now.scope.names
         (behind machine.now.rest) }
 {
@@ -144,7 +144,7 @@ fn begins_parameters(machine: &Machine<'_>, manner: Manner) -> bool
 }
 
 /// Whether parameters begin with the next token.
-fn parameters_stand(scope: &Scope<bool>, rest: Rest<'_>) -> bool
+fn parameters_stand(scope: &Scope<bool>, rest: TokensLeft<'_>) -> bool
     ensures { result ≡ parameters_begin scope.now.names rest.entry }
 {
     let mut inner = rest;
@@ -158,7 +158,7 @@ fn parameters_stand(scope: &Scope<bool>, rest: Rest<'_>) -> bool
 #[inline(never)]
 #[tactic(auto, using(crate::proofs::OtherwiseDeclarators::qualified_otherwise))]
 pub fn read_qualifier(
-    machine: &mut Machine<'_>,
+    machine: &mut Parser<'_>,
     manner: Manner,
     place: Place,
     qualifiers: Vec<Place>,
@@ -178,7 +178,7 @@ pub fn read_qualifier(
 /// Behind a declarator that suffixes may follow (C90 6.5.4.2 and 6.5.4.3).
 #[tactic(auto, using(crate::proofs::OtherwiseDeclarators::suffixed_otherwise))]
 pub fn read_suffix(
-    machine: &mut Machine<'_>,
+    machine: &mut Parser<'_>,
     manner: Manner,
     declared: Declared,
 ) -> Result<Option<Doing>, AllocError>
@@ -198,7 +198,7 @@ pub fn read_suffix(
 #[inline(never)]
 #[tactic(auto, using(crate::proofs::OtherwiseDeclarators::sized_otherwise))]
 pub fn read_size(
-    machine: &mut Machine<'_>,
+    machine: &mut Parser<'_>,
     manner: Manner,
     declared: Declared,
     place: Place,
@@ -218,7 +218,7 @@ pub fn read_size(
 #[inline(never)]
 #[tactic(auto, using(crate::proofs::OtherwiseDeclarators::parameters_otherwise))]
 pub fn read_parameters(
-    machine: &mut Machine<'_>,
+    machine: &mut Parser<'_>,
     manner: Manner,
     declared: Declared,
     place: Place,
@@ -233,7 +233,7 @@ pub fn read_parameters(
     machine.scope.open()?;
     let none = no_parameters(machine.alloc);
     machine.push_specifiers(SpecifiersFrame::ForParameter(
-        Open {
+        OpenParameters {
             declared,
             place,
             manner,

@@ -10,7 +10,7 @@ ghost use Rattle.dae_parse_grammar.specs.Taken.{tokens_of, externals_before};
 ghost use Rattle.dae_parse_nodes.specs.Parts.{ShowsSpecified, ShowsDeclared, ShowsStatement};
 ghost use Rattle.dae_parse_states.specs.Bottom.{IsBottom};
 ghost use Rattle.dae_base.specs.declared.Place.{Place};
-ghost use Rattle.dae_parse_states.specs.declared.frames.Before.{Before as BeforeValue};
+ghost use Rattle.dae_parse_states.specs.declared.frames.FileSoFar.{FileSoFar as BeforeValue};
 ghost use Rattle.dae_parse_states.specs.declared.frames.DeclarationFrame.TheVariants as frames;
 ghost use Rattle.dae_parse_states.specs.Frames.{kind_of_statement, ShowsFile};
 ghost use Rattle.dae_parse_states.specs.States.{Stands, Follows, outside_stack};
@@ -18,7 +18,7 @@ ghost use Rattle.dae_parse_states.specs.States.{Stands, Follows, outside_stack};
 use dae_base::Place;
 use dae_parse_nodes::{Declared, Specified, definition, with_external};
 use dae_parse_parts::Read;
-use dae_parse_states::{Before, DeclarationFrame, Doing, Machine, StatementKind};
+use dae_parse_states::{DeclarationFrame, Doing, FileSoFar, Parser, StatementKind};
 use dae_tree::Statement;
 use std::alloc::AllocError;
 
@@ -28,7 +28,7 @@ const GREATEST_LENGTH: usize = 8192;
 /// Behind the body of a function, in a file of so many tokens (C90 6.7.1).
 #[inline(never)]
 pub fn in_definition(
-    machine: &mut Machine<'_>,
+    machine: &mut Parser<'_>,
     found: Read<Box<Statement>>,
     kind: StatementKind,
     specified: Specified,
@@ -61,7 +61,7 @@ pub fn in_definition(
 }
 
 /// What stands before a definition, by the frame below it.
-fn file_of(frame: DeclarationFrame) -> Option<Before>
+fn file_of(frame: DeclarationFrame) -> Option<FileSoFar>
     ensures some { (b : BeforeValue) → result ≡ Some b → frame ≡ frames.InFile b }
     ensures none { (b : BeforeValue) → frame ≡ frames.InFile b → result ≢ None }
 {
@@ -73,11 +73,11 @@ fn file_of(frame: DeclarationFrame) -> Option<Before>
 
 /// Behind the body of a function, at file scope, with what stands before the definition.
 fn add_definition(
-    machine: &mut Machine<'_>,
+    machine: &mut Parser<'_>,
     found: Read<Box<Statement>>,
     specified: Specified,
     declared: Declared,
-    before: Before,
+    before: FileSoFar,
     total: usize,
 ) -> Result<Option<Doing>, AllocError>
     ensures { (p : Place) (ds : List Declaration) (ss : Statements) (ws : Specifiers)
@@ -91,7 +91,7 @@ fn add_definition(
 {
     machine.scope.close();
     let whole = definition(machine.alloc, specified, declared, found)?;
-    let Before {
+    let FileSoFar {
         read,
         taken,
         too_long,
@@ -99,7 +99,7 @@ fn add_definition(
     let end = total.saturating_sub(machine.rest.len());
     let too_long = too_long_by(too_long, end.saturating_sub(taken), whole.depths.first());
     let read = with_external(read, whole)?;
-    Ok(Some(Doing::Externals(Before {
+    Ok(Some(Doing::Externals(FileSoFar {
         read,
         taken: end,
         too_long,

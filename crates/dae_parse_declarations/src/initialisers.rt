@@ -9,15 +9,15 @@ ghost use Rattle.dae_parse_nodes.specs.Parts.{ShowsOperand, ShowsInitialiser, Sh
 ghost use Rattle.dae_parse_states.specs.States.{Steps};
 
 use dae_base::Place;
-use dae_parse_nodes::{Operand, initialiser_list, no_initialisers, value, with_initialiser};
+use dae_parse_nodes::{ReadOperand, initialiser_list, no_initialisers, value, with_initialiser};
 use dae_parse_parts::{ASSIGNMENT, Read};
-use dae_parse_states::{Doing, ExpressionFrame, InitialiserFrame, Machine};
+use dae_parse_states::{Doing, ExpressionFrame, InitialiserFrame, Parser};
 use dae_tree::{Initialiser, Sign, TrailingComma};
 use std::alloc::AllocError;
 
 /// Before an initialiser (C90 6.5.7).
 #[tactic(auto, using(crate::proofs::OtherwiseDeclarations::initialised_otherwise))]
-pub fn read_initialiser(machine: &mut Machine<'_>) -> Result<Option<Doing>, AllocError>
+pub fn read_initialiser(machine: &mut Parser<'_>) -> Result<Option<Doing>, AllocError>
     ensures { Steps machine.old result machine.new initialised }
 {
     if let Some(brace) = machine.rest.take_sign(Sign::LeftBrace) {
@@ -31,7 +31,7 @@ pub fn read_initialiser(machine: &mut Machine<'_>) -> Result<Option<Doing>, Allo
 /// Behind the comma in a list of initialisers.
 #[tactic(auto, using(crate::proofs::OtherwiseDeclarations::list_otherwise))]
 pub fn read_list(
-    machine: &mut Machine<'_>,
+    machine: &mut Parser<'_>,
     place: Place,
     list: Read<Vec<Initialiser>>,
 ) -> Result<Option<Doing>, AllocError>
@@ -49,7 +49,7 @@ pub fn read_list(
 /// Behind an initialiser in a list.
 #[tactic(auto, using(crate::proofs::OtherwiseDeclarations::listed_or_none))]
 pub fn in_list(
-    machine: &mut Machine<'_>,
+    machine: &mut Parser<'_>,
     initialiser: Read<Initialiser>,
     place: Place,
     before: Read<Vec<Initialiser>>,
@@ -69,7 +69,7 @@ pub fn in_list(
 }
 
 /// Behind the expression of an initialiser.
-pub fn in_value(machine: &mut Machine<'_>, operand: Operand) -> Result<Option<Doing>, AllocError>
+pub fn in_value(machine: &mut Parser<'_>, operand: ReadOperand) -> Result<Option<Doing>, AllocError>
     ensures { (e : Expression) → ShowsOperand operand e →
         Steps machine.old result machine.new (expression_given e plain.in_value) }
 {

@@ -16,7 +16,7 @@ use dae_parse_grammar::parameters_add_names;
 use dae_parse_nodes::{
     Declared, ParameterList, Specified, function, no_specifiers, with_parameter,
 };
-use dae_parse_states::{Doing, Machine, Open, SpecifiersFrame};
+use dae_parse_states::{Doing, OpenParameters, Parser, SpecifiersFrame};
 use dae_tree::{Seen, Sign};
 use std::alloc::AllocError;
 
@@ -24,13 +24,14 @@ use std::alloc::AllocError;
 #[inline(never)]
 #[tactic(auto, using(crate::proofs::OtherwiseDeclarators::parameter_or_none))]
 pub fn of_parameter(
-    machine: &mut Machine<'_>,
+    machine: &mut Parser<'_>,
     declared: Declared,
-    opened: Open,
+    opened: OpenParameters,
     list: ParameterList,
     specified: Specified,
 ) -> Result<Option<Doing>, AllocError>
-    ensures { (d : Declarator) (o : plain.Open) (ps : List lists.Parameter) (ws : Specifiers)
+    ensures { (d : Declarator) (o : plain.OpenParameters) (ps : List lists.Parameter)
+        (ws : Specifiers)
         (s : List PlainFrame)
         → ShowsDeclared declared d → ShowsOpen opened o → ShowsParameters list ps
         → ShowsSpecified specified ws
@@ -57,11 +58,11 @@ pub fn of_parameter(
 
 /// Behind the parenthesis that closes parameters: their scope ends.
 fn close_parameters(
-    machine: &mut Machine<'_>,
-    opened: Open,
+    machine: &mut Parser<'_>,
+    opened: OpenParameters,
     list: ParameterList,
 ) -> Result<Option<Doing>, AllocError>
-    ensures { (o : plain.Open) (ps : List lists.Parameter) (s : List PlainFrame)
+    ensures { (o : plain.OpenParameters) (ps : List lists.Parameter) (s : List PlainFrame)
         → ShowsOpen opened o → ShowsParameters list ps
         → machine.old.scope.names ≡ after_parameters (parameters_onto ps no_parameters) o.outside
         → Stands machine.old s (o.outside ∷ outside_stack s)
@@ -71,7 +72,7 @@ fn close_parameters(
     parameters_add_names();
     let inner = machine.scope.inner(machine.alloc)?;
     machine.scope.close();
-    let Open {
+    let OpenParameters {
         declared,
         place,
         manner,

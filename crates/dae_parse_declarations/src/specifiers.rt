@@ -13,16 +13,20 @@ ghost use Rattle.dae_parse_states.specs.Frames.{ShowsBefore, ShowsBody, ShowsOpe
 ghost use Rattle.dae_parse_states.specs.States.{Stands, Follows, ShowsState, outside_stack, Steps};
 
 use dae_base::Place;
-use dae_parse_nodes::{Body, ParameterList, Specified, no_declarators, with_type_name, with_word};
+use dae_parse_nodes::{
+    ParameterList, Specified, TypeBody, no_declarators, with_type_name, with_word,
+};
 use dae_parse_parts::Read;
-use dae_parse_states::{DeclaratorFrame, Doing, Machine, Manner, Open, Presence, TagKind, is_type};
-use dae_tree::{Keyword, Kind, Member, Name, Seen};
+use dae_parse_states::{
+    DeclaratorFrame, Doing, Manner, OpenParameters, Parser, Presence, TagKind, is_type,
+};
+use dae_tree::{Keyword, Member, Name, Seen, TokenKind};
 use std::alloc::AllocError;
 
 /// Behind specifiers, which others may follow (C90 6.5).
 #[tactic(auto, using(crate::proofs::OtherwiseDeclarators::specified_otherwise))]
 pub fn read_specifier(
-    machine: &mut Machine<'_>,
+    machine: &mut Parser<'_>,
     seen: Seen,
     before: Specified,
 ) -> Result<Option<Doing>, AllocError>
@@ -34,14 +38,14 @@ pub fn read_specifier(
     };
     let place = token.place;
     match token.kind {
-        Kind::Keyword(word) => read_word(machine, word, place, seen, before),
-        Kind::Name(number) => read_type_name(machine, Name { place, number }, seen, before),
+        TokenKind::Keyword(word) => read_word(machine, word, place, seen, before),
+        TokenKind::Name(number) => read_type_name(machine, Name { place, number }, seen, before),
         _ => Ok(end_specifiers(machine, seen, before)),
     }
 }
 
 /// Specifiers that end here, if a type is among them.
-fn end_specifiers(machine: &Machine<'_>, seen: Seen, before: Specified) -> Option<Doing>
+fn end_specifiers(machine: &Parser<'_>, seen: Seen, before: Specified) -> Option<Doing>
     ensures { (ws : List Specifier) (s : List PlainFrame) → ShowsBefore before ws
         → Stands machine.now s (outside_stack s)
         → Follows result machine.now (specifiers_end seen ws s machine.now.scope.names
@@ -57,7 +61,7 @@ fn end_specifiers(machine: &Machine<'_>, seen: Seen, before: Specified) -> Optio
 /// Before a word.
 #[tactic(auto, using(crate::proofs::OtherwiseDeclarators::specified_by_word))]
 fn read_word(
-    machine: &mut Machine<'_>,
+    machine: &mut Parser<'_>,
     word: Keyword,
     place: Place,
     seen: Seen,
@@ -77,7 +81,7 @@ fn read_word(
 /// Behind a word that may stand there.
 #[tactic(auto, using(crate::proofs::OtherwiseDeclarators::word_taken_otherwise))]
 fn add_word(
-    machine: &Machine<'_>,
+    machine: &Parser<'_>,
     word: Keyword,
     place: Place,
     seen: Seen,
@@ -100,7 +104,7 @@ fn add_word(
 
 /// Before a name, which is one of a type where no type was read and it is bound as one (C90 6.5.6).
 fn read_type_name(
-    machine: &mut Machine<'_>,
+    machine: &mut Parser<'_>,
     name: Name,
     seen: Seen,
     before: Specified,
@@ -119,7 +123,7 @@ fn read_type_name(
 /// Behind the specifiers of a cast (C90 6.3.4).
 #[inline(never)]
 pub fn for_cast(
-    machine: &mut Machine<'_>,
+    machine: &mut Parser<'_>,
     specified: Specified,
     place: Place,
     level: u8,
@@ -134,7 +138,7 @@ pub fn for_cast(
 /// Behind the specifiers of a type in `sizeof` (C90 6.3.3.4).
 #[inline(never)]
 pub fn for_sizeof(
-    machine: &mut Machine<'_>,
+    machine: &mut Parser<'_>,
     specified: Specified,
     place: Place,
     paren: Place,
@@ -156,12 +160,13 @@ pub fn for_sizeof(
 /// Behind the specifiers of a parameter (C90 6.5.4.3).
 #[inline(never)]
 pub fn for_parameter(
-    machine: &mut Machine<'_>,
+    machine: &mut Parser<'_>,
     specified: Specified,
-    opened: Open,
+    opened: OpenParameters,
     list: ParameterList,
 ) -> Result<Option<Doing>, AllocError>
-    ensures { (ws : Specifiers) (o : plain.Open) (ps : List lists.Parameter) (s : List PlainFrame)
+    ensures { (ws : Specifiers) (o : plain.OpenParameters) (ps : List lists.Parameter)
+        (s : List PlainFrame)
         → ShowsSpecified specified ws → ShowsOpen opened o → ShowsParameters list ps
         → Stands machine.old s
         (outside_stack (plain.awaits_specifiers (plain.for_parameter o ps) ∷ s))
@@ -175,12 +180,12 @@ pub fn for_parameter(
 /// Behind the specifiers of members (C90 6.5.2.1).
 #[inline(never)]
 pub fn for_member(
-    machine: &mut Machine<'_>,
+    machine: &mut Parser<'_>,
     specified: Specified,
-    body: Box<Body>,
+    body: Box<TypeBody>,
     members: Read<Vec<Member>>,
 ) -> Result<Option<Doing>, AllocError>
-    ensures { (ws : Specifiers) (b : plain.Body) (ms : List lists.MemberLine)
+    ensures { (ws : Specifiers) (b : plain.TypeBody) (ms : List lists.MemberLine)
         → ShowsSpecified specified ws → ShowsBody body b → ShowsMembers members ms
         → Steps machine.old result machine.new (specifiers_given ws (plain.for_member b ms)) }
 {

@@ -3,14 +3,14 @@ use Rattle.std.proofs.Common.{◌≡◌, true, false, List, [], ◌∷◌, ◌++
 use Rattle.dae_base.specs.declared.Place.{Place}
 use Rattle.dae_tree.specs.declared.words.Keyword.TheVariants as keywords
 use Rattle.dae_tree.specs.declared.signs.Sign.TheVariants as signs
-use Rattle.dae_tree.specs.Marks.{Mark, word, sign, part, close_paren, close_brace, colon, else_word}
+use Rattle.dae_tree.specs.Marks.{TokenMark, word, sign, part, close_paren, close_brace, colon, else_word}
 use Rattle.dae_tree.specs.Words.{nothing_seen, begins_specifiers}
 use Rattle.dae_tree.specs.Names.{Names, after, after_specifiers, after_parameter, after_declaration, after_declarations, after_optional, after_statement, after_external, inside_definition}
 use Rattle.dae_tree.specs.Spelling.{spell, spell_specifiers, spell_declarator}
 use Rattle.dae_tree.specs.Grammar.{by_name}
 use Rattle.dae_tree.specs.Statements.{spell_declaration, spell_declarations, spell_optional, spell_statement, spell_statements, spell_external, spell_file, AreDeclarations, IsOptional, takes_else, IsStatement, AreStatements, IsExternal, AreExternals}
 use Rattle.dae_tree.specs.Trees.{Expression, Declaration, Statement, Statements, External, Block, Nothing, Evaluate, If, IfElse, While, Do, For, Break, Continue, Return, Switch, Case, Default, no_statements, statement_then, Declared, Defined}
-use Rattle.dae_parse_grammar.specs.Frames.{if_head, while_head, switch_head, do_head, Loop, Inside, Frame, in_evaluation, in_test, in_start, in_loop_test, in_step, in_return, in_case, for_declaration, of_item, in_file, in_block, then_branch, else_branch, while_body, switch_body, do_body, for_body, case_body, default_body, in_statements, in_definition, seek, specifying, gave_specifiers, externals, declarations, statements, stating, starting, testing, stepping, returning, gave_statement, State, state, awaits_expression, awaits_specifiers, awaits_declarator, awaits_declaration, awaits_statement}
+use Rattle.dae_parse_grammar.specs.Frames.{if_head, while_head, switch_head, do_head, Loop, Inside, Frame, in_evaluation, in_test, in_start, in_loop_test, in_step, in_return, in_case, for_declaration, of_item, in_file, in_block, then_branch, else_branch, while_body, switch_body, do_body, for_body, case_body, default_body, in_statements, in_definition, seek, specifying, gave_specifiers, externals, declarations, statements, stating, starting, testing, stepping, returning, gave_statement, ParserState, state, awaits_expression, awaits_specifiers, awaits_declarator, awaits_declaration, awaits_statement}
 use Rattle.dae_parse_grammar.specs.Machine.{onto, statements_onto, block_followed, stated, started, loop_tested, stepped, returned, branched, loop_of, external_begun}
 use Rattle.dae_parse_grammar.specs.Runs.{IsBackward}
 use Rattle.dae_parse_grammar.specs.Starts.{Starts, IsNoElse}
@@ -23,35 +23,35 @@ use Rattle.dae_parse_grammar.proofs.Statements.{read_whole, read_declaration, st
 
 -- ---- what stands first
 
-pub statement_first : (b : Statement) (names : Names) → IsStatement names b → (rest : List Mark) → begins_specifiers names (spell_statement b rest) ≡ false
+pub statement_first : (b : Statement) (names : Names) → IsStatement names b → (rest : List TokenMark) → begins_specifiers names (spell_statement b rest) ≡ false
 statement_first (Evaluate e p) names i rest = no_specifiers_first names (spell e _) (starts names e i _)
 statement_first (Block p ds ss) names i rest = refl
 statement_first _ names i rest = refl
 
-statement_no_part : (b : Statement) (names : Names) → IsStatement names b → (rest : List Mark) → IsNoPart (spell_statement b rest)
+statement_no_part : (b : Statement) (names : Names) → IsStatement names b → (rest : List TokenMark) → IsNoPart (spell_statement b rest)
 statement_no_part (Evaluate e p) names i rest = starts_no_part names (spell e _) (starts names e i _)
 statement_no_part (Block p ds ss) names i rest = tt
 statement_no_part _ names i rest = tt
 
-no_part_no_else : (ts : List Mark) → IsNoPart ts → IsNoElse ts
+no_part_no_else : (ts : List TokenMark) → IsNoPart ts → IsNoElse ts
 no_part_no_else [] h = tt
 no_part_no_else (part c ∷ ts) h = absurd h
 no_part_no_else (_ ∷ ts) h = tt
 
-statements_first : (ss : Statements) (names : Names) → AreStatements names ss → (rest : List Mark) → begins_specifiers names (spell_statements ss (part close_brace ∷ rest)) ≡ false
+statements_first : (ss : Statements) (names : Names) → AreStatements names ss → (rest : List TokenMark) → begins_specifiers names (spell_statements ss (part close_brace ∷ rest)) ≡ false
 statements_first no_statements names i rest = refl
 statements_first (statement_then b ss) names i rest = statement_first b names i.0 _
 
-statements_no_else : (ss : Statements) (names : Names) → AreStatements names ss → (rest : List Mark) → IsNoElse (spell_statements ss (part close_brace ∷ rest))
+statements_no_else : (ss : Statements) (names : Names) → AreStatements names ss → (rest : List TokenMark) → IsNoElse (spell_statements ss (part close_brace ∷ rest))
 statements_no_else no_statements names i rest = tt
 statements_no_else (statement_then b ss) names i rest = no_part_no_else _ (statement_no_part b names i.0 _)
 
-block_next : (names : Names) (ts : List Mark) → IsNoPart ts → (i : Inside) (before : List Statement) (s : List Frame) → block_followed i before s names ts ≡ Some (state stating (awaits_statement (in_statements i before) ∷ s) names ts)
+block_next : (names : Names) (ts : List TokenMark) → IsNoPart ts → (i : Inside) (before : List Statement) (s : List Frame) → block_followed i before s names ts ≡ Some (state stating (awaits_statement (in_statements i before) ∷ s) names ts)
 block_next names [] h i before s = refl
 block_next names (part c ∷ ts) h i before s = absurd h
 block_next names (_ ∷ ts) h i before s = refl
 
-stated_first : (names : Names) (ts : List Mark) → Starts names ts → (s : List Frame) → stated s names ts ≡ Some (state (seek 16) (awaits_expression in_evaluation ∷ s) names ts)
+stated_first : (names : Names) (ts : List TokenMark) → Starts names ts → (s : List Frame) → stated s names ts ≡ Some (state (seek 16) (awaits_expression in_evaluation ∷ s) names ts)
 stated_first names [] h s = absurd h
 stated_first names (sign signs.LeftBrace p ∷ ts) h s = absurd h
 stated_first names (sign signs.Semicolon p ∷ ts) h s = absurd h
@@ -60,55 +60,55 @@ stated_first names (word keywords.Sizeof p ∷ ts) h s = refl
 stated_first names (word _ p ∷ ts) h s = absurd h
 stated_first names (_ ∷ ts) h s = refl
 
-started_first : (names : Names) (ts : List Mark) → Starts names ts → (p q : Place) (s : List Frame) → started p q s names ts ≡ Some (state (seek 16) (awaits_expression (in_start p q) ∷ s) names ts)
+started_first : (names : Names) (ts : List TokenMark) → Starts names ts → (p q : Place) (s : List Frame) → started p q s names ts ≡ Some (state (seek 16) (awaits_expression (in_start p q) ∷ s) names ts)
 started_first names [] h p q s = absurd h
 started_first names (sign signs.Semicolon r ∷ ts) h p q s = absurd h
 started_first names (_ ∷ ts) h p q s = refl
 
-tested_first : (names : Names) (ts : List Mark) → Starts names ts → (p q : Place) (a : Option Expression) (r : Place) (s : List Frame) → loop_tested p q a r s names ts ≡ Some (state (seek 16) (awaits_expression (in_loop_test p q a r) ∷ s) names ts)
+tested_first : (names : Names) (ts : List TokenMark) → Starts names ts → (p q : Place) (a : Option Expression) (r : Place) (s : List Frame) → loop_tested p q a r s names ts ≡ Some (state (seek 16) (awaits_expression (in_loop_test p q a r) ∷ s) names ts)
 tested_first names [] h p q a r s = absurd h
 tested_first names (sign signs.Semicolon u ∷ ts) h p q a r s = absurd h
 tested_first names (_ ∷ ts) h p q a r s = refl
 
-stepped_first : (names : Names) (ts : List Mark) → Starts names ts → (loop : Loop) (s : List Frame) → stepped loop s names ts ≡ Some (state (seek 16) (awaits_expression (in_step loop) ∷ s) names ts)
+stepped_first : (names : Names) (ts : List TokenMark) → Starts names ts → (loop : Loop) (s : List Frame) → stepped loop s names ts ≡ Some (state (seek 16) (awaits_expression (in_step loop) ∷ s) names ts)
 stepped_first names [] h loop s = absurd h
 stepped_first names (part c ∷ ts) h loop s = absurd h
 stepped_first names (_ ∷ ts) h loop s = refl
 
-returned_first : (names : Names) (ts : List Mark) → Starts names ts → (p : Place) (s : List Frame) → returned p s names ts ≡ Some (state (seek 16) (awaits_expression (in_return p) ∷ s) names ts)
+returned_first : (names : Names) (ts : List TokenMark) → Starts names ts → (p : Place) (s : List Frame) → returned p s names ts ≡ Some (state (seek 16) (awaits_expression (in_return p) ∷ s) names ts)
 returned_first names [] h p s = absurd h
 returned_first names (sign signs.Semicolon q ∷ ts) h p s = absurd h
 returned_first names (_ ∷ ts) h p s = refl
 
-branched_end : (p q : Place) (e : Expression) (b : Statement) (s : List Frame) (names : Names) (ts : List Mark) → IsNoElse ts → branched p q e b s names ts ≡ Some (state (gave_statement (If p q e b)) s names ts)
+branched_end : (p q : Place) (e : Expression) (b : Statement) (s : List Frame) (names : Names) (ts : List TokenMark) → IsNoElse ts → branched p q e b s names ts ≡ Some (state (gave_statement (If p q e b)) s names ts)
 branched_end p q e b s names [] h = refl
 branched_end p q e b s names (part else_word ∷ ts) h = absurd h
 branched_end p q e b s names (_ ∷ ts) h = refl
 
 -- ---- expressions that may be left out
 
-read_start : {P : State → Type 0} → IsBackward P → (a : Option Expression) (names : Names) → IsOptional names a → (p q r : Place) (s : List Frame) (rest : List Mark)
+read_start : {P : ParserState → Type 0} → IsBackward P → (a : Option Expression) (names : Names) → IsOptional names a → (p q r : Place) (s : List Frame) (rest : List TokenMark)
     → P (state (testing p q a r) s (after_optional a names) rest) → P (state (starting p q) s names (spell_optional a (sign signs.Semicolon r ∷ rest)))
 read_start back None names i p q r s rest k = back _ k
 read_start back (Some e) names i p q r s rest k =
     to back _ _ (started_first names (spell e (sign signs.Semicolon r ∷ rest)) (starts names e i _) p q s)
     (read_whole back e names i (awaits_expression (in_start p q) ∷ s) (sign signs.Semicolon r ∷ rest) (omega arith) (back _ k))
 
-read_loop_test : {P : State → Type 0} → IsBackward P → (b : Option Expression) (names : Names) → IsOptional names b → (p q : Place) (a : Option Expression) (r u : Place) (s : List Frame) (rest : List Mark)
+read_loop_test : {P : ParserState → Type 0} → IsBackward P → (b : Option Expression) (names : Names) → IsOptional names b → (p q : Place) (a : Option Expression) (r u : Place) (s : List Frame) (rest : List TokenMark)
     → P (state (stepping (loop_of p q a r b u)) s (after_optional b names) rest) → P (state (testing p q a r) s names (spell_optional b (sign signs.Semicolon u ∷ rest)))
 read_loop_test back None names i p q a r u s rest k = back _ k
 read_loop_test back (Some e) names i p q a r u s rest k =
     to back _ _ (tested_first names (spell e (sign signs.Semicolon u ∷ rest)) (starts names e i _) p q a r s)
     (read_whole back e names i (awaits_expression (in_loop_test p q a r) ∷ s) (sign signs.Semicolon u ∷ rest) (omega arith) (back _ k))
 
-read_step : {P : State → Type 0} → IsBackward P → (c : Option Expression) (names : Names) → IsOptional names c → (loop : Loop) (s : List Frame) (rest : List Mark)
+read_step : {P : ParserState → Type 0} → IsBackward P → (c : Option Expression) (names : Names) → IsOptional names c → (loop : Loop) (s : List Frame) (rest : List TokenMark)
     → P (state stating (awaits_statement (for_body loop c) ∷ s) (after_optional c names) rest) → P (state (stepping loop) s names (spell_optional c (part close_paren ∷ rest)))
 read_step back None names i loop s rest k = back _ k
 read_step back (Some e) names i loop s rest k =
     to back _ _ (stepped_first names (spell e (part close_paren ∷ rest)) (starts names e i _) loop s)
     (read_whole back e names i (awaits_expression (in_step loop) ∷ s) (part close_paren ∷ rest) (omega arith) (back _ k))
 
-read_returned : {P : State → Type 0} → IsBackward P → (a : Option Expression) (names : Names) → IsOptional names a → (p q : Place) (s : List Frame) (rest : List Mark)
+read_returned : {P : ParserState → Type 0} → IsBackward P → (a : Option Expression) (names : Names) → IsOptional names a → (p q : Place) (s : List Frame) (rest : List TokenMark)
     → P (state (gave_statement (Return p a q)) s (after_optional a names) rest) → P (state (returning p) s names (spell_optional a (sign signs.Semicolon q ∷ rest)))
 read_returned back None names i p q s rest k = back _ k
 read_returned back (Some e) names i p q s rest k =
@@ -117,7 +117,7 @@ read_returned back (Some e) names i p q s rest k =
 
 -- ---- declarations in a block
 
-read_declarations : {P : State → Type 0} → IsBackward P → (ds : List Declaration) (names : Names) → AreDeclarations names ds → (i : Inside) (s : List Frame) (rest : List Mark)
+read_declarations : {P : ParserState → Type 0} → IsBackward P → (ds : List Declaration) (names : Names) → AreDeclarations names ds → (i : Inside) (s : List Frame) (rest : List TokenMark)
     → P (state (declarations (record i { declarations = onto ds i.declarations })) s (after_declarations ds names) rest)
     → P (state (declarations i) s names (spell_declarations ds rest))
 read_declarations back [] names h i s rest k = k
@@ -139,7 +139,7 @@ abbrev inside : Place → List Declaration → Names → Inside
 inside p ds names = record { place = p; declarations = onto ds []; outside = names }
 
 -- a block up to its first statement
-open_block : {P : State → Type 0} → IsBackward P → (ds : List Declaration) (names : Names) → AreDeclarations names ds → (p : Place) (outside : Names) (s : List Frame) (rest : List Mark)
+open_block : {P : ParserState → Type 0} → IsBackward P → (ds : List Declaration) (names : Names) → AreDeclarations names ds → (p : Place) (outside : Names) (s : List Frame) (rest : List TokenMark)
     → begins_specifiers (after_declarations ds names) rest ≡ false
     → P (state (statements (inside p ds outside) []) s (after_declarations ds names) rest)
     → P (state (declarations (inside p [] outside)) s names (spell_declarations ds rest))
@@ -154,7 +154,7 @@ after_file (x ∷ xs) names = after_file xs (after_external x names)
 -- ---- statements
 
 mutual
-  pub read_statement : {P : State → Type 0} → IsBackward P → (b : Statement) (names : Names) → IsStatement names b → (s : List Frame) (rest : List Mark)
+  pub read_statement : {P : ParserState → Type 0} → IsBackward P → (b : Statement) (names : Names) → IsStatement names b → (s : List Frame) (rest : List TokenMark)
       → (takes_else b ≡ true → IsNoElse rest) → P (state (gave_statement b) s (after_statement b names) rest) → P (state stating s names (spell_statement b rest))
   read_statement {P} back (Block p ds ss) names i s rest f k = back _ (open_block back ds names i.0 p names s (spell_statements ss (part close_brace ∷ rest)) (statements_first ss (after_declarations ds names) i.1 rest)
       (read_statements back ss (after_declarations ds names) i.1 (inside p ds names) [] s rest
@@ -198,7 +198,7 @@ mutual
   read_statement back (Default p b) names i s rest f k =
       back _ (back _ (read_statement back b names i (awaits_statement (default_body p) ∷ s) rest f (back _ k)))
 
-  read_statements : {P : State → Type 0} → IsBackward P → (ss : Statements) (names : Names) → AreStatements names ss → (i : Inside) (before : List Statement) (s : List Frame) (rest : List Mark)
+  read_statements : {P : ParserState → Type 0} → IsBackward P → (ss : Statements) (names : Names) → AreStatements names ss → (i : Inside) (before : List Statement) (s : List Frame) (rest : List TokenMark)
       → P (state (gave_statement (Block i.place (onto i.declarations []) (statements_onto before ss))) s i.outside rest)
       → P (state (statements i before) s names (spell_statements ss (part close_brace ∷ rest)))
   read_statements back no_statements names h i before s rest k = back _ k
@@ -211,7 +211,7 @@ mutual
 -- ---- files
 
 -- the body of a function
-read_body : {P : State → Type 0} → IsBackward P → (p : Place) (ds : List Declaration) (ss : Statements) (names : Names) → IsStatement names (Block p ds ss) → (outside : Names) (s : List Frame) (rest : List Mark)
+read_body : {P : ParserState → Type 0} → IsBackward P → (p : Place) (ds : List Declaration) (ss : Statements) (names : Names) → IsStatement names (Block p ds ss) → (outside : Names) (s : List Frame) (rest : List TokenMark)
     → P (state (gave_statement (Block p ds ss)) s outside rest)
     → P (state (declarations (inside p [] outside)) s names (spell_declarations ds (spell_statements ss (part close_brace ∷ rest))))
 read_body {P} back p ds ss names i outside s rest k =
@@ -219,12 +219,12 @@ read_body {P} back p ds ss names i outside s rest k =
     (read_statements back ss (after_declarations ds names) i.1 (inside p ds outside) [] s rest
     (subst (λ (xs : List Declaration). P (state (gave_statement (Block p xs ss)) s outside rest)) (sym (there_and_back ds)) k))
 
-external_first : (before : List External) (s : List Frame) (names : Names) (ts : List Mark) → begins_specifiers names ts ≡ true
+external_first : (before : List External) (s : List Frame) (names : Names) (ts : List TokenMark) → begins_specifiers names ts ≡ true
     → external_begun before s names ts ≡ Some (state (specifying nothing_seen []) (awaits_specifiers (for_declaration true) ∷ awaits_declaration (in_file before) ∷ s) names ts)
 external_first before s names [] h = absurd cc
 external_first before s names (t ∷ ts) h = refl
 
-pub read_external : {P : State → Type 0} → IsBackward P → (x : External) (names : Names) → IsExternal names x → (before : List External) (s : List Frame) (rest : List Mark)
+pub read_external : {P : ParserState → Type 0} → IsBackward P → (x : External) (names : Names) → IsExternal names x → (before : List External) (s : List Frame) (rest : List TokenMark)
     → P (state (externals (x ∷ before)) s (after_external x names) rest)
     → P (state (externals before) s names (spell_external x rest))
 read_external back (Declared d) names i before s rest k =
@@ -241,7 +241,7 @@ read_external back (Defined ws d p ds ss) names i before s rest k =
     (back _ (read_body back p ds ss (inside_definition ws d names) i.2 (inside_definition ws d names) (awaits_statement (in_definition ws d (after_parameter ws d names)) ∷ awaits_declaration (in_file before) ∷ s) rest
     (back _ k))))))
 
-pub read_file : {P : State → Type 0} → IsBackward P → (xs : List External) (names : Names) → AreExternals names xs → (before : List External) (s : List Frame) (rest : List Mark)
+pub read_file : {P : ParserState → Type 0} → IsBackward P → (xs : List External) (names : Names) → AreExternals names xs → (before : List External) (s : List Frame) (rest : List TokenMark)
     → P (state (externals (onto xs before)) s (after_file xs names) rest)
     → P (state (externals before) s names (spell_file xs rest))
 read_file back [] names i before s rest k = k

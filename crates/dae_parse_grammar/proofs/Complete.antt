@@ -5,7 +5,7 @@ use Rattle.dae_tree.specs.declared.words.Keyword.TheVariants as keywords
 use Rattle.dae_tree.specs.declared.signs.Sign.TheVariants as signs
 use Rattle.dae_tree.specs.declared.operators.BinaryOperator.{BinaryOperator}
 use Rattle.dae_tree.specs.declared.operators.AssignmentOperator.{AssignmentOperator}
-use Rattle.dae_tree.specs.Marks.{Mark, word, sign, name, part, close_paren, close_bracket, close_brace, comma, colon}
+use Rattle.dae_tree.specs.Marks.{TokenMark, word, sign, name, part, close_paren, close_bracket, close_brace, comma, colon}
 use Rattle.dae_tree.specs.Operators.{under, strength, operand_level, binary_sign, assignment_sign, postfix_sign, member_sign}
 use Rattle.dae_tree.specs.declared.seen.Seen.{Seen}
 use Rattle.dae_tree.specs.Words.{nothing_seen, with_word, with_whole, seen_after}
@@ -13,8 +13,8 @@ use Rattle.dae_tree.specs.Names.{Names, has_typedef, with_name, with_declarator,
 use Rattle.dae_tree.specs.Spelling.{spell, spell_all, spell_more, spell_specifiers, spell_specifier, spell_members, spell_enumerators, spell_more_enumerators, spell_more_declarators, spell_declarator, spell_parameters, spell_more_parameters, spell_comma}
 use Rattle.dae_tree.specs.Grammar.{level, Manner, by_name, without_name, either_way, IsExpression, AreArguments, IsSpecifiers, IsSpecifier, AreMembers, AreEnumerators, AreDeclarators, AreParameters, IsPresent, IsGroup, HasParameter, HasEnumerator}
 use Rattle.dae_tree.specs.Trees.{Expression, Expressions, Specifiers, Specifier, Members, Enumerators, Declarators, Declarator, Parameters, Identifier, Number, Literal, Parenthesised, Index, Call, Member, Postfix, Prefix, SizeofExpression, SizeofType, Cast, Binary, Conditional, Assignment, Comma, no_expressions, expression_then, no_specifiers, specifier_then, Word, TypeName, Structure, StructureBody, Enumeration, EnumerationBody, no_members, member_then, no_enumerators, plain_then, valued_then, no_declarators, declarator_then, Absent, Named, Pointer, Grouped, Unsized, Sized, Empty, Void, Function, no_parameters, parameter_then}
-use Rattle.dae_tree.specs.Lists.{MemberLine, Entry, Parameter}
-use Rattle.dae_parse_grammar.specs.Frames.{Body, Open, Frame, in_parentheses, in_index, in_arguments, behind_prefix, behind_sizeof, behind_cast, behind_binary, behind_question, behind_colon, behind_assignment, behind_comma, in_size, in_enumerator, for_cast, for_sizeof, for_parameter, for_member, behind_star, in_group, of_cast, of_sizeof, of_parameter, of_member, seek, operated, gave, calling, measuring, specifying, tagging, tagged, membering, enumerating, entered, gave_specifiers, declaring, suffixing, gave_declarator, State, state, awaits_expression, awaits_specifiers, awaits_declarator}
+use Rattle.dae_tree.specs.Lists.{MemberLine, EnumEntry, Parameter}
+use Rattle.dae_parse_grammar.specs.Frames.{TypeBody, OpenParameters, Frame, in_parentheses, in_index, in_arguments, behind_prefix, behind_sizeof, behind_cast, behind_binary, behind_question, behind_colon, behind_assignment, behind_comma, in_size, in_enumerator, for_cast, for_sizeof, for_parameter, for_member, behind_star, in_group, of_cast, of_sizeof, of_parameter, of_member, seek, operated, gave, calling, measuring, specifying, tagging, tagged, membering, enumerating, entered, gave_specifiers, declaring, suffixing, gave_declarator, ParserState, state, awaits_expression, awaits_specifiers, awaits_declarator}
 use Rattle.dae_parse_grammar.specs.Machine.{closed, closed_by, operation, reach, subscript, call, member_of, step_of, binary_of, choice, assignment_of, body, arguments_onto, specifiers_onto, members_onto, enumerators_onto, declarators_onto, parameters_onto, parenthesis_declared}
 use Rattle.dae_parse_grammar.specs.Runs.{IsBackward}
 use Rattle.dae_parse_grammar.specs.Levels.{front, tail}
@@ -30,30 +30,30 @@ front_binary o = ap reach (binary_operation o)
 front_assignment : (o : AssignmentOperator) → reach (operation (assignment_sign o)) ≡ 15
 front_assignment o = ap reach (assignment_operation o) ∙ reach_assignment o
 
-front_more : (xs : Expressions) (rest : List Mark) → 15 < front (spell_more xs (part close_paren ∷ rest))
+front_more : (xs : Expressions) (rest : List TokenMark) → 15 < front (spell_more xs (part close_paren ∷ rest))
 front_more no_expressions rest = omega arith
 front_more (expression_then a xs) rest = omega arith
 
 -- a parenthesis that begins a group
-grouped : (m : Manner) (p : _) (s : List Frame) (names : Names) (d : Declarator) (rest : List Mark) → IsPresent d → IsGroup m names d
+grouped : (m : Manner) (p : _) (s : List Frame) (names : Names) (d : Declarator) (rest : List TokenMark) → IsPresent d → IsGroup m names d
     → parenthesis_declared m p s names (spell_declarator d rest) ≡ Some (state (declaring m true) (awaits_declarator (in_group p m) ∷ s) names (spell_declarator d rest))
 grouped by_name p s names d rest h i = refl
 grouped without_name p s names d rest h i = rw (group_begins names d h i rest) refl
 grouped either_way p s names d rest h i = rw (group_begins names d h i rest) refl
 
-front_entries : (es : Enumerators) (c : Bool) (rest : List Mark) → 14 < front (spell_more_enumerators es (spell_comma c (part close_brace ∷ rest)))
+front_entries : (es : Enumerators) (c : Bool) (rest : List TokenMark) → 14 < front (spell_more_enumerators es (spell_comma c (part close_brace ∷ rest)))
 front_entries no_enumerators true rest = omega arith
 front_entries no_enumerators false rest = omega arith
 front_entries (plain_then n es) c rest = omega arith
 front_entries (valued_then n p e es) c rest = omega arith
 
 -- behind the brace that ends an enumeration
-abbrev enumerated_state : Body → List Entry → Enumerators → Bool → List Frame → Names → List Mark → State
+abbrev enumerated_state : TypeBody → List EnumEntry → Enumerators → Bool → List Frame → Names → List TokenMark → ParserState
 enumerated_state b before es c s names rest =
     state (specifying (with_whole b.seen) (EnumerationBody b.place b.tag b.brace (enumerators_onto before es) c ∷ b.before)) s names rest
 
 mutual
-  pub read : {P : State → Type 0} → IsBackward P → (e : Expression) (names : Names) → IsExpression names e → (l : ℕ) → level e ≤ l → (s : List Frame) (rest : List Mark)
+  pub read : {P : ParserState → Type 0} → IsBackward P → (e : Expression) (names : Names) → IsExpression names e → (l : ℕ) → level e ≤ l → (s : List Frame) (rest : List TokenMark)
       → tail e < front rest → P (state (operated e l) s (after e names) rest) → P (state (seek l) s names (spell e rest))
   read back (Identifier n) names i l le s rest f k = to back (state (seek l) s names (name n ∷ rest)) (Some (state (operated (Identifier n) l) s names rest)) (rw i refl) k
   read back (Number p c) names i l le s rest f k = back _ k
@@ -126,7 +126,7 @@ mutual
       (read back b (after a names) i.2 15 i.0 (awaits_expression (behind_comma a l) ∷ s) rest (omega (arith, tail_within b 15 (omega arith) i.0))
       (stop back b 15 (awaits_expression (behind_comma a l) ∷ s) (after b (after a names)) rest f (back _ k))))
 
-  read_all : {P : State → Type 0} → IsBackward P → (xs : Expressions) (names : Names) → AreArguments names xs → (g : Expression) (p : Place) (l : ℕ) (s : List Frame) (rest : List Mark)
+  read_all : {P : ParserState → Type 0} → IsBackward P → (xs : Expressions) (names : Names) → AreArguments names xs → (g : Expression) (p : Place) (l : ℕ) (s : List Frame) (rest : List TokenMark)
       → P (state (operated (Call g p xs) l) s (after_all xs names) rest) → P (state (calling g p l) s names (spell_all xs (part close_paren ∷ rest)))
   read_all back no_expressions names i g p l s rest k = back _ k
   read_all back (expression_then a xs) names i g p l s rest k =
@@ -135,7 +135,7 @@ mutual
       (stop back a 15 (awaits_expression (in_arguments g p [] l) ∷ s) (after a names) (spell_more xs (part close_paren ∷ rest)) (front_more xs rest)
       (read_more back xs (after a names) i.2 g p a [] l s rest k)))
 
-  read_more : {P : State → Type 0} → IsBackward P → (xs : Expressions) (names : Names) → AreArguments names xs → (g : Expression) (p : Place) (a : Expression) (before : List Expression) (l : ℕ) (s : List Frame) (rest : List Mark)
+  read_more : {P : ParserState → Type 0} → IsBackward P → (xs : Expressions) (names : Names) → AreArguments names xs → (g : Expression) (p : Place) (a : Expression) (before : List Expression) (l : ℕ) (s : List Frame) (rest : List TokenMark)
       → P (state (operated (Call g p (arguments_onto before (expression_then a xs))) l) s (after_all xs names) rest)
       → P (state (gave a) (awaits_expression (in_arguments g p before l) ∷ s) names (spell_more xs (part close_paren ∷ rest)))
   read_more back no_expressions names i g p a before l s rest k = back _ k
@@ -145,7 +145,7 @@ mutual
       (stop back b 15 (awaits_expression (in_arguments g p (a ∷ before) l) ∷ s) (after b names) (spell_more xs (part close_paren ∷ rest)) (front_more xs rest)
       (read_more back xs (after b names) i.2 g p b (a ∷ before) l s rest k)))
 
-  pub read_specifiers : {P : State → Type 0} → IsBackward P → (ws : Specifiers) (names : Names) (seen : Seen) (before : List Specifier) (s : List Frame) (rest : List Mark)
+  pub read_specifiers : {P : ParserState → Type 0} → IsBackward P → (ws : Specifiers) (names : Names) (seen : Seen) (before : List Specifier) (s : List Frame) (rest : List TokenMark)
       → IsSpecifiers seen names ws → FollowsSpecifiers rest
       → P (state (gave_specifiers (specifiers_onto before ws)) s (after_specifiers ws names) rest) → P (state (specifying seen before) s names (spell_specifiers ws rest))
   read_specifiers back no_specifiers names seen before s rest i f k = to back (state (specifying seen before) s names rest) _ (specified_end seen before s names rest i f) k
@@ -153,7 +153,7 @@ mutual
       read_specifier back w names seen before s (spell_specifiers ws rest) i.0 (no_brace_specifiers ws rest (no_brace_follows rest f))
       (read_specifiers back ws (after_specifier w names) (seen_after seen w) (w ∷ before) s rest i.1 f k)
 
-  read_specifier : {P : State → Type 0} → IsBackward P → (w : Specifier) (names : Names) (seen : Seen) (before : List Specifier) (s : List Frame) (rest : List Mark)
+  read_specifier : {P : ParserState → Type 0} → IsBackward P → (w : Specifier) (names : Names) (seen : Seen) (before : List Specifier) (s : List Frame) (rest : List TokenMark)
       → IsSpecifier seen names w → IsNoBrace rest
       → P (state (specifying (seen_after seen w) (w ∷ before)) s (after_specifier w names) rest) → P (state (specifying seen before) s names (spell_specifier w rest))
   read_specifier back (Word p c) names seen before s rest i f k =
@@ -182,7 +182,7 @@ mutual
       to back (state (specifying seen before) s names (word keywords.Enum p ∷ name n ∷ sign signs.LeftBrace q ∷ ts)) (Some (state (tagging false p seen before) s names (name n ∷ sign signs.LeftBrace q ∷ ts))) (rw i.0 refl)
       (back _ (back _ (read_enumerators back es c names (body p (Some n) q seen before) s rest i.2 i.1 k)))
 
-  read_members : {P : State → Type 0} → IsBackward P → (ms : Members) (names : Names) (b : Body) (before : List MemberLine) (s : List Frame) (rest : List Mark)
+  read_members : {P : ParserState → Type 0} → IsBackward P → (ms : Members) (names : Names) (b : TypeBody) (before : List MemberLine) (s : List Frame) (rest : List TokenMark)
       → AreMembers names ms → HasLine before ms
       → P (state (specifying (with_whole b.seen) (StructureBody b.place b.tag b.brace (members_onto before ms) ∷ b.before)) s (after_members ms names) rest)
       → P (state (membering b before) s names (spell_members ms (part close_brace ∷ rest)))
@@ -198,11 +198,11 @@ mutual
       (read_more_declarators back ds (after_declarator d (after_specifiers ws names)) i.2.1 d b before ws [] p s ts
       (read_members back ms (after_declarators ds (after_declarator d (after_specifiers ws names))) b (record { specifiers = ws; declarators = declarator_then d ds; end = p } ∷ before) s rest i.3 tt k)))))
     where
-      more_follow : (ds : Declarators) (p : Place) (ts : List Mark) → FollowsDeclarator (spell_more_declarators ds (sign signs.Semicolon p ∷ ts))
+      more_follow : (ds : Declarators) (p : Place) (ts : List TokenMark) → FollowsDeclarator (spell_more_declarators ds (sign signs.Semicolon p ∷ ts))
       more_follow no_declarators p ts = tt
       more_follow (declarator_then d ds) p ts = tt
 
-  read_more_declarators : {P : State → Type 0} → IsBackward P → (ds : Declarators) (names : Names) → AreDeclarators names ds → (d : Declarator) (b : Body) (lines : List MemberLine) (ws : Specifiers) (before : List Declarator) (p : Place) (s : List Frame) (rest : List Mark)
+  read_more_declarators : {P : ParserState → Type 0} → IsBackward P → (ds : Declarators) (names : Names) → AreDeclarators names ds → (d : Declarator) (b : TypeBody) (lines : List MemberLine) (ws : Specifiers) (before : List Declarator) (p : Place) (s : List Frame) (rest : List TokenMark)
       → P (state (membering b (record { specifiers = ws; declarators = declarators_onto before (declarator_then d ds); end = p } ∷ lines)) s (after_declarators ds names) rest)
       → P (state (gave_declarator d) (awaits_declarator (of_member b lines ws before) ∷ s) names (spell_more_declarators ds (sign signs.Semicolon p ∷ rest)))
   read_more_declarators back no_declarators names i d b lines ws before p s rest k = back _ k
@@ -215,7 +215,7 @@ mutual
       more_follow no_declarators = tt
       more_follow (declarator_then d ds) = tt
 
-  read_enumerators : {P : State → Type 0} → IsBackward P → (es : Enumerators) (c : Bool) (names : Names) (b : Body) (s : List Frame) (rest : List Mark)
+  read_enumerators : {P : ParserState → Type 0} → IsBackward P → (es : Enumerators) (c : Bool) (names : Names) (b : TypeBody) (s : List Frame) (rest : List TokenMark)
       → AreEnumerators names es → HasEnumerator es
       → P (enumerated_state b [] es c s (after_enumerators es names) rest)
       → P (state (enumerating b []) s names (spell_enumerators es (spell_comma c (part close_brace ∷ rest))))
@@ -229,7 +229,7 @@ mutual
       (stop back e 14 (awaits_expression (in_enumerator b [] n p) ∷ s) (after e names) (spell_more_enumerators es (spell_comma c (part close_brace ∷ rest))) (front_entries es c rest)
       (back _ (read_more_enumerators back es c (with_name false n (after e names)) b [] (record { name = n; value = Some (p, e) }) s rest i.2 k)))))
 
-  read_more_enumerators : {P : State → Type 0} → IsBackward P → (es : Enumerators) (c : Bool) (names : Names) (b : Body) (before : List Entry) (last : Entry) (s : List Frame) (rest : List Mark)
+  read_more_enumerators : {P : ParserState → Type 0} → IsBackward P → (es : Enumerators) (c : Bool) (names : Names) (b : TypeBody) (before : List EnumEntry) (last : EnumEntry) (s : List Frame) (rest : List TokenMark)
       → AreEnumerators names es
       → P (enumerated_state b (last ∷ before) es c s (after_enumerators es names) rest)
       → P (state (entered b before last) s names (spell_more_enumerators es (spell_comma c (part close_brace ∷ rest))))
@@ -244,7 +244,7 @@ mutual
       (stop back e 14 (awaits_expression (in_enumerator b (last ∷ before) n p) ∷ s) (after e names) (spell_more_enumerators es (spell_comma c (part close_brace ∷ rest))) (front_entries es c rest)
       (back _ (read_more_enumerators back es c (with_name false n (after e names)) b (last ∷ before) (record { name = n; value = Some (p, e) }) s rest i.2 k)))))))
 
-  pub read_declarator : {P : State → Type 0} → IsBackward P → (d : Declarator) → ReadsDeclarator P d
+  pub read_declarator : {P : ParserState → Type 0} → IsBackward P → (d : Declarator) → ReadsDeclarator P d
   read_declarator back Absent m names i needed s rest o k = to back (state (declaring m needed) s names rest) _ (o needed s) k
   read_declarator back (Named n) by_name names i needed s rest o k = back _ k
   read_declarator back (Named n) without_name names i needed s rest o k = absurd i
@@ -279,7 +279,7 @@ mutual
       (read_parameters back ps inner (record { declarator = d; place = p; manner = m; outside = inner }) s rest i.4 i.2
       (subst (λ (e : Declarator). P (state (suffixing m e) s inner rest)) (sym (ap (λ (v : Option Place). closed_by v d p ps) i.3)) k)))))
 
-  read_parameters : {P : State → Type 0} → IsBackward P → (ps : Parameters) (names : Names) (o : Open) (s : List Frame) (rest : List Mark)
+  read_parameters : {P : ParserState → Type 0} → IsBackward P → (ps : Parameters) (names : Names) (o : OpenParameters) (s : List Frame) (rest : List TokenMark)
       → AreParameters names ps → HasParameter ps
       → P (state (suffixing o.manner (closed o ps)) s o.outside rest)
       → P (state (specifying nothing_seen []) (awaits_specifiers (for_parameter o []) ∷ s) names (spell_parameters ps (part close_paren ∷ rest)))
@@ -290,7 +290,7 @@ mutual
       (back _ (finish_declarator back d (read_declarator back d) either_way (after_specifiers ws names) i.1 false (λ e. absurd cc) (awaits_declarator (of_parameter o [] ws) ∷ s) ts (follows_more ps rest)
       (read_more_parameters back ps (after_declarator d (after_specifiers ws names)) ws d o [] s rest i.2 k)))
 
-  read_more_parameters : {P : State → Type 0} → IsBackward P → (ps : Parameters) (names : Names) (ws : Specifiers) (d : Declarator) (o : Open) (before : List Parameter) (s : List Frame) (rest : List Mark)
+  read_more_parameters : {P : ParserState → Type 0} → IsBackward P → (ps : Parameters) (names : Names) (ws : Specifiers) (d : Declarator) (o : OpenParameters) (before : List Parameter) (s : List Frame) (rest : List TokenMark)
       → AreParameters (with_declarator (has_typedef ws) d names) ps
       → P (state (suffixing o.manner (closed o (parameters_onto before (parameter_then ws d ps)))) s o.outside rest)
       → P (state (gave_declarator d) (awaits_declarator (of_parameter o before ws) ∷ s) names (spell_more_parameters ps (part close_paren ∷ rest)))

@@ -5,7 +5,7 @@ use Rattle.dae_tree.specs.declared.words.Keyword.TheVariants as keywords
 use Rattle.dae_tree.specs.declared.signs.Sign.TheVariants as signs
 use Rattle.dae_tree.specs.declared.expressions.Name.{Name}
 use Rattle.dae_tree.specs.declared.operators.BinaryOperator.TheVariants as binary
-use Rattle.dae_tree.specs.Marks.{Mark, word, sign, name, part, close_paren, close_brace}
+use Rattle.dae_tree.specs.Marks.{TokenMark, word, sign, name, part, close_paren, close_brace}
 use Rattle.dae_tree.specs.Trees.{External, Declared, Defined, Identifier, Binary, Parenthesised, Cast, Return, Value, Word, TypeName, Absent, Named, Void, no_specifiers, specifier_then, no_statements, statement_then}
 use Rattle.dae_tree.specs.Depth.{nodes_file, first_deeper}
 use Rattle.dae_parse_grammar.specs.Frames.{state, externals}
@@ -19,7 +19,7 @@ abbrev called : ℕ → ℕ → Name
 called c n = record { place = at c; number = n }
 
 -- int f(void){return a-b-c*(d);}
-abbrev sums : List Mark
+abbrev sums : List TokenMark
 sums =
     word keywords.Int (at 1) ∷ name (called 5 0) ∷ sign signs.LeftParen (at 6) ∷ word keywords.Void (at 7) ∷ part close_paren ∷ sign signs.LeftBrace (at 12)
     ∷ word keywords.Return (at 13) ∷ name (called 20 1) ∷ sign signs.Minus (at 21) ∷ name (called 22 2) ∷ sign signs.Minus (at 23) ∷ name (called 24 3)
@@ -47,7 +47,7 @@ sums_are_no_deeper : first_deeper 7 (nodes_file (sums_tree ∷ [])) ≡ None
 sums_are_no_deeper = refl
 
 -- typedef int t;t x=(t)y;
-abbrev typed : List Mark
+abbrev typed : List TokenMark
 typed =
     word keywords.Typedef (at 1) ∷ word keywords.Int (at 9) ∷ name (called 13 0) ∷ sign signs.Semicolon (at 14)
     ∷ name (called 15 0) ∷ name (called 17 1) ∷ sign signs.Assign (at 18) ∷ sign signs.LeftParen (at 19) ∷ name (called 20 0) ∷ part close_paren ∷ name (called 22 2)

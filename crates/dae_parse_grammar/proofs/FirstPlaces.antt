@@ -1,13 +1,13 @@
 -- The first node deeper than a limit is the first at the depth behind it.
 use Rattle.std.proofs.Common.{◌≡◌, ℕ, zero, suc, ◌+◌, ◌≤◌, ◌<◌, ltb, true, false, List, [], ◌∷◌, Option, Some, None, refl, ap, ◌∙◌, arith}
 use Rattle.dae_base.specs.declared.Place.{Place}
-use Rattle.dae_tree.specs.Depth.{Node, node, place_of, place_before, place_of_specifiers, nodes, nodes_all, nodes_specifiers, nodes_specifier, nodes_members, nodes_enumerators, nodes_declarators, nodes_declarator, nodes_parameters, nodes_initialiser, nodes_initialisers, nodes_value, nodes_items, nodes_declaration, nodes_declarations, nodes_optional, nodes_statement, nodes_statements, nodes_external, nodes_file, first_deeper}
-use Rattle.dae_tree.specs.Trees.{Expression, Expressions, Specifiers, Specifier, Members, Enumerators, Declarators, Declarator, Parameters, Initialiser, Initialisers, Item, Declaration, Statement, Statements, External, Identifier, Number, Literal, Parenthesised, Index, Call, Member, Postfix, Prefix, SizeofExpression, SizeofType, Cast, Binary, Conditional, Assignment, Comma, no_expressions, expression_then, no_specifiers, specifier_then, Word, TypeName, Structure, StructureBody, Enumeration, EnumerationBody, no_members, member_then, no_enumerators, plain_then, valued_then, no_declarators, declarator_then, Absent, Named, Pointer, Grouped, Unsized, Sized, Empty, Void, Function, no_parameters, parameter_then, Value, Listed, no_initialisers, initialiser_then, Block, Nothing, Evaluate, If, IfElse, While, Do, For, Break, Continue, Return, Switch, Case, Default, no_statements, statement_then, Declared, Defined}
+use Rattle.dae_tree.specs.Depth.{TreeNode, node, place_of, place_before, place_of_specifiers, nodes, nodes_all, nodes_specifiers, nodes_specifier, nodes_members, nodes_enumerators, nodes_declarators, nodes_declarator, nodes_parameters, nodes_initialiser, nodes_initialisers, nodes_value, nodes_items, nodes_declaration, nodes_declarations, nodes_optional, nodes_statement, nodes_statements, nodes_external, nodes_file, first_deeper}
+use Rattle.dae_tree.specs.Trees.{Expression, Expressions, Specifiers, Specifier, Members, Enumerators, Declarators, Declarator, Parameters, Initialiser, Initialisers, BlockItem, Declaration, Statement, Statements, External, Identifier, Number, Literal, Parenthesised, Index, Call, Member, Postfix, Prefix, SizeofExpression, SizeofType, Cast, Binary, Conditional, Assignment, Comma, no_expressions, expression_then, no_specifiers, specifier_then, Word, TypeName, Structure, StructureBody, Enumeration, EnumerationBody, no_members, member_then, no_enumerators, plain_then, valued_then, no_declarators, declarator_then, Absent, Named, Pointer, Grouped, Unsized, Sized, Empty, Void, Function, no_parameters, parameter_then, Value, Listed, no_initialisers, initialiser_then, Block, Nothing, Evaluate, If, IfElse, While, Do, For, Break, Continue, Return, Switch, Case, Default, no_statements, statement_then, Declared, Defined}
 use Rattle.dae_parse_grammar.specs.FirstPlaces.{Places, or_else, nowhere, both, over, firsts, firsts_all, firsts_specifiers, firsts_specifier, firsts_members, firsts_enumerators, firsts_declarators, firsts_declarator, firsts_parameters, firsts_initialiser, firsts_initialisers, firsts_value, firsts_items, firsts_declaration, firsts_declarations, firsts_optional, firsts_statement, firsts_statements, firsts_external, firsts_file}
 
 -- nodes before others, and the first of them at each depth
-pub record Says (N : ℕ → List Node → List Node) (f : Places) : Type 0 where
-  pub law : (limit d i : ℕ) (rest : List Node) → suc limit ≡ d + i → first_deeper limit (N d rest) ≡ or_else (f i) (first_deeper limit rest)
+pub record Says (N : ℕ → List TreeNode → List TreeNode) (f : Places) : Type 0 where
+  pub law : (limit d i : ℕ) (rest : List TreeNode) → suc limit ≡ d + i → first_deeper limit (N d rest) ≡ or_else (f i) (first_deeper limit rest)
 
 pub or_else_along : (x y z : Option Place) → or_else x (or_else y z) ≡ or_else (or_else x y) z
 or_else_along None y z = refl
@@ -22,18 +22,18 @@ ltb_false a b h = grind arith
 says_none : Says (λ d rest. rest) nowhere
 says_none = record { law = λ limit d i rest e. refl }
 
-says_both : {N M : ℕ → List Node → List Node} {f g : Places} → Says N f → Says M g → Says (λ d rest. N d (M d rest)) (both f g)
+says_both : {N M : ℕ → List TreeNode → List TreeNode} {f g : Places} → Says N f → Says M g → Says (λ d rest. N d (M d rest)) (both f g)
 says_both {N} {M} {f} {g} h k = record {
   law = λ limit d i rest e.
       h.law limit d i (M d rest) e ∙ ap (or_else (f i)) (k.law limit d i rest e) ∙ or_else_along (f i) (g i) (first_deeper limit rest);
 }
 
-over_law : (N : ℕ → List Node → List Node) (f : Places) (p : Place) → Says N f → (limit d i : ℕ) (rest : List Node) → suc limit ≡ d + i
+over_law : (N : ℕ → List TreeNode → List TreeNode) (f : Places) (p : Place) → Says N f → (limit d i : ℕ) (rest : List TreeNode) → suc limit ≡ d + i
     → first_deeper limit (node d p ∷ N (suc d) rest) ≡ or_else (over p f i) (first_deeper limit rest)
 over_law N f p h limit d zero rest e = rw (ltb_true limit d (omega arith)) refl
 over_law N f p h limit d (suc i) rest e = rw (ltb_false limit d (omega arith)) (h.law limit (suc d) i rest (omega arith))
 
-says_over : {N : ℕ → List Node → List Node} {f : Places} (p : Place) → Says N f → Says (λ d rest. node d p ∷ N (suc d) rest) (over p f)
+says_over : {N : ℕ → List TreeNode → List TreeNode} {f : Places} (p : Place) → Says N f → Says (λ d rest. node d p ∷ N (suc d) rest) (over p f)
 says_over {N} {f} p h = record { law = over_law N f p h }
 
 mutual
@@ -112,7 +112,7 @@ pub says_value : (x : Option (Place × Initialiser)) → Says (nodes_value x) (f
 says_value None = says_none
 says_value (Some x) = says_initialiser x.1
 
-pub says_items : (x : List Item) → Says (nodes_items x) (firsts_items x)
+pub says_items : (x : List BlockItem) → Says (nodes_items x) (firsts_items x)
 says_items [] = says_none
 says_items (i ∷ items) = says_both (says_declarator i.declarator) (says_both (says_value i.initialiser) (says_items items))
 

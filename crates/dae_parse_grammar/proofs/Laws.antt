@@ -1,12 +1,12 @@
 -- The laws of the machine and of the trees that it reads, for the proofs of the crates above.
 use Rattle.std.proofs.Common.{◌≡◌, ℕ, suc, ◌+◌, ◌*◌, ◌<◌, ◌≤◌, List, [], ◌∷◌, ◌++◌, length, Some, None, refl}
 use Rattle.dae_tree.specs.Depth.{first_deeper, nodes_file}
-use Rattle.dae_tree.specs.Marks.{Mark}
+use Rattle.dae_tree.specs.Marks.{TokenMark}
 use Rattle.dae_tree.specs.Names.{Names}
 use Rattle.dae_tree.specs.Statements.{IsTreeOf, spell_external}
 use Rattle.dae_tree.specs.Trees.{External}
 use Rattle.dae_parse_grammar.specs.FirstPlaces.{firsts_file}
-use Rattle.dae_parse_grammar.specs.Frames.{State}
+use Rattle.dae_parse_grammar.specs.Frames.{ParserState}
 use Rattle.dae_parse_grammar.specs.Machine.{begun, ended, onto, step}
 use Rattle.dae_parse_grammar.specs.Measure.{measure}
 use Rattle.dae_parse_grammar.specs.Runs.{run}
@@ -20,41 +20,41 @@ use Rattle.dae_parse_grammar.proofs.Lengths.{adds_external}
 pub use Rattle.dae_parse_grammar.proofs.FirstPlaces.{or_else_along}
 
 -- a run one step longer
-pub run_next : (turns : ℕ) (s t : State) → step (run turns s) ≡ Some t → run (suc turns) s ≡ t
+pub run_next : (turns : ℕ) (s t : ParserState) → step (run turns s) ≡ Some t → run (suc turns) s ≡ t
 run_next = runs.run_next
 
 -- what is read stands
-pub stands : (tokens : List Mark) (turns : ℕ) → Holds (run turns (begun tokens))
+pub stands : (tokens : List TokenMark) (turns : ℕ) → Holds (run turns (begun tokens))
 stands = runs.stands
 
 -- no token is lost
-pub run_keeps : (turns : ℕ) (s : State) → tokens_of (run turns s) ≡ tokens_of s
+pub run_keeps : (turns : ℕ) (s : ParserState) → tokens_of (run turns s) ≡ tokens_of s
 run_keeps = runs.run_keeps
 
-pub sound : (tokens : List Mark) (turns : ℕ) (before : List External) (names : Names) → run turns (begun tokens) ≡ ended before names → IsTreeOf tokens (onto before [])
+pub sound : (tokens : List TokenMark) (turns : ℕ) (before : List External) (names : Names) → run turns (begun tokens) ≡ ended before names → IsTreeOf tokens (onto before [])
 sound = runs.sound
 
-pub unique : (tokens : List Mark) (a b : List External) → IsTreeOf tokens a → IsTreeOf tokens b → a ≡ b
+pub unique : (tokens : List TokenMark) (a b : List External) → IsTreeOf tokens a → IsTreeOf tokens b → a ≡ b
 unique = runs.unique
 
-pub stopped : (tokens : List Mark) (turns : ℕ) (s : State) → run turns (begun tokens) ≡ s → step s ≡ None → (file : List External) → IsTreeOf tokens file
+pub stopped : (tokens : List TokenMark) (turns : ℕ) (s : ParserState) → run turns (begun tokens) ≡ s → step s ≡ None → (file : List External) → IsTreeOf tokens file
     → (names : Names) × (s ≡ ended (onto file []) names)
 stopped = runs.stopped
 
 -- where the machine is stuck at a token, no file begins with the tokens up to it
-pub nothing_goes_on : (before : List Mark) (t : Mark) (rest : List Mark) (turns : ℕ) → step (run turns (begun (before ++ t ∷ rest))) ≡ None → stuck (run turns (begun (before ++ t ∷ rest))) ≡ t ∷ rest
-    → (more : List Mark) (file : List External) → IsTreeOf (before ++ t ∷ more) file → ⊥
+pub nothing_goes_on : (before : List TokenMark) (t : TokenMark) (rest : List TokenMark) (turns : ℕ) → step (run turns (begun (before ++ t ∷ rest))) ≡ None → stuck (run turns (begun (before ++ t ∷ rest))) ≡ t ∷ rest
+    → (more : List TokenMark) (file : List External) → IsTreeOf (before ++ t ∷ more) file → ⊥
 nothing_goes_on = local.nothing_goes_on
 
 -- what is left is the end of the tokens
-pub run_left : (turns : ℕ) (s : State) → (taken : List Mark) × (rest_of s ≡ taken ++ rest_of (run turns s))
+pub run_left : (turns : ℕ) (s : ParserState) → (taken : List TokenMark) × (rest_of s ≡ taken ++ rest_of (run turns s))
 run_left = local.run_left
 
 -- runs are short
-pub bounded : (tokens : List Mark) (turns : ℕ) → 12 * length tokens + 9 ≤ turns → step (run turns (begun tokens)) ≡ None
+pub bounded : (tokens : List TokenMark) (turns : ℕ) → 12 * length tokens + 9 ≤ turns → step (run turns (begun tokens)) ≡ None
 bounded = runs.bounded
 
-pub step_falls : (s t : State) → step s ≡ Some t → measure t < measure s
+pub step_falls : (s t : ParserState) → step s ≡ Some t → measure t < measure s
 step_falls = runs.step_falls
 
 -- the first node that is too deep is the first at the depth behind the limit
@@ -62,7 +62,7 @@ pub first_deep : (file : List External) (limit : ℕ) → first_deeper limit (no
 first_deep = firsts.says_file
 
 -- an external spells as many tokens before others as alone
-pub length_adds : (x : External) (rest : List Mark) → length (spell_external x rest) ≡ length (spell_external x []) + length rest
+pub length_adds : (x : External) (rest : List TokenMark) → length (spell_external x rest) ≡ length (spell_external x []) + length rest
 length_adds x rest = (adds_external x).law rest
 
 onto_more : {A : Type 0} (before xs ys : List A) → onto before (xs ++ ys) ≡ onto before xs ++ ys

@@ -6,8 +6,8 @@ use Rattle.dae_tree.specs.Words.{nothing_seen}
 use Rattle.dae_tree.specs.Names.{Names, after_all, after_specifiers, after_members, after_enumerators, after_declarators, after_initialisers, after_items, after_declarations}
 use Rattle.dae_tree.specs.Grammar.{AreArguments, IsSpecifiers, AreMembers, AreEnumerators, AreDeclarators, AreParameters, HasMember, HasEnumerator, HasDeclarator, HasParameter}
 use Rattle.dae_tree.specs.Statements.{AreInitialisers, HasInitialiser, AreItems, AreDeclarations, AreStatements, AreExternals}
-use Rattle.dae_tree.specs.Trees.{Expression, Expressions, Specifiers, Specifier, Members, Enumerators, Declarators, Declarator, Parameters, Initialiser, Initialisers, Item, Declaration, Statement, Statements, External, expression_then, specifier_then, member_then, declarator_then, parameter_then, initialiser_then, statement_then}
-use Rattle.dae_tree.specs.Lists.{MemberLine, Entry, Parameter}
+use Rattle.dae_tree.specs.Trees.{Expression, Expressions, Specifiers, Specifier, Members, Enumerators, Declarators, Declarator, Parameters, Initialiser, Initialisers, BlockItem, Declaration, Statement, Statements, External, expression_then, specifier_then, member_then, declarator_then, parameter_then, initialiser_then, statement_then}
+use Rattle.dae_tree.specs.Lists.{MemberLine, EnumEntry, Parameter}
 use Rattle.dae_parse_grammar.specs.Machine.{arguments_onto, specifiers_onto, members_onto, enumerators_onto, enumerator_before, declarators_onto, parameters_onto, initialisers_onto, statements_onto, onto}
 use Rattle.dae_parse_grammar.specs.Standing.{now_arguments, now_specifiers, now_lines, now_entries, after_entry, now_declarators, now_parameters, now_initialisers, now_items, now_declarations, now_statements, now_externals, ArgumentsHold, seen_now, SpecifiersHold, LinesHold, EntryValueHolds, EntriesHold, DeclaratorsHold, ParametersHold, InitialisersHold, ItemsHold, DeclarationsHold, StatementsHold, ExternalsHold}
 
@@ -39,36 +39,36 @@ pub members_some : (before : List MemberLine) (ms : Members) → HasMember ms �
 members_some [] ms h = h
 members_some (m ∷ before) ms h = members_some before (member_then m.specifiers m.declarators m.end ms) tt
 
-entry_holds : (n : Names) (e : Entry) (es : Enumerators) → EntryValueHolds n e.value → AreEnumerators (after_entry e n) es → AreEnumerators n (enumerator_before e es)
+entry_holds : (n : Names) (e : EnumEntry) (es : Enumerators) → EntryValueHolds n e.value → AreEnumerators (after_entry e n) es → AreEnumerators n (enumerator_before e es)
 entry_holds n e es = go e.name e.value
   where
     go : (x : Name) (v : Option (Place × Expression)) → EntryValueHolds n v → AreEnumerators (after_entry (record { name = x; value = v }) n) es → AreEnumerators n (enumerator_before (record { name = x; value = v }) es)
     go x None h i = i
     go x (Some v) h i = (h.0, h.1, i)
 
-entry_now : (n : Names) (e : Entry) (es : Enumerators) → after_enumerators es (after_entry e n) ≡ after_enumerators (enumerator_before e es) n
+entry_now : (n : Names) (e : EnumEntry) (es : Enumerators) → after_enumerators es (after_entry e n) ≡ after_enumerators (enumerator_before e es) n
 entry_now n e es = go e.name e.value
   where
     go : (x : Name) (v : Option (Place × Expression)) → after_enumerators es (after_entry (record { name = x; value = v }) n) ≡ after_enumerators (enumerator_before (record { name = x; value = v }) es) n
     go x None = refl
     go x (Some v) = refl
 
-entry_some : (e : Entry) (es : Enumerators) → HasEnumerator (enumerator_before e es)
+entry_some : (e : EnumEntry) (es : Enumerators) → HasEnumerator (enumerator_before e es)
 entry_some e es = go e.name e.value
   where
     go : (x : Name) (v : Option (Place × Expression)) → HasEnumerator (enumerator_before (record { name = x; value = v }) es)
     go x None = tt
     go x (Some v) = tt
 
-pub enumerators_hold : (n : Names) (before : List Entry) (es : Enumerators) → EntriesHold n before → AreEnumerators (now_entries before n) es → AreEnumerators n (enumerators_onto before es)
+pub enumerators_hold : (n : Names) (before : List EnumEntry) (es : Enumerators) → EntriesHold n before → AreEnumerators (now_entries before n) es → AreEnumerators n (enumerators_onto before es)
 enumerators_hold n [] es h i = i
 enumerators_hold n (e ∷ before) es h i = enumerators_hold n before (enumerator_before e es) h.0 (entry_holds (now_entries before n) e es h.1 i)
 
-pub enumerators_now : (n : Names) (before : List Entry) (es : Enumerators) → after_enumerators es (now_entries before n) ≡ after_enumerators (enumerators_onto before es) n
+pub enumerators_now : (n : Names) (before : List EnumEntry) (es : Enumerators) → after_enumerators es (now_entries before n) ≡ after_enumerators (enumerators_onto before es) n
 enumerators_now n [] es = refl
 enumerators_now n (e ∷ before) es = entry_now (now_entries before n) e es ∙ enumerators_now n before (enumerator_before e es)
 
-pub enumerators_some : (before : List Entry) (e : Entry) (es : Enumerators) → HasEnumerator (enumerators_onto before (enumerator_before e es))
+pub enumerators_some : (before : List EnumEntry) (e : EnumEntry) (es : Enumerators) → HasEnumerator (enumerators_onto before (enumerator_before e es))
 enumerators_some [] e es = entry_some e es
 enumerators_some (a ∷ before) e es = enumerators_some before a (enumerator_before e es)
 
@@ -104,11 +104,11 @@ pub initialisers_some : (before : List Initialiser) (xs : Initialisers) → HasI
 initialisers_some [] xs h = h
 initialisers_some (x ∷ before) xs h = initialisers_some before (initialiser_then x xs) tt
 
-pub items_hold : (is : Bool) (n : Names) (before items : List Item) → ItemsHold is n before → AreItems is (now_items is before n) items → AreItems is n (onto before items)
+pub items_hold : (is : Bool) (n : Names) (before items : List BlockItem) → ItemsHold is n before → AreItems is (now_items is before n) items → AreItems is n (onto before items)
 items_hold is n [] items h i = i
 items_hold is n (x ∷ before) items h i = items_hold is n before (x ∷ items) h.0 (h.1, i)
 
-pub items_now : (is : Bool) (n : Names) (before items : List Item) → after_items is items (now_items is before n) ≡ after_items is (onto before items) n
+pub items_now : (is : Bool) (n : Names) (before items : List BlockItem) → after_items is items (now_items is before n) ≡ after_items is (onto before items) n
 items_now is n [] items = refl
 items_now is n (x ∷ before) items = items_now is n before (x ∷ items)
 

@@ -6,11 +6,11 @@ use Rattle.dae_tree.specs.declared.words.Keyword.{Keyword}
 use Rattle.dae_tree.specs.declared.words.Keyword.TheVariants as keywords
 use Rattle.dae_tree.specs.declared.signs.Sign.{Sign}
 use Rattle.dae_tree.specs.declared.signs.Sign.TheVariants as signs
-use Rattle.dae_tree.specs.Marks.{Mark, word, sign, part, close_paren, close_brace, comma, else_word}
+use Rattle.dae_tree.specs.Marks.{TokenMark, word, sign, part, close_paren, close_brace, comma, else_word}
 use Rattle.dae_tree.specs.Words.{begins_specifiers}
 use Rattle.dae_tree.specs.Names.{Names, has_typedef, after, after_specifiers, after_initialiser, after_item, after_declaration, after_optional, after_statement}
 use Rattle.dae_tree.specs.Statements.{IsInitialiser, IsDeclaration, IsStatement, takes_else}
-use Rattle.dae_tree.specs.Trees.{Expression, Specifiers, Declarator, Initialiser, Item, Declaration, Statement, External, no_initialisers, initialiser_then, Block, no_statements}
+use Rattle.dae_tree.specs.Trees.{Expression, Specifiers, Declarator, Initialiser, BlockItem, Declaration, Statement, External, no_initialisers, initialiser_then, Block, no_statements}
 use Rattle.dae_parse_grammar.specs.Frames.{Loop, Inside, Frame, in_list, of_value, in_file, in_block, then_branch, else_branch, while_body, switch_body, do_body, for_body, case_body, default_body, in_statements, in_definition, Doing, seek, operated, gave, calling, measuring, specifying, tagging, tagged, membering, enumerating, enumerated, entered, entering, gave_specifiers, declaring, qualifying, suffixing, sizing, parametering, gave_declarator, initialising, listing, gave_initialiser, itemed, gave_declaration, externals, declarations, statements, stating, opening, finishing, looping, starting, testing, stepping, returning, breaking, continuing, defaulting, gave_statement, state, awaits_expression, awaits_specifiers, awaits_declarator, awaits_initialiser, awaits_declaration, awaits_statement, StatementFrame}
 use Rattle.dae_parse_grammar.specs.Machine.{step, initialised, listed, list_followed, list_closed, initialiser_taken, item_followed, declaration_taken, external_begun, block_begun, block_followed, evaluation_begun, sign_stated, word_stated, stated, started, loop_tested, stepped, returned, branched, done_followed, defined, statement_given}
 use Rattle.dae_parse_grammar.specs.Standing.{stack_names, doing_names, now_initialisers, now_items, now_declarations, now_statements, now_externals, InitialisersHold, StatementsHold, ExternalsHold, IsInside, IsLoop, IsStack, IsDoing, Holds}
@@ -20,12 +20,12 @@ use Rattle.dae_parse_grammar.proofs.SoundDeclarators.{hold_specified, hold_tag, 
 
 -- ---- initialisers and declarations
 
-hold_initialised : (s : List Frame) (ts : List Mark) → IsStack s → Then (initialised s (stack_names s) ts)
+hold_initialised : (s : List Frame) (ts : List TokenMark) → IsStack s → Then (initialised s (stack_names s) ts)
 hold_initialised s [] st = (refl, refl, (tt, st))
 hold_initialised s (sign signs.LeftBrace p ∷ ts) st = (refl, tt, (tt, st))
 hold_initialised s (_ ∷ ts) st = (refl, refl, (tt, st))
 
-hold_closed_list : (p : Place) (x : Initialiser) (before : List Initialiser) (c : Bool) (s : List Frame) (ts : List Mark) → InitialisersHold (stack_names s) (x ∷ before) → IsStack s
+hold_closed_list : (p : Place) (x : Initialiser) (before : List Initialiser) (c : Bool) (s : List Frame) (ts : List TokenMark) → InitialisersHold (stack_names s) (x ∷ before) → IsStack s
     → Holds (list_closed p (x ∷ before) c s (after_initialiser x (now_initialisers before (stack_names s))) ts)
 hold_closed_list p x before c s ts h st = (
   initialisers_now (stack_names s) (x ∷ before) no_initialisers,
@@ -33,26 +33,26 @@ hold_closed_list p x before c s ts h st = (
   st,
 )
 
-hold_listed : (x : Initialiser) (p : Place) (before : List Initialiser) (s : List Frame) (ts : List Mark) → IsInitialiser (stack_names (awaits_initialiser (in_list p before) ∷ s)) x → IsStack (awaits_initialiser (in_list p before) ∷ s)
+hold_listed : (x : Initialiser) (p : Place) (before : List Initialiser) (s : List Frame) (ts : List TokenMark) → IsInitialiser (stack_names (awaits_initialiser (in_list p before) ∷ s)) x → IsStack (awaits_initialiser (in_list p before) ∷ s)
     → Then (listed x p before s (after_initialiser x (stack_names (awaits_initialiser (in_list p before) ∷ s))) ts)
 hold_listed x p before s [] i st = tt
 hold_listed x p before s (part comma ∷ ts) i st = (refl, (st.0, i), st.1)
 hold_listed x p before s (part close_brace ∷ ts) i st = hold_closed_list p x before false s ts (st.0, i) st.1
 hold_listed x p before s (_ ∷ ts) i st = tt
 
-hold_list_followed : (p : Place) (x : Initialiser) (before : List Initialiser) (s : List Frame) (ts : List Mark) → InitialisersHold (stack_names s) (x ∷ before) → IsStack s
+hold_list_followed : (p : Place) (x : Initialiser) (before : List Initialiser) (s : List Frame) (ts : List TokenMark) → InitialisersHold (stack_names s) (x ∷ before) → IsStack s
     → Then (list_followed p (x ∷ before) s (after_initialiser x (now_initialisers before (stack_names s))) ts)
 hold_list_followed p x before s [] h st = (refl, tt, (h, st))
 hold_list_followed p x before s (part close_brace ∷ ts) h st = hold_closed_list p x before true s ts h st
 hold_list_followed p x before s (_ ∷ ts) h st = (refl, tt, (h, st))
 
-hold_initialiser : (x : Initialiser) (s : List Frame) (ts : List Mark) → IsInitialiser (stack_names s) x → IsStack s → Then (initialiser_taken x s (after_initialiser x (stack_names s)) ts)
+hold_initialiser : (x : Initialiser) (s : List Frame) (ts : List TokenMark) → IsInitialiser (stack_names s) x → IsStack s → Then (initialiser_taken x s (after_initialiser x (stack_names s)) ts)
 hold_initialiser x [] ts i st = tt
 hold_initialiser x (awaits_initialiser (in_list p before) ∷ s) ts i st = hold_listed x p before s ts i st
 hold_initialiser x (awaits_initialiser (of_value ws before d p) ∷ s) ts i st = (refl, (st.0.0, (st.0.1, (st.0.2, i))), st.1)
 hold_initialiser x (_ ∷ s) ts i st = tt
 
-hold_itemed : (ws : Specifiers) (i : Item) (before : List Item) (s : List Frame) (ts : List Mark) → IsDoing (itemed ws i before) s (stack_names s) ts → IsStack s
+hold_itemed : (ws : Specifiers) (i : BlockItem) (before : List BlockItem) (s : List Frame) (ts : List TokenMark) → IsDoing (itemed ws i before) s (stack_names s) ts → IsStack s
     → Then (item_followed ws i before s (after_item (has_typedef ws) i (now_items (has_typedef ws) before (after_specifiers ws (stack_names s)))) ts)
 hold_itemed ws i before s [] h st = tt
 hold_itemed ws i before s (part comma ∷ ts) h st = (refl, (refl, tt, tt), ((h.0, h.1), st))
@@ -61,22 +61,22 @@ hold_itemed ws i before s (sign signs.Semicolon p ∷ ts) h st =
     (items_now (has_typedef ws) n (i ∷ before) [], (h.0, items_hold (has_typedef ws) n (i ∷ before) [] h.1 tt), st)
 hold_itemed ws i before s (_ ∷ ts) h st = tt
 
-hold_declaration : (d : Declaration) (s : List Frame) (ts : List Mark) → IsDeclaration (stack_names s) d → IsStack s → Then (declaration_taken d s (after_declaration d (stack_names s)) ts)
+hold_declaration : (d : Declaration) (s : List Frame) (ts : List TokenMark) → IsDeclaration (stack_names s) d → IsStack s → Then (declaration_taken d s (after_declaration d (stack_names s)) ts)
 hold_declaration d [] ts i st = tt
 hold_declaration d (awaits_declaration (in_file before) ∷ s) ts i st = (refl, (st.0, i), st.1)
 hold_declaration d (awaits_declaration (in_block b) ∷ s) ts i st = (refl, (st.0.0, (st.0.1, i)), st.1)
 hold_declaration d (_ ∷ s) ts i st = tt
 
-hold_external : (before : List External) (s : List Frame) (ts : List Mark) → ExternalsHold (stack_names s) before → IsStack s → Then (external_begun before s (now_externals before (stack_names s)) ts)
+hold_external : (before : List External) (s : List Frame) (ts : List TokenMark) → ExternalsHold (stack_names s) before → IsStack s → Then (external_begun before s (now_externals before (stack_names s)) ts)
 hold_external before s [] h st = tt
 hold_external before s (t ∷ ts) h st = (refl, (refl, tt), (tt, (h, st)))
 
 -- ---- statements
 
-hold_block_begun : (i : Inside) (s : List Frame) (ts : List Mark) → IsInside (stack_names s) i → IsStack s → Then (block_begun i s (now_declarations i.declarations (stack_names s)) ts)
+hold_block_begun : (i : Inside) (s : List Frame) (ts : List TokenMark) → IsInside (stack_names s) i → IsStack s → Then (block_begun i s (now_declarations i.declarations (stack_names s)) ts)
 hold_block_begun i s ts h st = decide (begins_specifiers (now_declarations i.declarations (stack_names s)) ts) _ _ (λ b. (refl, (refl, tt), (tt, (h, st)))) (λ b. (refl, (h, tt), st))
 
-hold_block : (i : Inside) (before : List Statement) (s : List Frame) (ts : List Mark) → IsDoing (statements i before) s (stack_names s) ts → IsStack s
+hold_block : (i : Inside) (before : List Statement) (s : List Frame) (ts : List TokenMark) → IsDoing (statements i before) s (stack_names s) ts → IsStack s
     → Then (block_followed i before s (now_statements before (now_declarations i.declarations (stack_names s))) ts)
 hold_block i before s [] h st = (refl, tt, (h, st))
 hold_block i before s (part close_brace ∷ ts) h st =
@@ -93,15 +93,15 @@ hold_block i before s (part close_brace ∷ ts) h st =
     )
 hold_block i before s (_ ∷ ts) h st = (refl, tt, (h, st))
 
-hold_evaluation : (s : List Frame) (ts : List Mark) → IsStack s → Then (evaluation_begun s (stack_names s) ts)
+hold_evaluation : (s : List Frame) (ts : List TokenMark) → IsStack s → Then (evaluation_begun s (stack_names s) ts)
 hold_evaluation s ts st = (refl, refl, (tt, st))
 
-hold_sign_stated : (g : Sign) (p : Place) (s : List Frame) (ts : List Mark) → IsStack s → Then (sign_stated g p s (stack_names s) ts)
+hold_sign_stated : (g : Sign) (p : Place) (s : List Frame) (ts : List TokenMark) → IsStack s → Then (sign_stated g p s (stack_names s) ts)
 hold_sign_stated signs.LeftBrace p s ts st = (refl, (refl, tt), st)
 hold_sign_stated signs.Semicolon p s ts st = (refl, (tt, λ x. absurd cc), st)
 hold_sign_stated _ p s ts st = (refl, refl, (tt, st))
 
-hold_word_stated : (k : Keyword) (p : Place) (s : List Frame) (ts : List Mark) → IsStack s → Then (word_stated k p s (stack_names s) ts)
+hold_word_stated : (k : Keyword) (p : Place) (s : List Frame) (ts : List TokenMark) → IsStack s → Then (word_stated k p s (stack_names s) ts)
 hold_word_stated keywords.If p s ts st = (refl, tt, st)
 hold_word_stated keywords.While p s ts st = (refl, tt, st)
 hold_word_stated keywords.Switch p s ts st = (refl, tt, st)
@@ -114,52 +114,52 @@ hold_word_stated keywords.Case p s ts st = (refl, refl, (tt, st))
 hold_word_stated keywords.Default p s ts st = (refl, tt, st)
 hold_word_stated _ p s ts st = (refl, refl, (tt, st))
 
-hold_stated : (s : List Frame) (ts : List Mark) → IsStack s → Then (stated s (stack_names s) ts)
+hold_stated : (s : List Frame) (ts : List TokenMark) → IsStack s → Then (stated s (stack_names s) ts)
 hold_stated s [] st = hold_evaluation s [] st
 hold_stated s (sign g p ∷ ts) st = hold_sign_stated g p s ts st
 hold_stated s (word k p ∷ ts) st = hold_word_stated k p s ts st
 hold_stated s (t ∷ ts) st = hold_evaluation s (t ∷ ts) st
 
-hold_started : (p q : Place) (s : List Frame) (ts : List Mark) → IsStack s → Then (started p q s (stack_names s) ts)
+hold_started : (p q : Place) (s : List Frame) (ts : List TokenMark) → IsStack s → Then (started p q s (stack_names s) ts)
 hold_started p q s [] st = (refl, refl, (tt, st))
 hold_started p q s (sign signs.Semicolon r ∷ ts) st = (refl, tt, st)
 hold_started p q s (_ ∷ ts) st = (refl, refl, (tt, st))
 
-hold_loop_tested : (p q : Place) (a : Option Expression) (r : Place) (s : List Frame) (ts : List Mark) → IsDoing (testing p q a r) s (stack_names s) ts → IsStack s → Then (loop_tested p q a r s (after_optional a (stack_names s)) ts)
+hold_loop_tested : (p q : Place) (a : Option Expression) (r : Place) (s : List Frame) (ts : List TokenMark) → IsDoing (testing p q a r) s (stack_names s) ts → IsStack s → Then (loop_tested p q a r s (after_optional a (stack_names s)) ts)
 hold_loop_tested p q a r s [] i st = (refl, refl, (i, st))
 hold_loop_tested p q a r s (sign signs.Semicolon u ∷ ts) i st = (refl, (i, tt), st)
 hold_loop_tested p q a r s (_ ∷ ts) i st = (refl, refl, (i, st))
 
-hold_stepped : (l : Loop) (s : List Frame) (ts : List Mark) → IsLoop (stack_names s) l → IsStack s → Then (stepped l s (after_optional l.test (after_optional l.start (stack_names s))) ts)
+hold_stepped : (l : Loop) (s : List Frame) (ts : List TokenMark) → IsLoop (stack_names s) l → IsStack s → Then (stepped l s (after_optional l.test (after_optional l.start (stack_names s))) ts)
 hold_stepped l s [] i st = (refl, refl, (i, st))
 hold_stepped l s (part close_paren ∷ ts) i st = (refl, tt, ((i, tt), st))
 hold_stepped l s (_ ∷ ts) i st = (refl, refl, (i, st))
 
-hold_returned : (p : Place) (s : List Frame) (ts : List Mark) → IsStack s → Then (returned p s (stack_names s) ts)
+hold_returned : (p : Place) (s : List Frame) (ts : List TokenMark) → IsStack s → Then (returned p s (stack_names s) ts)
 hold_returned p s [] st = (refl, refl, (tt, st))
 hold_returned p s (sign signs.Semicolon q ∷ ts) st = (refl, (tt, λ x. absurd cc), st)
 hold_returned p s (_ ∷ ts) st = (refl, refl, (tt, st))
 
-hold_branched : (p q : Place) (e : Expression) (b : Statement) (s : List Frame) (ts : List Mark) → IsDoing (gave_statement b) (awaits_statement (then_branch p q e) ∷ s) (after e (stack_names s)) ts → IsStack (awaits_statement (then_branch p q e) ∷ s)
+hold_branched : (p q : Place) (e : Expression) (b : Statement) (s : List Frame) (ts : List TokenMark) → IsDoing (gave_statement b) (awaits_statement (then_branch p q e) ∷ s) (after e (stack_names s)) ts → IsStack (awaits_statement (then_branch p q e) ∷ s)
     → Then (branched p q e b s (after_statement b (after e (stack_names s))) ts)
 hold_branched p q e b s [] i st = (refl, ((st.0, i.0), λ x. tt), st.1)
 hold_branched p q e b s (part else_word ∷ ts) i st = (refl, tt, ((st.0, i.0, false_from_ne_true (takes_else b) i.1), st.1))
 hold_branched p q e b s (part close_paren ∷ ts) i st = (refl, ((st.0, i.0), λ x. tt), st.1)
 hold_branched p q e b s (_ ∷ ts) i st = (refl, ((st.0, i.0), λ x. tt), st.1)
 
-hold_done : (p : Place) (b : Statement) (s : List Frame) (ts : List Mark) → IsStatement (stack_names s) b → IsStack s → Then (done_followed p b s (after_statement b (stack_names s)) ts)
+hold_done : (p : Place) (b : Statement) (s : List Frame) (ts : List TokenMark) → IsStatement (stack_names s) b → IsStack s → Then (done_followed p b s (after_statement b (stack_names s)) ts)
 hold_done p b s [] i st = tt
 hold_done p b s (word keywords.While r ∷ ts) i st = (refl, i, st)
 hold_done p b s (_ ∷ ts) i st = tt
 
-hold_defined : (ws : Specifiers) (d : Declarator) (outside : Names) (b : Statement) (s : List Frame) (ts : List Mark) → IsStatement (stack_names (awaits_statement (in_definition ws d outside) ∷ s)) b → IsStack (awaits_statement (in_definition ws d outside) ∷ s)
+hold_defined : (ws : Specifiers) (d : Declarator) (outside : Names) (b : Statement) (s : List Frame) (ts : List TokenMark) → IsStatement (stack_names (awaits_statement (in_definition ws d outside) ∷ s)) b → IsStack (awaits_statement (in_definition ws d outside) ∷ s)
     → Then (defined ws d outside b s ts)
 hold_defined ws d outside (Block p ds ss) [] ts i st = tt
 hold_defined ws d outside (Block p ds ss) (awaits_declaration (in_file before) ∷ s) ts i st = (st.0.0, (st.1.0, (st.0.1, st.0.2, i)), st.1.1)
 hold_defined ws d outside (Block p ds ss) (_ ∷ s) ts i st = tt
 hold_defined ws d outside _ s ts i st = tt
 
-hold_statement : (b : Statement) (f : StatementFrame) (s : List Frame) (ts : List Mark) → IsDoing (gave_statement b) (awaits_statement f ∷ s) (stack_names (awaits_statement f ∷ s)) ts → IsStack (awaits_statement f ∷ s) → Then (statement_given b f s (after_statement b (stack_names (awaits_statement f ∷ s))) ts)
+hold_statement : (b : Statement) (f : StatementFrame) (s : List Frame) (ts : List TokenMark) → IsDoing (gave_statement b) (awaits_statement f ∷ s) (stack_names (awaits_statement f ∷ s)) ts → IsStack (awaits_statement f ∷ s) → Then (statement_given b f s (after_statement b (stack_names (awaits_statement f ∷ s))) ts)
 hold_statement b (then_branch p q e) s ts i st = hold_branched p q e b s ts i st
 hold_statement b (else_branch p q e a) s ts i st = (refl, ((st.0.0, st.0.1, st.0.2, i.0), i.1), st.1)
 hold_statement b (while_body p q e) s ts i st = (refl, ((st.0, i.0), i.1), st.1)
@@ -173,7 +173,7 @@ hold_statement b (in_definition ws d outside) s ts i st = hold_defined ws d outs
 
 -- ---- every step
 
-holds_at : (d : Doing) (s : List Frame) (ts : List Mark) → IsDoing d s (stack_names s) ts → IsStack s → Then (step (state d s (doing_names d (stack_names s)) ts))
+holds_at : (d : Doing) (s : List Frame) (ts : List TokenMark) → IsDoing d s (stack_names s) ts → IsStack s → Then (step (state d s (doing_names d (stack_names s)) ts))
 holds_at (seek l) s ts i st = hold_sought l s ts i st
 holds_at (operated e l) s ts i st = hold_operated e l s ts i st
 holds_at (gave e) (awaits_expression f ∷ s) ts i st = hold_expression e f s ts i st
@@ -219,5 +219,5 @@ holds_at (defaulting p) s ts i st = then_colon ts _ (λ us. (refl, tt, (tt, st))
 holds_at (gave_statement b) (awaits_statement f ∷ s) ts i st = hold_statement b f s ts i st
 holds_at (gave_statement b) _ ts i st = tt
 
-pub holds : (d : Doing) (s : List Frame) (names : Names) (ts : List Mark) → Holds (state d s names ts) → Then (step (state d s names ts))
+pub holds : (d : Doing) (s : List Frame) (names : Names) (ts : List TokenMark) → Holds (state d s names ts) → Then (step (state d s names ts))
 holds d s names ts h = subst (λ (n : Names). Then (step (state d s n ts))) (sym h.0) (holds_at d s ts h.1 h.2)

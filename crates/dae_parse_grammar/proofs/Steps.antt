@@ -12,18 +12,18 @@ use Rattle.dae_tree.specs.declared.operators.PostfixOperator.{PostfixOperator}
 use Rattle.dae_tree.specs.declared.operators.PostfixOperator.TheVariants as postfix
 use Rattle.dae_tree.specs.declared.operators.MemberOperator.{MemberOperator}
 use Rattle.dae_tree.specs.declared.operators.MemberOperator.TheVariants as member
-use Rattle.dae_tree.specs.Marks.{Mark, sign, part, comma}
+use Rattle.dae_tree.specs.Marks.{TokenMark, sign, part, comma}
 use Rattle.dae_tree.specs.Operators.{under, strength, operand_level, binary_sign, assignment_sign, prefix_sign, postfix_sign, member_sign}
 use Rattle.dae_tree.specs.Names.{Names}
 use Rattle.dae_tree.specs.Grammar.{level}
 use Rattle.dae_tree.specs.Trees.{Expression, Prefix, SizeofExpression, Cast, Binary, Conditional, Assignment, Comma}
-use Rattle.dae_parse_grammar.specs.Frames.{Frame, State, state, seek, operated, gave, behind_prefix, behind_comma, awaits_expression}
+use Rattle.dae_parse_grammar.specs.Frames.{Frame, ParserState, state, seek, operated, gave, behind_prefix, behind_comma, awaits_expression}
 use Rattle.dae_parse_grammar.specs.Machine.{step, Operation, member_of, step_of, binary_of, assignment_of, operation, reach, left_level, operate}
 use Rattle.dae_parse_grammar.specs.Runs.{On, IsBackward}
 use Rattle.dae_parse_grammar.specs.Levels.{front, tail}
 
 -- a step that is known
-pub to : {P : State → Type 0} → IsBackward P → (s : State) (r : Option State) → step s ≡ r → On P r → P s
+pub to : {P : ParserState → Type 0} → IsBackward P → (s : ParserState) (r : Option ParserState) → step s ≡ r → On P r → P s
 to {P} back s r e k = back s (subst (On P) (sym e) k)
 
 pub under_least : (o : BinaryOperator) → 3 ≤ under o
@@ -113,25 +113,25 @@ leb_true a b h = grind arith
 leb_false : (a b : ℕ) → b < a → leb a b ≡ false
 leb_false a b h = grind arith
 
-pub takes : (g : Sign) (o : Operation) (e : Expression) (p : Place) (l : ℕ) (s : List Frame) (names : Names) (ts : List Mark)
+pub takes : (g : Sign) (o : Operation) (e : Expression) (p : Place) (l : ℕ) (s : List Frame) (names : Names) (ts : List TokenMark)
     → operation g ≡ o → reach o ≤ l → level e ≤ left_level o → step (state (operated e l) s names (sign g p ∷ ts)) ≡ operate o e p l s names ts
 takes g o e p l s names ts eq r le = rw (eq, leb_true (reach o) l r, leb_true (level e) (left_level o) le) refl
 
-pub stop_at : (e : Expression) (l : ℕ) (s : List Frame) (names : Names) (rest : List Mark) → l < front rest → step (state (operated e l) s names rest) ≡ Some (state (gave e) s names rest)
+pub stop_at : (e : Expression) (l : ℕ) (s : List Frame) (names : Names) (rest : List TokenMark) → l < front rest → step (state (operated e l) s names rest) ≡ Some (state (gave e) s names rest)
 stop_at e l s names [] h = refl
 stop_at e l s names (sign g p ∷ ts) h = rw (leb_false (reach (operation g)) l h) refl
 stop_at e l s names (part comma ∷ ts) h = rw (leb_false 16 l h) refl
 stop_at e l s names (_ ∷ ts) h = refl
 
-pub stop : {P : State → Type 0} → IsBackward P → (e : Expression) (l : ℕ) (s : List Frame) (names : Names) (rest : List Mark) → l < front rest
+pub stop : {P : ParserState → Type 0} → IsBackward P → (e : Expression) (l : ℕ) (s : List Frame) (names : Names) (rest : List TokenMark) → l < front rest
     → P (state (gave e) s names rest) → P (state (operated e l) s names rest)
 stop back e l s names rest h k = to back (state (operated e l) s names rest) (Some (state (gave e) s names rest)) (stop_at e l s names rest h) k
 
-pub commas : (e : Expression) (l : ℕ) (s : List Frame) (names : Names) (ts : List Mark) → 16 ≤ l
+pub commas : (e : Expression) (l : ℕ) (s : List Frame) (names : Names) (ts : List TokenMark) → 16 ≤ l
     → step (state (operated e l) s names (part comma ∷ ts)) ≡ Some (state (seek 15) (awaits_expression (behind_comma e l) ∷ s) names ts)
 commas e l s names ts h = rw (leb_true 16 l h) refl
 
-pub prefixes : (o : PrefixOperator) (p : Place) (l : ℕ) (s : List Frame) (names : Names) (ts : List Mark)
+pub prefixes : (o : PrefixOperator) (p : Place) (l : ℕ) (s : List Frame) (names : Names) (ts : List TokenMark)
     → step (state (seek l) s names (sign (prefix_sign o) p ∷ ts)) ≡ Some (state (seek (operand_level o)) (awaits_expression (behind_prefix p o l) ∷ s) names ts)
 prefixes prefix.Increment p l s names ts = refl
 prefixes _ p l s names ts = refl

@@ -6,15 +6,15 @@ use Rattle.dae_tree.specs.declared.expressions.Name.{Name}
 use Rattle.dae_tree.specs.declared.operators.BinaryOperator.{BinaryOperator}
 use Rattle.dae_tree.specs.declared.operators.AssignmentOperator.{AssignmentOperator}
 use Rattle.dae_tree.specs.declared.operators.PrefixOperator.{PrefixOperator}
-use Rattle.dae_tree.specs.Marks.{Mark}
+use Rattle.dae_tree.specs.Marks.{TokenMark}
 use Rattle.dae_tree.specs.Names.{Names}
 use Rattle.dae_tree.specs.declared.seen.Seen.{Seen}
 use Rattle.dae_tree.specs.Grammar.{Manner}
-use Rattle.dae_tree.specs.Lists.{MemberLine, Entry, Parameter}
-use Rattle.dae_tree.specs.Trees.{Expression, Specifiers, Specifier, Declarator, Initialiser, Item, Declaration, Statement, External}
+use Rattle.dae_tree.specs.Lists.{MemberLine, EnumEntry, Parameter}
+use Rattle.dae_tree.specs.Trees.{Expression, Specifiers, Specifier, Declarator, Initialiser, BlockItem, Declaration, Statement, External}
 
 -- the body of a structure or enumeration: its first word, tag and brace, and the specifiers before it, the last first
-pub record Body : Type 0 where
+pub record TypeBody : Type 0 where
   pub place : Place
   pub tag : Option Name
   pub brace : Place
@@ -22,18 +22,18 @@ pub record Body : Type 0 where
   pub before : List Specifier
 
 -- a function's parameters: what stands before them, and the names outside
-pub record Open : Type 0 where
+pub record OpenParameters : Type 0 where
   pub declarator : Declarator
   pub place : Place
   pub manner : Manner
   pub outside : Names
 
 -- a statement up to its test, with the place of its first word
-pub data Head : Type 0 where
-  if_head : Place → Head
-  while_head : Place → Head
-  switch_head : Place → Head
-  do_head : Place → Statement → Place → Head
+pub data StatementHead : Type 0 where
+  if_head : Place → StatementHead
+  while_head : Place → StatementHead
+  switch_head : Place → StatementHead
+  do_head : Place → Statement → Place → StatementHead
 
 -- the parts of a `for` before its step
 pub record Loop : Type 0 where
@@ -67,10 +67,10 @@ pub data ExpressionFrame : Type 0 where
   behind_assignment : Expression → Place → AssignmentOperator → ℕ → ExpressionFrame
   behind_comma : Expression → ℕ → ExpressionFrame
   in_size : Declarator → Place → Manner → ExpressionFrame
-  in_enumerator : Body → List Entry → Name → Place → ExpressionFrame
+  in_enumerator : TypeBody → List EnumEntry → Name → Place → ExpressionFrame
   in_value : ExpressionFrame
   in_evaluation : ExpressionFrame
-  in_test : Head → Place → ExpressionFrame
+  in_test : StatementHead → Place → ExpressionFrame
   in_start : Place → Place → ExpressionFrame
   in_loop_test : Place → Place → Option Expression → Place → ExpressionFrame
   in_step : Loop → ExpressionFrame
@@ -81,8 +81,8 @@ pub data ExpressionFrame : Type 0 where
 pub data SpecifiersFrame : Type 0 where
   for_cast : Place → ℕ → SpecifiersFrame
   for_sizeof : Place → Place → ℕ → SpecifiersFrame
-  for_parameter : Open → List Parameter → SpecifiersFrame
-  for_member : Body → List MemberLine → SpecifiersFrame
+  for_parameter : OpenParameters → List Parameter → SpecifiersFrame
+  for_member : TypeBody → List MemberLine → SpecifiersFrame
   for_declaration : Bool → SpecifiersFrame
 
 -- what awaits a declarator
@@ -91,14 +91,14 @@ pub data DeclaratorFrame : Type 0 where
   in_group : Place → Manner → DeclaratorFrame
   of_cast : Place → Specifiers → ℕ → DeclaratorFrame
   of_sizeof : Place → Place → Specifiers → ℕ → DeclaratorFrame
-  of_parameter : Open → List Parameter → Specifiers → DeclaratorFrame
-  of_member : Body → List MemberLine → Specifiers → List Declarator → DeclaratorFrame
-  of_item : Bool → Specifiers → List Item → DeclaratorFrame
+  of_parameter : OpenParameters → List Parameter → Specifiers → DeclaratorFrame
+  of_member : TypeBody → List MemberLine → Specifiers → List Declarator → DeclaratorFrame
+  of_item : Bool → Specifiers → List BlockItem → DeclaratorFrame
 
 -- what awaits an initialiser
 pub data InitialiserFrame : Type 0 where
   in_list : Place → List Initialiser → InitialiserFrame
-  of_value : Specifiers → List Item → Declarator → Place → InitialiserFrame
+  of_value : Specifiers → List BlockItem → Declarator → Place → InitialiserFrame
 
 -- what awaits a declaration
 pub data DeclarationFrame : Type 0 where
@@ -138,11 +138,11 @@ pub data Doing : Type 0 where
   specifying : Seen → List Specifier → Doing
   tagging : Bool → Place → Seen → List Specifier → Doing
   tagged : Bool → Place → Name → Seen → List Specifier → Doing
-  membering : Body → List MemberLine → Doing
-  enumerating : Body → List Entry → Doing
-  enumerated : Body → List Entry → Name → Doing
-  entered : Body → List Entry → Entry → Doing
-  entering : Body → List Entry → Entry → Doing
+  membering : TypeBody → List MemberLine → Doing
+  enumerating : TypeBody → List EnumEntry → Doing
+  enumerated : TypeBody → List EnumEntry → Name → Doing
+  entered : TypeBody → List EnumEntry → EnumEntry → Doing
+  entering : TypeBody → List EnumEntry → EnumEntry → Doing
   gave_specifiers : Specifiers → Doing
   -- declarators; the truth value says that some part must stand there
   declaring : Manner → Bool → Doing
@@ -156,14 +156,14 @@ pub data Doing : Type 0 where
   listing : Place → Initialiser → List Initialiser → Doing
   gave_initialiser : Initialiser → Doing
   -- declarations
-  itemed : Specifiers → Item → List Item → Doing
+  itemed : Specifiers → BlockItem → List BlockItem → Doing
   gave_declaration : Declaration → Doing
   externals : List External → Doing
   -- statements
   declarations : Inside → Doing
   statements : Inside → List Statement → Doing
   stating : Doing
-  opening : Head → Doing
+  opening : StatementHead → Doing
   finishing : Place → Statement → Place → Place → Expression → Doing
   looping : Place → Doing
   starting : Place → Place → Doing
@@ -175,5 +175,5 @@ pub data Doing : Type 0 where
   defaulting : Place → Doing
   gave_statement : Statement → Doing
 
-pub data State : Type 0 where
-  state : Doing → List Frame → Names → List Mark → State
+pub data ParserState : Type 0 where
+  state : Doing → List Frame → Names → List TokenMark → ParserState

@@ -1,11 +1,11 @@
 -- How strongly the token at the front goes on with an expression, and how weakly an expression's last operand is read.
 use Rattle.std.specs.Prelude.{ℕ, List, ◌∷◌}
-use Rattle.dae_tree.specs.Marks.{Mark, sign, part, comma}
+use Rattle.dae_tree.specs.Marks.{TokenMark, sign, part, comma}
 use Rattle.dae_tree.specs.Operators.{under}
 use Rattle.dae_tree.specs.Trees.{Expression, Prefix, SizeofExpression, Cast, Binary, Conditional, Assignment, Comma}
 use Rattle.dae_parse_grammar.specs.Machine.{operation, reach}
 
-abbrev pub front : List Mark → ℕ
+abbrev pub front : List TokenMark → ℕ
 front (sign g p ∷ ts) = reach (operation g)
 front (part comma ∷ ts) = 16
 front _ = 17

@@ -1,6 +1,6 @@
 -- A number that falls with each step of the machine.
 use Rattle.std.specs.Prelude.{ℕ, ◌+◌, ◌*◌, length}
-use Rattle.dae_parse_grammar.specs.Frames.{Doing, operated, calling, measuring, specifying, tagged, membering, enumerated, entering, gave_specifiers, declaring, qualifying, suffixing, sizing, parametering, initialising, listing, itemed, gave_declaration, externals, declarations, statements, stating, starting, testing, stepping, returning, gave_statement, State, state}
+use Rattle.dae_parse_grammar.specs.Frames.{Doing, operated, calling, measuring, specifying, tagged, membering, enumerated, entering, gave_specifiers, declaring, qualifying, suffixing, sizing, parametering, initialising, listing, itemed, gave_declaration, externals, declarations, statements, stating, starting, testing, stepping, returning, gave_statement, ParserState, state}
 
 -- how much may still be done before the next token is taken
 abbrev pub weight : Doing → ℕ
@@ -33,5 +33,5 @@ weight (returning p) = 3
 weight (gave_statement b) = 6
 weight _ = 0
 
-abbrev pub measure : State → ℕ
+abbrev pub measure : ParserState → ℕ
 measure (state d s names ts) = 12 * length ts + 2 * length s + weight d

@@ -3,16 +3,16 @@ use Rattle.std.specs.Prelude.{◌≡◌, ℕ, ◌≤◌, Bool, true, false, List
 use Rattle.dae_base.specs.declared.Place.{Place}
 use Rattle.dae_tree.specs.declared.signs.Sign.{Sign}
 use Rattle.dae_tree.specs.declared.signs.Sign.TheVariants as signs
-use Rattle.dae_tree.specs.Marks.{Mark, sign}
+use Rattle.dae_tree.specs.Marks.{TokenMark, sign}
 use Rattle.dae_tree.specs.Operators.{under, strength, operand_level}
 use Rattle.dae_tree.specs.declared.seen.Seen.{Seen}
 use Rattle.dae_tree.specs.Words.{nothing_seen, has_type, seen_after}
 use Rattle.dae_tree.specs.Names.{Names, has_typedef, with_name, with_declarator, after, after_specifiers, after_specifier, after_declarators, after_declarator, after_parameter, after_initialiser, after_item, after_declaration, after_optional, after_statement, after_external, inside_definition}
 use Rattle.dae_tree.specs.Grammar.{level, Manner, by_name, without_name, either_way, IsExpression, IsSpecifiers, IsSpecifier, AreDeclarators, IsDeclarator, IsDirect, IsPresent, IsGroup, HasDeclarator}
 use Rattle.dae_tree.specs.Statements.{IsInitialiser, IsItem, IsDeclaration, IsOptional, IsStatement, IsExternal, takes_else}
-use Rattle.dae_tree.specs.Trees.{Expression, Specifier, Declarator, Initialiser, Item, Declaration, Statement, External, Absent}
-use Rattle.dae_tree.specs.Lists.{MemberLine, Entry, Parameter}
-use Rattle.dae_parse_grammar.specs.Frames.{Body, Open, Head, Loop, Inside, do_head, Frame, in_parentheses, in_index, in_arguments, behind_prefix, behind_sizeof, behind_cast, behind_binary, behind_question, behind_colon, behind_assignment, behind_comma, in_size, in_enumerator, in_value, in_test, in_loop_test, in_step, in_case, for_cast, for_sizeof, for_parameter, for_member, behind_star, in_group, of_cast, of_sizeof, of_parameter, of_member, of_item, in_list, of_value, in_file, in_block, then_branch, else_branch, while_body, switch_body, for_body, case_body, in_statements, in_definition, Doing, seek, operated, gave, calling, measuring, specifying, tagging, tagged, membering, enumerating, enumerated, entered, entering, gave_specifiers, declaring, qualifying, suffixing, sizing, parametering, gave_declarator, listing, gave_initialiser, itemed, gave_declaration, externals, declarations, statements, opening, finishing, testing, stepping, gave_statement, State, state, awaits_expression, awaits_specifiers, awaits_declarator, awaits_initialiser, awaits_declaration, awaits_statement}
+use Rattle.dae_tree.specs.Trees.{Expression, Specifier, Declarator, Initialiser, BlockItem, Declaration, Statement, External, Absent}
+use Rattle.dae_tree.specs.Lists.{MemberLine, EnumEntry, Parameter}
+use Rattle.dae_parse_grammar.specs.Frames.{TypeBody, OpenParameters, StatementHead, Loop, Inside, do_head, Frame, in_parentheses, in_index, in_arguments, behind_prefix, behind_sizeof, behind_cast, behind_binary, behind_question, behind_colon, behind_assignment, behind_comma, in_size, in_enumerator, in_value, in_test, in_loop_test, in_step, in_case, for_cast, for_sizeof, for_parameter, for_member, behind_star, in_group, of_cast, of_sizeof, of_parameter, of_member, of_item, in_list, of_value, in_file, in_block, then_branch, else_branch, while_body, switch_body, for_body, case_body, in_statements, in_definition, Doing, seek, operated, gave, calling, measuring, specifying, tagging, tagged, membering, enumerating, enumerated, entered, entering, gave_specifiers, declaring, qualifying, suffixing, sizing, parametering, gave_declarator, listing, gave_initialiser, itemed, gave_declaration, externals, declarations, statements, opening, finishing, testing, stepping, gave_statement, ParserState, state, awaits_expression, awaits_specifiers, awaits_declarator, awaits_initialiser, awaits_declaration, awaits_statement}
 use Rattle.dae_parse_grammar.specs.Machine.{begins_parameters}
 use Rattle.dae_parse_grammar.specs.Starts.{IsNoElse}
 
@@ -34,10 +34,10 @@ abbrev pub after_entry_value : Option (Place × Expression) → Names → Names
 after_entry_value None n = n
 after_entry_value (Some v) n = after v.1 n
 
-abbrev pub after_entry : Entry → Names → Names
+abbrev pub after_entry : EnumEntry → Names → Names
 after_entry e n = with_name false e.name (after_entry_value e.value n)
 
-abbrev pub now_entries : List Entry → Names → Names
+abbrev pub now_entries : List EnumEntry → Names → Names
 now_entries [] n = n
 now_entries (e ∷ before) n = after_entry e (now_entries before n)
 
@@ -53,7 +53,7 @@ abbrev pub now_initialisers : List Initialiser → Names → Names
 now_initialisers [] n = n
 now_initialisers (x ∷ before) n = after_initialiser x (now_initialisers before n)
 
-abbrev pub now_items : Bool → List Item → Names → Names
+abbrev pub now_items : Bool → List BlockItem → Names → Names
 now_items is [] n = n
 now_items is (i ∷ before) n = after_item is i (now_items is before n)
 
@@ -69,7 +69,7 @@ abbrev pub now_externals : List External → Names → Names
 now_externals [] n = n
 now_externals (x ∷ before) n = after_external x (now_externals before n)
 
-abbrev pub head_names : Head → Names → Names
+abbrev pub head_names : StatementHead → Names → Names
 head_names (do_head p b q) n = after_statement b n
 head_names _ n = n
 
@@ -172,7 +172,7 @@ abbrev pub EntryValueHolds : Names → Option (Place × Expression) → Type 0
 EntryValueHolds n None = Unit {0}
 EntryValueHolds n (Some v) = (level v.1 ≤ 14) × IsExpression n v.1
 
-abbrev pub EntriesHold : Names → List Entry → Type 0
+abbrev pub EntriesHold : Names → List EnumEntry → Type 0
 EntriesHold n [] = Unit {0}
 EntriesHold n (e ∷ before) = EntriesHold n before × EntryValueHolds (now_entries before n) e.value
 
@@ -190,7 +190,7 @@ abbrev pub InitialisersHold : Names → List Initialiser → Type 0
 InitialisersHold n [] = Unit {0}
 InitialisersHold n (x ∷ before) = InitialisersHold n before × IsInitialiser (now_initialisers before n) x
 
-abbrev pub ItemsHold : Bool → Names → List Item → Type 0
+abbrev pub ItemsHold : Bool → Names → List BlockItem → Type 0
 ItemsHold is n [] = Unit {0}
 ItemsHold is n (i ∷ before) = ItemsHold is n before × IsItem is (now_items is before n) i
 
@@ -250,13 +250,13 @@ MustStand _ d = Unit {0}
 abbrev pub IsBegun : Manner → List Frame → Declarator → Type 0
 IsBegun m s d = (m ≡ manner s) × IsDirect d × IsDeclarator m (stack_names s) d × MayStand s (stack_names s) d
 
-abbrev pub IsBody : Names → Body → Type 0
+abbrev pub IsBody : Names → TypeBody → Type 0
 IsBody n b = (b.seen ≡ seen_now b.before) × SpecifiersHold n b.before × (has_type b.seen ≡ false)
 
-abbrev pub IsOpen : List Frame → Open → Type 0
+abbrev pub IsOpen : List Frame → OpenParameters → Type 0
 IsOpen s o = IsBegun o.manner s o.declarator × (o.outside ≡ after_declarator o.declarator (stack_names s))
 
-abbrev pub IsHead : Names → Head → Type 0
+abbrev pub IsHead : Names → StatementHead → Type 0
 IsHead n (do_head p b q) = IsStatement n b
 IsHead n _ = Unit {0}
 
@@ -320,7 +320,7 @@ IsStack (f ∷ s) = IsFrame f s (stack_names s) × IsStack s
 -- ---- states
 
 -- in parentheses that may hold parameters, what stands ahead begins none
-abbrev pub IsGroupAhead : List Frame → Names → List Mark → Type 0
+abbrev pub IsGroupAhead : List Frame → Names → List TokenMark → Type 0
 IsGroupAhead (awaits_declarator (in_group p by_name) ∷ s) n ts = Unit {0}
 IsGroupAhead (awaits_declarator (in_group p m) ∷ s) n ts = begins_parameters n ts ≡ false
 IsGroupAhead _ n ts = Unit {0}
@@ -335,15 +335,15 @@ IsSuffixSign signs.LeftBracket = Unit {0}
 IsSuffixSign signs.LeftParen = Unit {0}
 IsSuffixSign _ = ⊥
 
-abbrev pub IsSuffixAhead : List Mark → Type 0
+abbrev pub IsSuffixAhead : List TokenMark → Type 0
 IsSuffixAhead (sign g p ∷ ts) = IsSuffixSign g
 IsSuffixAhead _ = ⊥
 
-abbrev pub HasAhead : Declarator → List Mark → Type 0
+abbrev pub HasAhead : Declarator → List TokenMark → Type 0
 HasAhead Absent ts = IsSuffixAhead ts
 HasAhead _ ts = Unit {0}
 
-abbrev pub IsDoing : Doing → List Frame → Names → List Mark → Type 0
+abbrev pub IsDoing : Doing → List Frame → Names → List TokenMark → Type 0
 IsDoing (seek l) s n ts = l ≡ limit s
 IsDoing (operated e l) s n ts = (l ≡ limit s) × (level e ≤ l) × IsExpression n e
 IsDoing (gave e) s n ts = (level e ≤ limit s) × IsExpression n e
@@ -378,5 +378,5 @@ IsDoing (stepping l) s n ts = IsLoop n l
 IsDoing (gave_statement b) s n ts = IsStatement n b × (takes_else b ≡ true → IsNoElse ts)
 IsDoing _ s n ts = Unit {0}
 
-abbrev pub Holds : State → Type 0
+abbrev pub Holds : ParserState → Type 0
 Holds (state d s names ts) = (names ≡ doing_names d (stack_names s)) × IsDoing d s (stack_names s) ts × IsStack s

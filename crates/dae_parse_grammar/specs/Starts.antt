@@ -4,7 +4,7 @@ use Rattle.dae_tree.specs.declared.words.Keyword.{Keyword}
 use Rattle.dae_tree.specs.declared.words.Keyword.TheVariants as keywords
 use Rattle.dae_tree.specs.declared.signs.Sign.{Sign}
 use Rattle.dae_tree.specs.declared.signs.Sign.TheVariants as signs
-use Rattle.dae_tree.specs.Marks.{Mark, word, sign, name, constant, literal, part, else_word}
+use Rattle.dae_tree.specs.Marks.{TokenMark, word, sign, name, constant, literal, part, else_word}
 use Rattle.dae_tree.specs.Operators.{prefix_at}
 use Rattle.dae_tree.specs.Names.{Names, is_type}
 
@@ -18,7 +18,7 @@ IsStartWord keywords.Sizeof = Unit {0}
 IsStartWord _ = ⊥
 
 -- the first token of an expression
-abbrev pub Starts : Names → List Mark → Type 0
+abbrev pub Starts : Names → List TokenMark → Type 0
 Starts names (name n ∷ ts) = is_type names n.number ≡ false
 Starts names (constant p c ∷ ts) = Unit {0}
 Starts names (literal p n ∷ ts) = Unit {0}
@@ -31,7 +31,7 @@ IsSignBehindSpecifiers signs.LeftBrace = ⊥
 IsSignBehindSpecifiers _ = Unit {0}
 
 -- what follows specifiers: a declarator, or what follows declarators where there is none
-abbrev pub FollowsSpecifiers : List Mark → Type 0
+abbrev pub FollowsSpecifiers : List TokenMark → Type 0
 FollowsSpecifiers (name n ∷ ts) = Unit {0}
 FollowsSpecifiers (part c ∷ ts) = Unit {0}
 FollowsSpecifiers (sign g p ∷ ts) = IsSignBehindSpecifiers g
@@ -44,15 +44,15 @@ IsSignBehindDeclarator signs.LeftBrace = Unit {0}
 IsSignBehindDeclarator _ = ⊥
 
 -- what follows a declarator
-abbrev pub FollowsDeclarator : List Mark → Type 0
+abbrev pub FollowsDeclarator : List TokenMark → Type 0
 FollowsDeclarator (part c ∷ ts) = Unit {0}
 FollowsDeclarator (sign g p ∷ ts) = IsSignBehindDeclarator g
 FollowsDeclarator _ = ⊥
 
-abbrev pub IsNoElse : List Mark → Type 0
+abbrev pub IsNoElse : List TokenMark → Type 0
 IsNoElse (part else_word ∷ ts) = ⊥
 IsNoElse _ = Unit {0}
 
-abbrev pub IsNoSemicolon : List Mark → Type 0
+abbrev pub IsNoSemicolon : List TokenMark → Type 0
 IsNoSemicolon (sign signs.Semicolon p ∷ ts) = ⊥
 IsNoSemicolon _ = Unit {0}

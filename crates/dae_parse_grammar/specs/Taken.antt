@@ -4,68 +4,68 @@ use Rattle.dae_base.specs.declared.Place.{Place}
 use Rattle.dae_tree.specs.declared.words.Keyword.{Keyword}
 use Rattle.dae_tree.specs.declared.words.Keyword.TheVariants as keywords
 use Rattle.dae_tree.specs.declared.signs.Sign.TheVariants as signs
-use Rattle.dae_tree.specs.Marks.{Mark, word, sign, name, part, close_paren, comma, colon, else_word}
+use Rattle.dae_tree.specs.Marks.{TokenMark, word, sign, name, part, close_paren, comma, colon, else_word}
 use Rattle.dae_tree.specs.Operators.{binary_sign, assignment_sign, prefix_sign}
 use Rattle.dae_tree.specs.Spelling.{spell, spell_specifiers, spell_specifier, spell_declarators, spell_declarator, spell_qualifiers, spell_tag}
 use Rattle.dae_tree.specs.Statements.{spell_initialiser, spell_item, spell_declaration, spell_optional, spell_test, spell_statement, spell_external}
-use Rattle.dae_tree.specs.Trees.{Expression, Specifier, Declarator, Initialiser, Item, Declaration, Statement, External}
-use Rattle.dae_tree.specs.Lists.{MemberLine, Entry, Parameter}
-use Rattle.dae_parse_grammar.specs.Frames.{Body, Open, Head, Loop, Inside, if_head, while_head, switch_head, do_head, Frame, in_parentheses, in_index, in_arguments, behind_prefix, behind_sizeof, behind_cast, behind_binary, behind_question, behind_colon, behind_assignment, behind_comma, in_size, in_enumerator, in_value, in_evaluation, in_test, in_start, in_loop_test, in_step, in_return, in_case, for_cast, for_sizeof, for_parameter, for_member, for_declaration, behind_star, in_group, of_cast, of_sizeof, of_parameter, of_member, of_item, in_list, of_value, in_file, in_block, then_branch, else_branch, while_body, switch_body, do_body, for_body, case_body, default_body, in_statements, in_definition, Doing, seek, operated, gave, calling, measuring, specifying, tagging, tagged, membering, enumerating, enumerated, entered, entering, gave_specifiers, declaring, qualifying, suffixing, sizing, parametering, gave_declarator, initialising, listing, gave_initialiser, itemed, gave_declaration, externals, declarations, statements, stating, opening, finishing, looping, starting, testing, stepping, returning, breaking, continuing, defaulting, gave_statement, State, state, awaits_expression, awaits_specifiers, awaits_declarator, awaits_initialiser, awaits_declaration, awaits_statement}
+use Rattle.dae_tree.specs.Trees.{Expression, Specifier, Declarator, Initialiser, BlockItem, Declaration, Statement, External}
+use Rattle.dae_tree.specs.Lists.{MemberLine, EnumEntry, Parameter}
+use Rattle.dae_parse_grammar.specs.Frames.{TypeBody, OpenParameters, StatementHead, Loop, Inside, if_head, while_head, switch_head, do_head, Frame, in_parentheses, in_index, in_arguments, behind_prefix, behind_sizeof, behind_cast, behind_binary, behind_question, behind_colon, behind_assignment, behind_comma, in_size, in_enumerator, in_value, in_evaluation, in_test, in_start, in_loop_test, in_step, in_return, in_case, for_cast, for_sizeof, for_parameter, for_member, for_declaration, behind_star, in_group, of_cast, of_sizeof, of_parameter, of_member, of_item, in_list, of_value, in_file, in_block, then_branch, else_branch, while_body, switch_body, do_body, for_body, case_body, default_body, in_statements, in_definition, Doing, seek, operated, gave, calling, measuring, specifying, tagging, tagged, membering, enumerating, enumerated, entered, entering, gave_specifiers, declaring, qualifying, suffixing, sizing, parametering, gave_declarator, initialising, listing, gave_initialiser, itemed, gave_declaration, externals, declarations, statements, stating, opening, finishing, looping, starting, testing, stepping, returning, breaking, continuing, defaulting, gave_statement, ParserState, state, awaits_expression, awaits_specifiers, awaits_declarator, awaits_initialiser, awaits_declaration, awaits_statement}
 
 -- ---- lists that were read, the last first; a comma behind each where commas part them
 
-abbrev pub arguments_before : List Expression → List Mark → List Mark
+abbrev pub arguments_before : List Expression → List TokenMark → List TokenMark
 arguments_before [] ts = ts
 arguments_before (a ∷ before) ts = arguments_before before (spell a (part comma ∷ ts))
 
-abbrev pub specifiers_before : List Specifier → List Mark → List Mark
+abbrev pub specifiers_before : List Specifier → List TokenMark → List TokenMark
 specifiers_before [] ts = ts
 specifiers_before (w ∷ before) ts = specifiers_before before (spell_specifier w ts)
 
-abbrev pub lines_before : List MemberLine → List Mark → List Mark
+abbrev pub lines_before : List MemberLine → List TokenMark → List TokenMark
 lines_before [] ts = ts
 lines_before (m ∷ before) ts = lines_before before (spell_specifiers m.specifiers (spell_declarators m.declarators (sign signs.Semicolon m.end ∷ ts)))
 
-abbrev pub entry_value : Option (Place × Expression) → List Mark → List Mark
+abbrev pub entry_value : Option (Place × Expression) → List TokenMark → List TokenMark
 entry_value None ts = ts
 entry_value (Some v) ts = sign signs.Assign v.0 ∷ spell v.1 ts
 
-abbrev pub spell_entry : Entry → List Mark → List Mark
+abbrev pub spell_entry : EnumEntry → List TokenMark → List TokenMark
 spell_entry e ts = name e.name ∷ entry_value e.value ts
 
-abbrev pub entries_before : List Entry → List Mark → List Mark
+abbrev pub entries_before : List EnumEntry → List TokenMark → List TokenMark
 entries_before [] ts = ts
 entries_before (e ∷ before) ts = entries_before before (spell_entry e (part comma ∷ ts))
 
-abbrev pub declarators_before : List Declarator → List Mark → List Mark
+abbrev pub declarators_before : List Declarator → List TokenMark → List TokenMark
 declarators_before [] ts = ts
 declarators_before (d ∷ before) ts = declarators_before before (spell_declarator d (part comma ∷ ts))
 
-abbrev pub parameters_before : List Parameter → List Mark → List Mark
+abbrev pub parameters_before : List Parameter → List TokenMark → List TokenMark
 parameters_before [] ts = ts
 parameters_before (p ∷ before) ts = parameters_before before (spell_specifiers p.specifiers (spell_declarator p.declarator (part comma ∷ ts)))
 
-abbrev pub qualifiers_before : List Place → List Mark → List Mark
+abbrev pub qualifiers_before : List Place → List TokenMark → List TokenMark
 qualifiers_before [] ts = ts
 qualifiers_before (q ∷ before) ts = qualifiers_before before (word keywords.Const q ∷ ts)
 
-abbrev pub initialisers_before : List Initialiser → List Mark → List Mark
+abbrev pub initialisers_before : List Initialiser → List TokenMark → List TokenMark
 initialisers_before [] ts = ts
 initialisers_before (x ∷ before) ts = initialisers_before before (spell_initialiser x (part comma ∷ ts))
 
-abbrev pub items_before : List Item → List Mark → List Mark
+abbrev pub items_before : List BlockItem → List TokenMark → List TokenMark
 items_before [] ts = ts
 items_before (i ∷ before) ts = items_before before (spell_item i (part comma ∷ ts))
 
-abbrev pub declarations_before : List Declaration → List Mark → List Mark
+abbrev pub declarations_before : List Declaration → List TokenMark → List TokenMark
 declarations_before [] ts = ts
 declarations_before (d ∷ before) ts = declarations_before before (spell_declaration d ts)
 
-abbrev pub statements_before : List Statement → List Mark → List Mark
+abbrev pub statements_before : List Statement → List TokenMark → List TokenMark
 statements_before [] ts = ts
 statements_before (b ∷ before) ts = statements_before before (spell_statement b ts)
 
-abbrev pub externals_before : List External → List Mark → List Mark
+abbrev pub externals_before : List External → List TokenMark → List TokenMark
 externals_before [] ts = ts
 externals_before (x ∷ before) ts = externals_before before (spell_external x ts)
 
@@ -75,26 +75,26 @@ abbrev pub tag_word : Bool → Keyword
 tag_word true = keywords.Struct
 tag_word false = keywords.Enum
 
-abbrev pub body_begun : Bool → Body → List Mark → List Mark
+abbrev pub body_begun : Bool → TypeBody → List TokenMark → List TokenMark
 body_begun is b ts = specifiers_before b.before (word (tag_word is) b.place ∷ spell_tag b.tag (sign signs.LeftBrace b.brace ∷ ts))
 
-abbrev pub open_begun : Open → List Mark → List Mark
+abbrev pub open_begun : OpenParameters → List TokenMark → List TokenMark
 open_begun o ts = spell_declarator o.declarator (sign signs.LeftParen o.place ∷ ts)
 
-abbrev pub head_taken : Head → List Mark → List Mark
+abbrev pub head_taken : StatementHead → List TokenMark → List TokenMark
 head_taken (if_head p) ts = word keywords.If p ∷ ts
 head_taken (while_head p) ts = word keywords.While p ∷ ts
 head_taken (switch_head p) ts = word keywords.Switch p ∷ ts
 head_taken (do_head p b q) ts = word keywords.Do p ∷ spell_statement b (word keywords.While q ∷ ts)
 
-abbrev pub loop_begun : Loop → List Mark → List Mark
+abbrev pub loop_begun : Loop → List TokenMark → List TokenMark
 loop_begun l ts =
     word keywords.For l.word ∷ sign signs.LeftParen l.paren ∷ spell_optional l.start (sign signs.Semicolon l.first ∷ spell_optional l.test (sign signs.Semicolon l.second ∷ ts))
 
-abbrev pub block_taken : Inside → List Mark → List Mark
+abbrev pub block_taken : Inside → List TokenMark → List TokenMark
 block_taken i ts = sign signs.LeftBrace i.place ∷ declarations_before i.declarations ts
 
-abbrev pub frame_taken : Frame → List Mark → List Mark
+abbrev pub frame_taken : Frame → List TokenMark → List TokenMark
 frame_taken (awaits_expression (in_parentheses p l)) ts = sign signs.LeftParen p ∷ ts
 frame_taken (awaits_expression (in_index a p l)) ts = spell a (sign signs.LeftBracket p ∷ ts)
 frame_taken (awaits_expression (in_arguments g p before l)) ts = spell g (sign signs.LeftParen p ∷ arguments_before before ts)
@@ -143,11 +143,11 @@ frame_taken (awaits_statement (default_body p)) ts = word keywords.Default p ∷
 frame_taken (awaits_statement (in_statements i before)) ts = block_taken i (statements_before before ts)
 frame_taken (awaits_statement (in_definition ws d outside)) ts = spell_specifiers ws (spell_declarator d ts)
 
-abbrev pub stack_taken : List Frame → List Mark → List Mark
+abbrev pub stack_taken : List Frame → List TokenMark → List TokenMark
 stack_taken [] ts = ts
 stack_taken (f ∷ s) ts = stack_taken s (frame_taken f ts)
 
-abbrev pub doing_taken : Doing → List Mark → List Mark
+abbrev pub doing_taken : Doing → List TokenMark → List TokenMark
 doing_taken (seek l) ts = ts
 doing_taken (operated e l) ts = spell e ts
 doing_taken (gave e) ts = spell e ts
@@ -190,5 +190,5 @@ doing_taken (defaulting p) ts = word keywords.Default p ∷ ts
 doing_taken (gave_statement b) ts = spell_statement b ts
 
 -- all tokens, those that were taken and those that are left
-abbrev pub tokens_of : State → List Mark
+abbrev pub tokens_of : ParserState → List TokenMark
 tokens_of (state d s names ts) = stack_taken s (doing_taken d ts)

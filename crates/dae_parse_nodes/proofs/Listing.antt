@@ -11,7 +11,7 @@ use Rattle.dae_tree.specs.declared.expressions.Enumerator.TheVariants as enumera
 use Rattle.dae_tree.specs.declared.expressions.Declarator.{Declarator}
 use Rattle.dae_tree.specs.declared.expressions.Parameter.{Parameter}
 use Rattle.dae_tree.specs.declared.statements.Initialiser.{Initialiser}
-use Rattle.dae_tree.specs.declared.statements.Item.{Item}
+use Rattle.dae_tree.specs.declared.statements.BlockItem.{BlockItem}
 use Rattle.dae_tree.specs.declared.statements.Declaration.{Declaration}
 use Rattle.dae_tree.specs.declared.statements.Statement.{Statement}
 use Rattle.dae_tree.specs.Trees as tree
@@ -111,7 +111,7 @@ shows_members read before h = subst (λ rows. Shows (λ (list : Vec Member Globa
   seen = see_members read.tree (onto before []) h.seen;
 })
 
-abbrev rows_enumerators : List lists.Entry → tree.Enumerators
+abbrev rows_enumerators : List lists.EnumEntry → tree.Enumerators
 rows_enumerators [] = tree.no_enumerators
 rows_enumerators (a ∷ list) = enumerator_before a (rows_enumerators list)
 
@@ -120,7 +120,7 @@ seen_enumerators [] = refl
 seen_enumerators (enumerator.Plain n ∷ xs) = ap (tree.plain_then n) (seen_enumerators xs)
 seen_enumerators (enumerator.Valued n p e ∷ xs) = ap (tree.valued_then n p (view e)) (seen_enumerators xs)
 
-onto_enumerators : (before list : List lists.Entry) → enumerators_onto before (rows_enumerators list) ≡ rows_enumerators (onto before list)
+onto_enumerators : (before list : List lists.EnumEntry) → enumerators_onto before (rows_enumerators list) ≡ rows_enumerators (onto before list)
 onto_enumerators [] list = refl
 onto_enumerators (a ∷ before) list = onto_enumerators before (a ∷ list)
 
@@ -129,18 +129,18 @@ value_first : (n : Name) (v : Option (Place × tree.Expression)) (es : tree.Enum
 value_first n None es i x h = h
 value_first n (Some v) es i x h = ap (or_else (firsts v.1 i)) h
 
-entry_first : (e : lists.Entry) (es : tree.Enumerators) (i : ℕ) (x : Option Place) → x ≡ firsts_enumerators es i → or_else (firsts_entry e i) x ≡ firsts_enumerators (enumerator_before e es) i
+entry_first : (e : lists.EnumEntry) (es : tree.Enumerators) (i : ℕ) (x : Option Place) → x ≡ firsts_enumerators es i → or_else (firsts_entry e i) x ≡ firsts_enumerators (enumerator_before e es) i
 entry_first e es i x h = value_first e.name e.value es i x h
 
-first_enumerators : (list : List lists.Entry) (i : ℕ) → firsts_list firsts_entry list i ≡ firsts_enumerators (rows_enumerators list) i
+first_enumerators : (list : List lists.EnumEntry) (i : ℕ) → firsts_list firsts_entry list i ≡ firsts_enumerators (rows_enumerators list) i
 first_enumerators [] i = refl
 first_enumerators (a ∷ list) i = entry_first a (rows_enumerators list) i (firsts_list firsts_entry list i) (first_enumerators list i)
 
-see_enumerators : (o : Option (Vec Enumerator Global)) (list : List lists.Entry) → IsSeen (λ list. map view_entry list.items) o list → IsSeen (λ list. views_enumerators list.items) o (rows_enumerators list)
+see_enumerators : (o : Option (Vec Enumerator Global)) (list : List lists.EnumEntry) → IsSeen (λ list. map view_entry list.items) o list → IsSeen (λ list. views_enumerators list.items) o (rows_enumerators list)
 see_enumerators None list h = tt
 see_enumerators (Some v) list h = seen_enumerators v.items ∙ ap rows_enumerators h
 
-pub shows_enumerators : (read : Read (Vec Enumerator Global)) (before : List lists.Entry) → ShowsEnumerators read before → Shows (λ list. views_enumerators list.items) firsts_enumerators read (enumerators_onto before tree.no_enumerators)
+pub shows_enumerators : (read : Read (Vec Enumerator Global)) (before : List lists.EnumEntry) → ShowsEnumerators read before → Shows (λ list. views_enumerators list.items) firsts_enumerators read (enumerators_onto before tree.no_enumerators)
 shows_enumerators read before h = subst (λ rows. Shows (λ (list : Vec Enumerator Global). views_enumerators list.items) firsts_enumerators read rows) (sym (onto_enumerators before [])) (record {
   holds = holds_same read _ _ (first_enumerators (onto before [])) h.holds;
   seen = see_enumerators read.tree (onto before []) h.seen;
@@ -251,21 +251,21 @@ shows_statements read before h = subst (λ rows. Shows (λ (list : Vec Statement
   seen = see_statements read.tree (onto before []) h.seen;
 })
 
-seen_items : (xs : List Item) → view_items xs ≡ map view_item xs
+seen_items : (xs : List BlockItem) → view_items xs ≡ map view_item xs
 seen_items [] = refl
 seen_items (x ∷ xs) = ap (λ ys. view_item x ∷ ys) (seen_items xs)
 
-first_items : (list : List tree.Item) (i : ℕ) → firsts_list firsts_item list i ≡ firsts_items list i
+first_items : (list : List tree.BlockItem) (i : ℕ) → firsts_list firsts_item list i ≡ firsts_items list i
 first_items [] i = refl
 first_items (a ∷ list) i =
     sym (or_else_along (firsts_declarator a.declarator i) (firsts_value a.initialiser i) (firsts_list firsts_item list i))
     ∙ ap (λ x. or_else (firsts_declarator a.declarator i) (or_else (firsts_value a.initialiser i) x)) (first_items list i)
 
-see_items : (o : Option (Vec Item Global)) (list : List tree.Item) → IsSeen (λ list. map view_item list.items) o list → IsSeen (λ list. view_items list.items) o list
+see_items : (o : Option (Vec BlockItem Global)) (list : List tree.BlockItem) → IsSeen (λ list. map view_item list.items) o list → IsSeen (λ list. view_items list.items) o list
 see_items None list h = tt
 see_items (Some v) list h = seen_items v.items ∙ h
 
-pub shows_items : (read : Read (Vec Item Global)) (before : List tree.Item) → ShowsItems read before → Shows (λ list. view_items list.items) firsts_items read (onto before [])
+pub shows_items : (read : Read (Vec BlockItem Global)) (before : List tree.BlockItem) → ShowsItems read before → Shows (λ list. view_items list.items) firsts_items read (onto before [])
 shows_items read before h = record {
   holds = holds_same read _ _ (first_items (onto before [])) h.holds;
   seen = see_items read.tree (onto before []) h.seen;

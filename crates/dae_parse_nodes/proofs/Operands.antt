@@ -11,10 +11,10 @@ use Rattle.dae_parse_grammar.specs.FirstPlaces.{Places, firsts, over}
 use Rattle.dae_parse_parts.specs.declared.reading.Read.{Read}
 use Rattle.dae_parse_parts.specs.Shown.{Holds, Shows, IsMade, box_value}
 use Rattle.dae_parse_parts.proofs.Laws.{shows_node}
-use Rattle.dae_parse_nodes.specs.declared.values.Operand.{Operand}
+use Rattle.dae_parse_nodes.specs.declared.values.ReadOperand.{ReadOperand}
 use Rattle.dae_parse_nodes.specs.Parts.{ShowsOperand}
 
-pub operand_shown : {T B E : Type 0} (vt : T → B) (ft : B → Places) (make : T → Expression → Type 0) (p : Place) (l : ℕ) (part : Read T) (result : Result Operand E) (b : B) (e : tree.Expression)
+pub operand_shown : {T B E : Type 0} (vt : T → B) (ft : B → Places) (make : T → Expression → Type 0) (p : Place) (l : ℕ) (part : Read T) (result : Result ReadOperand E) (b : B) (e : tree.Expression)
     → Shows vt ft part b → ((f : Places) → Holds part f → IfOk result (λ r. Holds r.read (over p f) × IsMade make part.tree (box_value r.read.tree)))
     → IfOk result (λ r. (r.level ≡ l) × (r.place ≡ p)) → over p (ft b) ≡ firsts e → l ≡ level e → p ≡ place_of e
     → ((t : T) (n : Expression) → make t n → vt t ≡ b → view n ≡ e) → IfOk result (λ r. ShowsOperand r e)

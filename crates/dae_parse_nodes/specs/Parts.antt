@@ -13,7 +13,7 @@ use Rattle.dae_tree.specs.declared.expressions.Enumerator.TheVariants as enumera
 use Rattle.dae_tree.specs.declared.expressions.Declarator.{Declarator}
 use Rattle.dae_tree.specs.declared.expressions.Parameter.{Parameter}
 use Rattle.dae_tree.specs.declared.statements.Initialiser.{Initialiser}
-use Rattle.dae_tree.specs.declared.statements.Item.{Item}
+use Rattle.dae_tree.specs.declared.statements.BlockItem.{BlockItem}
 use Rattle.dae_tree.specs.declared.statements.Declaration.{Declaration}
 use Rattle.dae_tree.specs.declared.statements.Statement.{Statement}
 use Rattle.dae_tree.specs.declared.statements.External.{External}
@@ -28,7 +28,7 @@ use Rattle.dae_tree.specs.Lists as lists
 use Rattle.dae_parse_grammar.specs.Frames as frames
 use Rattle.dae_parse_grammar.specs.Machine.{parameters_onto}
 use Rattle.dae_parse_parts.specs.declared.reading.Read.{Read}
-use Rattle.dae_parse_nodes.specs.declared.values.Operand.{Operand}
+use Rattle.dae_parse_nodes.specs.declared.values.ReadOperand.{ReadOperand}
 use Rattle.dae_parse_nodes.specs.declared.values.Specified.{Specified}
 use Rattle.dae_parse_nodes.specs.declared.values.Declared.{Declared}
 use Rattle.dae_parse_nodes.specs.declared.values.ParameterList.{ParameterList}
@@ -41,7 +41,7 @@ use Rattle.dae_parse_parts.specs.ShownNames.{bound_all}
 abbrev pub ShowsExpression : Read (Box Expression Global) → tree.Expression → Type 0
 ShowsExpression = Shows (in_box view) firsts
 
-pub record ShowsOperand (o : Operand) (e : tree.Expression) : Type 0 where
+pub record ShowsOperand (o : ReadOperand) (e : tree.Expression) : Type 0 where
   pub read : ShowsExpression o.read e
   pub level : o.level ≡ level e
   pub place : o.place ≡ place_of e
@@ -50,7 +50,7 @@ abbrev pub ShowsArguments : Read (Vec Expression Global) → List tree.Expressio
 ShowsArguments = ShowsList view firsts
 
 -- an operand that may be lacking
-abbrev pub ShowsOptional : Option Operand → Option tree.Expression → Type 0
+abbrev pub ShowsOptional : Option ReadOperand → Option tree.Expression → Type 0
 ShowsOptional None None = Unit {0}
 ShowsOptional (Some o) (Some e) = ShowsOperand o e
 ShowsOptional _ _ = ⊥
@@ -96,14 +96,14 @@ firsts_line m = both (firsts_specifiers m.specifiers) (firsts_declarators m.decl
 abbrev pub ShowsMembers : Read (Vec Member Global) → List lists.MemberLine → Type 0
 ShowsMembers = ShowsList view_line firsts_line
 
-abbrev pub view_entry : Enumerator → lists.Entry
+abbrev pub view_entry : Enumerator → lists.EnumEntry
 view_entry (enumerator.Plain n) = record { name = n; value = None }
 view_entry (enumerator.Valued n p e) = record { name = n; value = Some (p, view e) }
 
-abbrev pub firsts_entry : lists.Entry → Places
+abbrev pub firsts_entry : lists.EnumEntry → Places
 firsts_entry e = elim e.value [ None ↦ nowhere | Some v ↦ firsts v.1 ]
 
-abbrev pub ShowsEnumerators : Read (Vec Enumerator Global) → List lists.Entry → Type 0
+abbrev pub ShowsEnumerators : Read (Vec Enumerator Global) → List lists.EnumEntry → Type 0
 ShowsEnumerators = ShowsList view_entry firsts_entry
 
 -- ---- declarators
@@ -156,10 +156,10 @@ ShowsInitialiser = Shows view_initialiser firsts_initialiser
 abbrev pub ShowsInitialisers : Read (Vec Initialiser Global) → List tree.Initialiser → Type 0
 ShowsInitialisers = ShowsList view_initialiser firsts_initialiser
 
-abbrev pub firsts_item : tree.Item → Places
+abbrev pub firsts_item : tree.BlockItem → Places
 firsts_item i = both (firsts_declarator i.declarator) (firsts_value i.initialiser)
 
-abbrev pub ShowsItems : Read (Vec Item Global) → List tree.Item → Type 0
+abbrev pub ShowsItems : Read (Vec BlockItem Global) → List tree.BlockItem → Type 0
 ShowsItems = ShowsList view_item firsts_item
 
 abbrev pub ShowsDeclaration : Read Declaration → tree.Declaration → Type 0

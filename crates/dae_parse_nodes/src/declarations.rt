@@ -11,14 +11,14 @@ ghost use Rattle.dae_tree.specs.Depth.{place_of_specifiers};
 ghost use Rattle.dae_parse_grammar.specs.Machine.{initialisers_onto, onto};
 ghost use Rattle.dae_parse_nodes.specs.Parts.{ShowsOperand, ShowsSpecified, ShowsDeclared, ShowsInitialiser, ShowsInitialisers, ShowsItems, ShowsDeclaration, ShowsDeclarations, ShowsStatement, ShowsExternal, ShowsExternals};
 
-use crate::values::{Declared, Operand, Specified};
+use crate::values::{Declared, ReadOperand, Specified};
 use dae_base::Place;
-use dae_parse_parts::{Depths, Read, beside, longer, over};
-use dae_tree::{Block, Declaration, External, Initialiser, Item, Statement, TrailingComma};
+use dae_parse_parts::{Read, TreeDepths, beside, longer, over};
+use dae_tree::{Block, BlockItem, Declaration, External, Initialiser, Statement, TrailingComma};
 use std::alloc::{AllocError, Global};
 
 /// An expression as an initialiser.
-pub fn value(operand: Operand) -> Read<Initialiser>
+pub fn value(operand: ReadOperand) -> Read<Initialiser>
     ensures { (e : tree.Expression) → ShowsOperand operand e
         → ShowsInitialiser result (tree.Value e) }
 {
@@ -62,16 +62,16 @@ pub fn initialiser_list(
 
 /// A declarator without a value more.
 pub fn with_plain_item(
-    before: Read<Vec<Item>>,
+    before: Read<Vec<BlockItem>>,
     declared: Declared,
-) -> Result<Read<Vec<Item>>, AllocError>
-    ensures { (items : List tree.Item) (d : tree.Declarator) → ShowsItems before items
+) -> Result<Read<Vec<BlockItem>>, AllocError>
+    ensures { (items : List tree.BlockItem) (d : tree.Declarator) → ShowsItems before items
         → ShowsDeclared declared d
         → IfOk result (λ r. ShowsItems r (record { declarator = d; initialiser = None } ∷ items)) }
 {
     let Read { tree, depths } = declared.read;
     let tree = match tree {
-        Some(declarator) => Some(Item {
+        Some(declarator) => Some(BlockItem {
             declarator,
             initialiser: None,
         }),
@@ -82,19 +82,19 @@ pub fn with_plain_item(
 
 /// A declarator with its initialiser more.
 pub fn with_valued_item(
-    before: Read<Vec<Item>>,
+    before: Read<Vec<BlockItem>>,
     declared: Declared,
     place: Place,
     value: Read<Initialiser>,
-) -> Result<Read<Vec<Item>>, AllocError>
-    ensures { (items : List tree.Item) (d : tree.Declarator) (x : tree.Initialiser)
+) -> Result<Read<Vec<BlockItem>>, AllocError>
+    ensures { (items : List tree.BlockItem) (d : tree.Declarator) (x : tree.Initialiser)
         → ShowsItems before items → ShowsDeclared declared d → ShowsInitialiser value x
         → IfOk result
         (λ r. ShowsItems r (record { declarator = d; initialiser = Some (place, x) } ∷ items)) }
 {
     let Read { tree, depths } = beside(declared.read, value)?;
     let tree = match tree {
-        Some((declarator, value)) => Some(Item {
+        Some((declarator, value)) => Some(BlockItem {
             declarator,
             initialiser: Some((place, value)),
         }),
@@ -106,10 +106,10 @@ pub fn with_valued_item(
 /// A declaration, at its semicolon (C90 6.5).
 pub fn declaration(
     specified: Specified,
-    items: Read<Vec<Item>>,
+    items: Read<Vec<BlockItem>>,
     end: Place,
 ) -> Result<Read<Declaration>, AllocError>
-    ensures { (ws : tree.Specifiers) (is : List tree.Item) → ShowsSpecified specified ws
+    ensures { (ws : tree.Specifiers) (is : List tree.BlockItem) → ShowsSpecified specified ws
         → ShowsItems items is
         → IfOk result
         (λ r. ShowsDeclaration r (record { specifiers = ws; items = onto is []; end = end })) }
@@ -224,7 +224,7 @@ pub fn definition(
             Some(place) => definition_at(place, specified, declared, body),
             None => Ok(Read {
                 tree: None,
-                depths: Depths::none(alloc),
+                depths: TreeDepths::none(alloc),
             }),
         },
     }

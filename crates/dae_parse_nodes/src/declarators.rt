@@ -10,7 +10,7 @@ ghost use Rattle.dae_parse_grammar.specs.Machine.{closed_by, parameters_onto};
 ghost use Rattle.dae_parse_parts.specs.ShownNames.{bound_all};
 ghost use Rattle.dae_parse_nodes.specs.Parts.{ShowsOperand, ShowsSpecified, ShowsDeclared, ShowsParameterList, ShowsParameters};
 
-use crate::values::{Declared, Operand, ParameterList, Specified};
+use crate::values::{Declared, ParameterList, ReadOperand, Specified};
 use dae_base::Place;
 use dae_parse_parts::{Binding, Read, beside, flat, longer, node, over};
 use dae_tree::{Declarator, Name, Parameter};
@@ -135,7 +135,7 @@ pub fn sized_array(
     alloc: Global,
     declared: Declared,
     place: Place,
-    size: Operand,
+    size: ReadOperand,
 ) -> Result<Declared, AllocError>
     ensures { (d : tree.Declarator) (e : tree.Expression) → ShowsDeclared declared d
         → ShowsOperand size e → IfOk result (λ r. ShowsDeclared r (tree.Sized d place e)) }

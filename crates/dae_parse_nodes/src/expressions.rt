@@ -7,7 +7,7 @@ ghost use Rattle.dae_parse_parts.specs.Shown.{Holds, IsMade, box_value};
 ghost use Rattle.dae_parse_grammar.specs.Machine.{arguments_onto};
 ghost use Rattle.dae_parse_nodes.specs.Parts.{ShowsOperand, ShowsArguments, ShowsSpecified, ShowsDeclared};
 
-use crate::values::{Declared, Operand, Specified};
+use crate::values::{Declared, ReadOperand, Specified};
 use dae_base::Place;
 use dae_parse_parts::{
     ASSIGNMENT, CAST, COMMA, CONDITIONAL, POSTFIX, PRIMARY, Read, UNARY, beside, flat, longer,
@@ -20,7 +20,7 @@ use dae_tree::{
 use std::alloc::{AllocError, Global};
 
 /// A name (C90 6.3.1).
-pub fn identifier(alloc: Global, name: Name) -> Result<Operand, AllocError>
+pub fn identifier(alloc: Global, name: Name) -> Result<ReadOperand, AllocError>
     ensures { IfOk result (λ r. ShowsOperand r (tree.Identifier name)) }
 {
     let place = name.place;
@@ -28,7 +28,7 @@ pub fn identifier(alloc: Global, name: Name) -> Result<Operand, AllocError>
         place,
         flat(alloc, Box::new(alloc, Expression::Identifier(name))?),
     )?;
-    Ok(Operand {
+    Ok(ReadOperand {
         read,
         level: PRIMARY,
         place,
@@ -36,7 +36,7 @@ pub fn identifier(alloc: Global, name: Name) -> Result<Operand, AllocError>
 }
 
 /// A constant (C90 6.1.3).
-pub fn constant(alloc: Global, place: Place, constant: Constant) -> Result<Operand, AllocError>
+pub fn constant(alloc: Global, place: Place, constant: Constant) -> Result<ReadOperand, AllocError>
     ensures { IfOk result (λ r. ShowsOperand r (tree.Number place constant)) }
 {
     let read = over(
@@ -46,7 +46,7 @@ pub fn constant(alloc: Global, place: Place, constant: Constant) -> Result<Opera
             Box::new(alloc, Expression::Constant(place, constant))?,
         ),
     )?;
-    Ok(Operand {
+    Ok(ReadOperand {
         read,
         level: PRIMARY,
         place,
@@ -54,14 +54,14 @@ pub fn constant(alloc: Global, place: Place, constant: Constant) -> Result<Opera
 }
 
 /// A string literal, by its number (C90 6.1.4).
-pub fn literal(alloc: Global, place: Place, number: u32) -> Result<Operand, AllocError>
+pub fn literal(alloc: Global, place: Place, number: u32) -> Result<ReadOperand, AllocError>
     ensures { IfOk result (λ r. ShowsOperand r (tree.Literal place number)) }
 {
     let read = over(
         place,
         flat(alloc, Box::new(alloc, Expression::Literal(place, number))?),
     )?;
-    Ok(Operand {
+    Ok(ReadOperand {
         read,
         level: PRIMARY,
         place,
@@ -75,7 +75,7 @@ fn operand_over<T: Drop, F: FnOnce(T) -> Expression + Drop>(
     level: u8,
     part: Read<T>,
     make: F,
-) -> Result<Operand, AllocError>
+) -> Result<ReadOperand, AllocError>
     requires { F.IsAlwaysCallable make }
     ensures read { (f : Places) → Holds part f
         → IfOk result
@@ -84,11 +84,15 @@ fn operand_over<T: Drop, F: FnOnce(T) -> Expression + Drop>(
     ensures beside { IfOk result (λ r. (r.level ≡ level) × (r.place ≡ place)) }
 {
     let read = node(alloc, place, part, make)?;
-    Ok(Operand { read, level, place })
+    Ok(ReadOperand { read, level, place })
 }
 
 /// An expression in parentheses.
-pub fn parenthesised(alloc: Global, place: Place, inner: Operand) -> Result<Operand, AllocError>
+pub fn parenthesised(
+    alloc: Global,
+    place: Place,
+    inner: ReadOperand,
+) -> Result<ReadOperand, AllocError>
     ensures { (e : tree.Expression) → ShowsOperand inner e
         → IfOk result (λ r. ShowsOperand r (tree.Parenthesised place e)) }
 {
@@ -100,10 +104,10 @@ pub fn parenthesised(alloc: Global, place: Place, inner: Operand) -> Result<Oper
 /// A subscript (C90 6.3.2.1).
 pub fn index(
     alloc: Global,
-    base: Operand,
+    base: ReadOperand,
     place: Place,
-    subscript: Operand,
-) -> Result<Operand, AllocError>
+    subscript: ReadOperand,
+) -> Result<ReadOperand, AllocError>
     ensures { (a b : tree.Expression) → ShowsOperand base a → ShowsOperand subscript b
         → IfOk result (λ r. ShowsOperand r (tree.Index a place b)) }
 {
@@ -117,7 +121,7 @@ pub fn index(
 /// An argument more.
 pub fn with_argument(
     before: Read<Vec<Expression>>,
-    argument: Operand,
+    argument: ReadOperand,
 ) -> Result<Read<Vec<Expression>>, AllocError>
     ensures { (es : List tree.Expression) (e : tree.Expression) → ShowsArguments before es
         → ShowsOperand argument e → IfOk result (λ r. ShowsArguments r (e ∷ es)) }
@@ -128,10 +132,10 @@ pub fn with_argument(
 /// A call (C90 6.3.2.2).
 pub fn call(
     alloc: Global,
-    callee: Operand,
+    callee: ReadOperand,
     place: Place,
     arguments: Read<Vec<Expression>>,
-) -> Result<Operand, AllocError>
+) -> Result<ReadOperand, AllocError>
     ensures { (f : tree.Expression) (es : List tree.Expression) → ShowsOperand callee f
         → ShowsArguments arguments es
         → IfOk result
@@ -147,11 +151,11 @@ pub fn call(
 /// A member (C90 6.3.2.3).
 pub fn member(
     alloc: Global,
-    base: Operand,
+    base: ReadOperand,
     place: Place,
     operator: MemberOperator,
     name: Name,
-) -> Result<Operand, AllocError>
+) -> Result<ReadOperand, AllocError>
     ensures { (a : tree.Expression) → ShowsOperand base a
         → IfOk result (λ r. ShowsOperand r (tree.Member a place operator name)) }
 {
@@ -164,10 +168,10 @@ pub fn member(
 /// An operand with an operator behind it (C90 6.3.2.4).
 pub fn postfix(
     alloc: Global,
-    base: Operand,
+    base: ReadOperand,
     place: Place,
     operator: PostfixOperator,
-) -> Result<Operand, AllocError>
+) -> Result<ReadOperand, AllocError>
     ensures { (a : tree.Expression) → ShowsOperand base a
         → IfOk result (λ r. ShowsOperand r (tree.Postfix a place operator)) }
 {
@@ -182,8 +186,8 @@ pub fn prefix(
     alloc: Global,
     place: Place,
     operator: PrefixOperator,
-    operand: Operand,
-) -> Result<Operand, AllocError>
+    operand: ReadOperand,
+) -> Result<ReadOperand, AllocError>
     ensures { (a : tree.Expression) → ShowsOperand operand a
         → IfOk result (λ r. ShowsOperand r (tree.Prefix place operator a)) }
 {
@@ -196,8 +200,8 @@ pub fn prefix(
 pub fn sizeof_expression(
     alloc: Global,
     place: Place,
-    operand: Operand,
-) -> Result<Operand, AllocError>
+    operand: ReadOperand,
+) -> Result<ReadOperand, AllocError>
     ensures { (a : tree.Expression) → ShowsOperand operand a
         → IfOk result (λ r. ShowsOperand r (tree.SizeofExpression place a)) }
 {
@@ -213,7 +217,7 @@ pub fn sizeof_type(
     paren: Place,
     specified: Specified,
     declared: Declared,
-) -> Result<Operand, AllocError>
+) -> Result<ReadOperand, AllocError>
     ensures { (ws : tree.Specifiers) (d : tree.Declarator) → ShowsSpecified specified ws
         → ShowsDeclared declared d
         → IfOk result (λ r. ShowsOperand r (tree.SizeofType place paren ws d)) }
@@ -231,7 +235,7 @@ pub fn sizeof_type(
         }
         None => None,
     };
-    Ok(Operand {
+    Ok(ReadOperand {
         read: Read { tree, depths },
         level: UNARY,
         place,
@@ -244,8 +248,8 @@ pub fn cast(
     place: Place,
     specified: Specified,
     declared: Declared,
-    operand: Operand,
-) -> Result<Operand, AllocError>
+    operand: ReadOperand,
+) -> Result<ReadOperand, AllocError>
     ensures { (ws : tree.Specifiers) (d : tree.Declarator) (e : tree.Expression)
         → ShowsSpecified specified ws → ShowsDeclared declared d → ShowsOperand operand e
         → IfOk result (λ r. ShowsOperand r (tree.Cast place ws d e)) }
@@ -265,7 +269,7 @@ pub fn cast(
         }
         None => None,
     };
-    Ok(Operand {
+    Ok(ReadOperand {
         read: Read { tree, depths },
         level: CAST,
         place,
@@ -275,11 +279,11 @@ pub fn cast(
 /// A binary operator between two operands (C90 6.3.5 to 6.3.14).
 pub fn binary(
     alloc: Global,
-    left: Operand,
+    left: ReadOperand,
     place: Place,
     operator: BinaryOperator,
-    right: Operand,
-) -> Result<Operand, AllocError>
+    right: ReadOperand,
+) -> Result<ReadOperand, AllocError>
     ensures { (a b : tree.Expression) → ShowsOperand left a → ShowsOperand right b
         → IfOk result (λ r. ShowsOperand r (tree.Binary a place operator b)) }
 {
@@ -293,11 +297,11 @@ pub fn binary(
 /// A conditional expression (C90 6.3.15).
 pub fn conditional(
     alloc: Global,
-    test: Operand,
+    test: ReadOperand,
     place: Place,
-    then: Operand,
-    other: Operand,
-) -> Result<Operand, AllocError>
+    then: ReadOperand,
+    other: ReadOperand,
+) -> Result<ReadOperand, AllocError>
     ensures { (a b c : tree.Expression) → ShowsOperand test a → ShowsOperand then b
         → ShowsOperand other c → IfOk result (λ r. ShowsOperand r (tree.Conditional a place b c)) }
 {
@@ -312,11 +316,11 @@ pub fn conditional(
 /// An assignment (C90 6.3.16).
 pub fn assignment(
     alloc: Global,
-    left: Operand,
+    left: ReadOperand,
     place: Place,
     operator: AssignmentOperator,
-    right: Operand,
-) -> Result<Operand, AllocError>
+    right: ReadOperand,
+) -> Result<ReadOperand, AllocError>
     ensures { (a b : tree.Expression) → ShowsOperand left a → ShowsOperand right b
         → IfOk result (λ r. ShowsOperand r (tree.Assignment a place operator b)) }
 {
@@ -328,7 +332,11 @@ pub fn assignment(
 }
 
 /// Two expressions with a comma between them (C90 6.3.17).
-pub fn comma(alloc: Global, left: Operand, right: Operand) -> Result<Operand, AllocError>
+pub fn comma(
+    alloc: Global,
+    left: ReadOperand,
+    right: ReadOperand,
+) -> Result<ReadOperand, AllocError>
     ensures { (a b : tree.Expression) → ShowsOperand left a → ShowsOperand right b
         → IfOk result (λ r. ShowsOperand r (tree.Comma a b)) }
 {

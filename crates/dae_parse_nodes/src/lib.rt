@@ -26,7 +26,7 @@ pub use specifiers::{
     with_plain_enumerator, with_structure, with_structure_body, with_type_name,
     with_valued_enumerator, with_word,
 };
-pub use values::{Body, Declared, DoParts, Loop, Operand, ParameterList, Specified};
+pub use values::{Declared, DoParts, Loop, ParameterList, ReadOperand, Specified, TypeBody};
 
 mod declarations;
 mod declarators;

@@ -8,7 +8,8 @@ ghost use Rattle.dae_parse_nodes.specs.Parts.{is_some_list, ShowsArguments, Show
 
 use dae_parse_parts::{Read, flat};
 use dae_tree::{
-    Declaration, Declarator, Enumerator, Expression, External, Initialiser, Item, Member, Statement,
+    BlockItem, Declaration, Declarator, Enumerator, Expression, External, Initialiser, Member,
+    Statement,
 };
 use std::alloc::Global;
 
@@ -48,7 +49,7 @@ pub fn no_initialisers(alloc: Global) -> Read<Vec<Initialiser>>
 }
 
 /// No declarators of a declaration.
-pub fn no_items(alloc: Global) -> Read<Vec<Item>>
+pub fn no_items(alloc: Global) -> Read<Vec<BlockItem>>
     ensures { ShowsItems result [] }
 {
     flat(alloc, Vec::new(alloc))
@@ -86,8 +87,9 @@ pub fn has_members(list: &Read<Vec<Member>>) -> bool
 }
 
 /// Whether there are declarators of a declaration.
-pub fn has_items(list: &Read<Vec<Item>>) -> bool
-    ensures { (items : List tree.Item) → ShowsItems list.now items → result ≡ is_some_list items }
+pub fn has_items(list: &Read<Vec<BlockItem>>) -> bool
+    ensures { (items : List tree.BlockItem) → ShowsItems list.now items
+        → result ≡ is_some_list items }
 {
     match &list.tree {
         Some(list) => !list.is_empty(),

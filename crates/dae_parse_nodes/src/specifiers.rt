@@ -9,7 +9,7 @@ ghost use Rattle.dae_parse_grammar.specs.Frames as frames;
 ghost use Rattle.dae_parse_grammar.specs.Machine.{specifiers_onto, members_onto, enumerators_onto, declarators_onto};
 ghost use Rattle.dae_parse_nodes.specs.Parts.{specifier_word, says_typedef, void_place, ShowsOperand, ShowsSpecifier, ShowsSpecified, ShowsDeclared, ShowsDeclarators, ShowsMembers, ShowsEnumerators};
 
-use crate::values::{Body, Declared, Operand, Specified};
+use crate::values::{Declared, ReadOperand, Specified, TypeBody};
 use dae_base::Place;
 use dae_parse_parts::{Read, beside, flat, longer, over, unbox};
 use dae_tree::{Declarator, Enumerator, Keyword, Member, Name, Specifier, TrailingComma};
@@ -148,7 +148,10 @@ pub fn with_enumeration(
 }
 
 /// A structure with its members more (C90 6.5.2.1).
-pub fn with_structure_body(body: Body, members: Read<Vec<Member>>) -> Result<Specified, AllocError>
+pub fn with_structure_body(
+    body: TypeBody,
+    members: Read<Vec<Member>>,
+) -> Result<Specified, AllocError>
     ensures { (ws : List tree.Specifier) (ms : List lists.MemberLine)
         → ShowsSpecified body.before (specifiers_onto ws tree.no_specifiers)
         → ShowsMembers members ms
@@ -158,7 +161,7 @@ pub fn with_structure_body(body: Body, members: Read<Vec<Member>>) -> Result<Spe
         (tree.StructureBody body.place body.tag body.brace (members_onto ms tree.no_members)
         ∷ ws) tree.no_specifiers)) }
 {
-    let Body {
+    let TypeBody {
         place,
         tag,
         brace,
@@ -175,11 +178,11 @@ pub fn with_structure_body(body: Body, members: Read<Vec<Member>>) -> Result<Spe
 
 /// An enumeration with its enumerators more, and whether a comma stands behind the last (C90 6.5.2.2).
 pub fn with_enumeration_body(
-    body: Body,
+    body: TypeBody,
     enumerators: Read<Vec<Enumerator>>,
     comma: TrailingComma,
 ) -> Result<Specified, AllocError>
-    ensures { (ws : List tree.Specifier) (es : List lists.Entry)
+    ensures { (ws : List tree.Specifier) (es : List lists.EnumEntry)
         → ShowsSpecified body.before (specifiers_onto ws tree.no_specifiers)
         → ShowsEnumerators enumerators es
         → IfOk result
@@ -189,7 +192,7 @@ pub fn with_enumeration_body(
         (enumerators_onto es tree.no_enumerators) (has_comma comma) ∷ ws)
         tree.no_specifiers)) }
 {
-    let Body {
+    let TypeBody {
         place,
         tag,
         brace,
@@ -256,7 +259,7 @@ pub fn with_plain_enumerator(
     before: Read<Vec<Enumerator>>,
     name: Name,
 ) -> Result<Read<Vec<Enumerator>>, AllocError>
-    ensures { (es : List lists.Entry) → ShowsEnumerators before es
+    ensures { (es : List lists.EnumEntry) → ShowsEnumerators before es
         → IfOk result (λ r. ShowsEnumerators r (record { name = name; value = None } ∷ es)) }
 {
     longer(before, flat(alloc, Enumerator::Plain(name)))
@@ -267,9 +270,9 @@ pub fn with_valued_enumerator(
     before: Read<Vec<Enumerator>>,
     name: Name,
     place: Place,
-    value: Operand,
+    value: ReadOperand,
 ) -> Result<Read<Vec<Enumerator>>, AllocError>
-    ensures { (es : List lists.Entry) (e : tree.Expression) → ShowsEnumerators before es
+    ensures { (es : List lists.EnumEntry) (e : tree.Expression) → ShowsEnumerators before es
         → ShowsOperand value e
         → IfOk result
         (λ r. ShowsEnumerators r (record { name = name; value = Some (place, e) } ∷ es)) }

@@ -6,7 +6,7 @@ use dae_tree::{Declarator, Expression, Name, Parameter, Seen, Specifier, Stateme
 
 /// An expression that was read, its level, and the place of its first token.
 #[derive(Drop)]
-pub struct Operand {
+pub struct ReadOperand {
     pub read: Read<Box<Expression>>,
     pub level: u8,
     pub place: Place,
@@ -46,7 +46,7 @@ pub struct ParameterList {
 
 /// The body of a structure or enumeration, with the specifiers before it.
 #[derive(Drop)]
-pub struct Body {
+pub struct TypeBody {
     pub place: Place,
     pub tag: Option<Name>,
     pub brace: Place,
@@ -61,7 +61,7 @@ pub struct DoParts {
     pub body: Read<Box<Statement>>,
     pub word: Place,
     pub paren: Place,
-    pub test: Operand,
+    pub test: ReadOperand,
 }
 
 /// The parts of a `for` before its step: its word, its parenthesis, and the expressions with the semicolons behind them.
@@ -69,8 +69,8 @@ pub struct DoParts {
 pub struct Loop {
     pub word: Place,
     pub paren: Place,
-    pub start: Option<Operand>,
+    pub start: Option<ReadOperand>,
     pub first: Place,
-    pub test: Option<Operand>,
+    pub test: Option<ReadOperand>,
     pub second: Place,
 }

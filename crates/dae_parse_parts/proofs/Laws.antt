@@ -5,7 +5,7 @@ use Rattle.std.specs.declared.alloc.Global.{Global}
 use Rattle.dae_base.specs.declared.Place.{Place}
 use Rattle.dae_parse_grammar.specs.FirstPlaces.{Places, or_else, nowhere, both, over}
 use Rattle.dae_parse_parts.specs.declared.reading.Read.{Read}
-use Rattle.dae_parse_parts.specs.declared.depths.Depths.{Depths}
+use Rattle.dae_parse_parts.specs.declared.depths.TreeDepths.{TreeDepths}
 use Rattle.dae_parse_parts.specs.Shown.{Lists, IsKept, Holds, IsSeen, in_box, box_value, Shows, IsFrom, IsPair, IsMade}
 use Rattle.dae_parse_parts.proofs.Holding.{holds_some, holds_none}
 
@@ -144,8 +144,8 @@ shows_unboxed view firsts part read a h e d =
     subst (λ (o : Option _). IsKept o (length part.depths.places.items)) (sym e) (kept_unboxed part.tree _ h.holds.kept) in
     record {
       holds = record {
-        places = subst (λ (x : Depths). Lists x.places.items (firsts a)) (sym d) h.holds.places;
-        kept = subst (λ (x : Depths). IsKept read.tree (length x.places.items)) (sym d) kept;
+        places = subst (λ (x : TreeDepths). Lists x.places.items (firsts a)) (sym d) h.holds.places;
+        kept = subst (λ (x : TreeDepths). IsKept read.tree (length x.places.items)) (sym d) kept;
       };
       seen = subst (λ (o : Option _). IsSeen view o a) (sym e) (seen_unboxed view part.tree a h.seen);
     }

@@ -11,37 +11,37 @@ pub const GREATEST_DEPTH: usize = 200;
 
 /// The place of the first node at each depth of a tree, from the top, down to one past the greatest depth.
 #[derive(Drop)]
-pub struct Depths {
+pub struct TreeDepths {
     places: Vec<Place>,
 }
 
-impl Depths {
+impl TreeDepths {
     /// No nodes.
-    pub fn none(alloc: Global) -> Depths
+    pub fn none(alloc: Global) -> TreeDepths
         ensures { result.places.items ≡ [] }
     {
-        Depths {
+        TreeDepths {
             places: Vec::new(alloc),
         }
     }
 
     /// The nodes of these parts, and of others behind them.
-    fn beside(self, other: &Depths) -> Result<Depths, AllocError>
+    fn beside(self, other: &TreeDepths) -> Result<TreeDepths, AllocError>
         ensures { IfOk result
             (λ d. d.places.items
             ≡ self.places.items ++ drop (length self.places.items) other.now.places.items) }
     {
-        let Depths { mut places } = self;
+        let TreeDepths { mut places } = self;
         let others = other.places.as_slice();
         let known = places.len();
         if known < others.len() {
             places.extend_from_slice(&others[known..])?;
         }
-        Ok(Depths { places })
+        Ok(TreeDepths { places })
     }
 
     /// The nodes of these parts, and of others behind them. Where these have none, the others' memory is theirs.
-    pub fn joined(self, others: Depths) -> Result<Depths, AllocError>
+    pub fn combine(self, others: TreeDepths) -> Result<TreeDepths, AllocError>
         ensures { IfOk result
             (λ d. d.places.items
             ≡ self.places.items ++ drop (length self.places.items) others.places.items) }
@@ -54,13 +54,13 @@ impl Depths {
     }
 
     /// A node at this place that holds these.
-    pub fn under(self, place: Place) -> Result<Depths, AllocError>
+    pub fn under(self, place: Place) -> Result<TreeDepths, AllocError>
         ensures { IfOk result (λ d. d.places.items ≡ place ∷ take 200 self.places.items) }
     {
-        let Depths { mut places } = self;
+        let TreeDepths { mut places } = self;
         places.truncate(GREATEST_DEPTH);
         places.insert(0, place)?;
-        Ok(Depths { places })
+        Ok(TreeDepths { places })
     }
 
     /// Whether no node is too deep.

@@ -5,7 +5,7 @@
 #![tactic(auto)]
 
 pub use dae_tree::{ASSIGNMENT, CAST, COMMA, CONDITIONAL, POSTFIX, PRIMARY, UNARY};
-pub use depths::{Depths, GREATEST_DEPTH};
+pub use depths::{GREATEST_DEPTH, TreeDepths};
 pub use operators::{begun_by, left_level, operand_level, prefix_operator, reach, strength, under};
 pub use reading::{Read, beside, flat, longer, node, over, tree_or_depth, unbox};
 pub use scope::{Binding, Scope};

@@ -3,7 +3,7 @@ ghost use Rattle.std.specs.Prelude.{◌≡◌, ◌++◌, [], ◌∷◌, length, 
 ghost use Rattle.dae_parse_grammar.specs.FirstPlaces.{Places, nowhere, both, over};
 ghost use Rattle.dae_parse_parts.specs.Shown.{Holds, IsKept, IsFrom, IsPair, IsLonger, IsMade, box_value};
 
-use crate::Depths;
+use crate::TreeDepths;
 use dae_base::Place;
 use std::alloc::{AllocError, Global};
 
@@ -11,7 +11,7 @@ use std::alloc::{AllocError, Global};
 #[derive(Drop)]
 pub struct Read<T> {
     pub tree: Option<T>,
-    pub depths: Depths,
+    pub depths: TreeDepths,
 }
 
 /// A tree without nodes.
@@ -21,7 +21,7 @@ pub fn flat<T: Drop>(alloc: Global, tree: T) -> Read<T>
 {
     Read {
         tree: Some(tree),
-        depths: Depths::none(alloc),
+        depths: TreeDepths::none(alloc),
     }
 }
 
@@ -49,7 +49,7 @@ pub fn beside<T: Drop, U: Drop>(left: Read<T>, right: Read<U>) -> Result<Read<(T
         tree: other,
         depths: others,
     } = right;
-    let depths = depths.joined(others)?;
+    let depths = depths.combine(others)?;
     match (tree, other) {
         (Some(tree), Some(other)) => Ok(Read {
             tree: Some((tree, other)),

@@ -2,7 +2,7 @@
 use Rattle.std.proofs.Common.{◌≡◌, ℕ, ◌≤◌, ◌<◌, leb, ◌&&◌, Bool, true, false, List, ◌∷◌, Some, refl, sym, subst, arith}
 use Rattle.dae_base.specs.declared.Place.{Place}
 use Rattle.dae_tree.specs.declared.signs.Sign.{Sign}
-use Rattle.dae_tree.specs.Marks.{Mark, sign}
+use Rattle.dae_tree.specs.Marks.{TokenMark, sign}
 use Rattle.dae_tree.specs.Names.{Names}
 use Rattle.dae_tree.specs.Grammar.{level}
 use Rattle.dae_tree.specs.Trees.{Expression}
@@ -28,7 +28,7 @@ too_loose o e l m reaches h = first_fails (reach o) l (leb (level e) (left_level
 pub too_high : (o : Operation) (e : Expression) (l n k : ℕ) → n ≡ left_level o → k ≡ level e → n < k → goes_on o e l ≡ false
 too_high o e l n k left high h = second_fails (leb (reach o) l) (level e) (left_level o) (subst (λ z. left_level o < z) high (subst (λ z. z < k) left h))
 
-module _ (g : Sign) (o : Operation) (e : Expression) (p : Place) (l : ℕ) (s : List Frame) (names : Names) (ts us : List Mark) (at : ts ≡ sign g p ∷ us) (begins : o ≡ operation g) where
+module _ (g : Sign) (o : Operation) (e : Expression) (p : Place) (l : ℕ) (s : List Frame) (names : Names) (ts us : List TokenMark) (at : ts ≡ sign g p ∷ us) (begins : o ≡ operation g) where
   pub goes : goes_on o e l ≡ true → operated_at e l s names ts ≡ operate o e p l s names us
   goes h = rw (at, sym begins, h) refl
 

@@ -15,18 +15,18 @@ use crate::nodes::{
     block, break_statement, continue_statement, do_statement, empty_statement, return_statement,
 };
 use dae_base::Place;
-use dae_parse_nodes::{DoParts, Loop, Operand, no_declarations, no_specifiers, no_statements};
+use dae_parse_nodes::{DoParts, Loop, ReadOperand, no_declarations, no_specifiers, no_statements};
 use dae_parse_parts::{COMMA, CONDITIONAL, Read};
 use dae_parse_states::{
-    DeclarationFrame, Doing, ExpressionFrame, FunctionBody, Head, Inside, Machine, SpecifiersFrame,
-    StatementFrame, StatementKind, begins_specifiers,
+    DeclarationFrame, Doing, ExpressionFrame, FunctionBody, Inside, Parser, SpecifiersFrame,
+    StatementFrame, StatementHead, StatementKind, begins_specifiers,
 };
 use dae_tree::{Keyword, Seen, Sign, Statement};
 use std::alloc::AllocError;
 
 /// In a block, before a declaration or the first statement (C90 6.6.2).
 pub fn read_declaration(
-    machine: &mut Machine<'_>,
+    machine: &mut Parser<'_>,
     inside: Inside,
 ) -> Result<Option<Doing>, AllocError>
     ensures { (i : plain.Inside) (s : List PlainFrame) → ShowsInside inside i
@@ -46,7 +46,7 @@ pub fn read_declaration(
 /// In a block, before a statement or the brace, where the scope of the block ends (C90 6.6.2 and 6.1.2.1).
 #[tactic(auto, using(crate::proofs::OtherwiseStatements::followed_otherwise))]
 pub fn read_block(
-    machine: &mut Machine<'_>,
+    machine: &mut Parser<'_>,
     inside: Inside,
     list: Read<Vec<Statement>>,
 ) -> Result<Option<Doing>, AllocError>
@@ -71,7 +71,7 @@ pub fn read_block(
 
 /// Before a statement (C90 6.6).
 #[tactic(auto, using(crate::proofs::OtherwiseStatements::stated_otherwise, dae_parse_states::proofs::Laws::word_is))]
-pub fn read_statement(machine: &mut Machine<'_>) -> Result<Option<Doing>, AllocError>
+pub fn read_statement(machine: &mut Parser<'_>) -> Result<Option<Doing>, AllocError>
     ensures { Steps machine.old result machine.new stated }
 {
     if let Some(place) = machine.rest.take_sign(Sign::LeftBrace) {
@@ -96,7 +96,7 @@ pub fn read_statement(machine: &mut Machine<'_>) -> Result<Option<Doing>, AllocE
 }
 
 /// Before the expression of a statement (C90 6.6.3).
-fn begin_evaluation(machine: &mut Machine<'_>) -> Result<Option<Doing>, AllocError>
+fn begin_evaluation(machine: &mut Parser<'_>) -> Result<Option<Doing>, AllocError>
     ensures { Steps machine.old result machine.new evaluation_begun }
 {
     machine.push_expression(ExpressionFrame::InEvaluation)?;
@@ -106,7 +106,7 @@ fn begin_evaluation(machine: &mut Machine<'_>) -> Result<Option<Doing>, AllocErr
 /// Before a word that may begin a statement (C90 6.6.1 and 6.6.4 to 6.6.6).
 #[tactic(auto, using(crate::proofs::OtherwiseStatements::word_otherwise))]
 fn read_statement_word(
-    machine: &mut Machine<'_>,
+    machine: &mut Parser<'_>,
     word: Keyword,
     place: Place,
 ) -> Result<Option<Doing>, AllocError>
@@ -124,9 +124,9 @@ fn read_statement_word(
             machine.push_expression(ExpressionFrame::InCase(place))?;
             Ok(Some(Doing::Seek(CONDITIONAL)))
         }
-        Keyword::If => begin(machine, Doing::Opening(Head::If(place))),
-        Keyword::While => begin(machine, Doing::Opening(Head::While(place))),
-        Keyword::Switch => begin(machine, Doing::Opening(Head::Switch(place))),
+        Keyword::If => begin(machine, Doing::Opening(StatementHead::If(place))),
+        Keyword::While => begin(machine, Doing::Opening(StatementHead::While(place))),
+        Keyword::Switch => begin(machine, Doing::Opening(StatementHead::Switch(place))),
         Keyword::For => begin(machine, Doing::Looping(place)),
         Keyword::Break => begin(machine, Doing::Breaking(place)),
         Keyword::Continue => begin(machine, Doing::Continuing(place)),
@@ -137,7 +137,7 @@ fn read_statement_word(
 }
 
 /// Behind the first word of a statement.
-fn begin(machine: &mut Machine<'_>, doing: Doing) -> Result<Option<Doing>, AllocError>
+fn begin(machine: &mut Parser<'_>, doing: Doing) -> Result<Option<Doing>, AllocError>
     ensures doing { IfOk result (λ r. r ≡ Some doing) }
     ensures rest { machine.new.rest ≡ behind machine.old.rest }
     ensures scope { machine.new.scope ≡ machine.old.scope }
@@ -150,8 +150,8 @@ fn begin(machine: &mut Machine<'_>, doing: Doing) -> Result<Option<Doing>, Alloc
 /// Before the parenthesis of a test.
 #[inline(never)]
 #[tactic(auto, using(dae_parse_states::proofs::Laws::open_or_none))]
-pub fn read_test(machine: &mut Machine<'_>, head: Head) -> Result<Option<Doing>, AllocError>
-    ensures { (a : plain.Head) → ShowsHead head a →
+pub fn read_test(machine: &mut Parser<'_>, head: StatementHead) -> Result<Option<Doing>, AllocError>
+    ensures { (a : plain.StatementHead) → ShowsHead head a →
         Steps machine.old result machine.new (step_at (plain.opening a)) }
 {
     let Some(paren) = machine.rest.take_sign(Sign::LeftParen) else {
@@ -164,7 +164,7 @@ pub fn read_test(machine: &mut Machine<'_>, head: Head) -> Result<Option<Doing>,
 /// Behind `for`.
 #[inline(never)]
 #[tactic(auto, using(dae_parse_states::proofs::Laws::open_or_none))]
-pub fn read_for(machine: &mut Machine<'_>, word: Place) -> Result<Option<Doing>, AllocError>
+pub fn read_for(machine: &mut Parser<'_>, word: Place) -> Result<Option<Doing>, AllocError>
     ensures { Steps machine.old result machine.new (step_at (plain.looping word)) }
 {
     match machine.rest.take_sign(Sign::LeftParen) {
@@ -177,10 +177,10 @@ pub fn read_for(machine: &mut Machine<'_>, word: Place) -> Result<Option<Doing>,
 #[inline(never)]
 #[tactic(auto, using(crate::proofs::OtherwiseStatements::tested_otherwise))]
 pub fn read_loop_test(
-    machine: &mut Machine<'_>,
+    machine: &mut Parser<'_>,
     word: Place,
     paren: Place,
-    start: Option<Operand>,
+    start: Option<ReadOperand>,
     first: Place,
 ) -> Result<Option<Doing>, AllocError>
     ensures { (a : Option Expression) → ShowsOptional start a →
@@ -210,7 +210,7 @@ pub fn read_loop_test(
 #[inline(never)]
 #[tactic(auto, using(crate::proofs::OtherwiseStatements::stepped_otherwise))]
 pub fn read_loop_step(
-    machine: &mut Machine<'_>,
+    machine: &mut Parser<'_>,
     parts: Box<Loop>,
 ) -> Result<Option<Doing>, AllocError>
     ensures { (a : plain.Loop) → ShowsLoop parts.value a →
@@ -227,7 +227,7 @@ pub fn read_loop_step(
 /// Behind `default`.
 #[inline(never)]
 #[tactic(auto, using(dae_parse_states::proofs::Laws::colon_or_none))]
-pub fn read_default(machine: &mut Machine<'_>, place: Place) -> Result<Option<Doing>, AllocError>
+pub fn read_default(machine: &mut Parser<'_>, place: Place) -> Result<Option<Doing>, AllocError>
     ensures { Steps machine.old result machine.new (step_at (plain.defaulting place)) }
 {
     if machine.rest.take_sign(Sign::Colon).is_none() {
@@ -241,7 +241,7 @@ pub fn read_default(machine: &mut Machine<'_>, place: Place) -> Result<Option<Do
 #[inline(never)]
 #[tactic(auto, using(crate::proofs::OtherwiseStatements::started_otherwise))]
 pub fn read_loop_start(
-    machine: &mut Machine<'_>,
+    machine: &mut Parser<'_>,
     word: Place,
     paren: Place,
 ) -> Result<Option<Doing>, AllocError>
@@ -262,7 +262,7 @@ pub fn read_loop_start(
 /// Behind the test of a `do` (C90 6.6.5.2).
 #[inline(never)]
 #[tactic(auto, using(dae_parse_states::proofs::Laws::semicolon_or_none))]
-pub fn read_do_end(machine: &mut Machine<'_>, parts: DoParts) -> Result<Option<Doing>, AllocError>
+pub fn read_do_end(machine: &mut Parser<'_>, parts: DoParts) -> Result<Option<Doing>, AllocError>
     ensures { (b : StatementTree) (e : Expression) → ShowsStatement parts.body b
         → ShowsOperand parts.test e
         → Steps machine.old result machine.new
@@ -278,7 +278,7 @@ pub fn read_do_end(machine: &mut Machine<'_>, parts: DoParts) -> Result<Option<D
 /// Behind `return` (C90 6.6.6.4).
 #[inline(never)]
 #[tactic(auto, using(crate::proofs::OtherwiseStatements::returned_otherwise))]
-pub fn read_return(machine: &mut Machine<'_>, place: Place) -> Result<Option<Doing>, AllocError>
+pub fn read_return(machine: &mut Parser<'_>, place: Place) -> Result<Option<Doing>, AllocError>
     ensures { Steps machine.old result machine.new (returned place) }
 {
     if let Some(end) = machine.rest.take_sign(Sign::Semicolon) {
@@ -292,7 +292,7 @@ pub fn read_return(machine: &mut Machine<'_>, place: Place) -> Result<Option<Doi
 /// Behind `break` (C90 6.6.6.3).
 #[inline(never)]
 #[tactic(auto, using(dae_parse_states::proofs::Laws::semicolon_or_none))]
-pub fn read_break(machine: &mut Machine<'_>, place: Place) -> Result<Option<Doing>, AllocError>
+pub fn read_break(machine: &mut Parser<'_>, place: Place) -> Result<Option<Doing>, AllocError>
     ensures { Steps machine.old result machine.new (step_at (plain.breaking place)) }
 {
     let Some(end) = machine.rest.take_sign(Sign::Semicolon) else {
@@ -305,7 +305,7 @@ pub fn read_break(machine: &mut Machine<'_>, place: Place) -> Result<Option<Doin
 /// Behind `continue` (C90 6.6.6.2).
 #[inline(never)]
 #[tactic(auto, using(dae_parse_states::proofs::Laws::semicolon_or_none))]
-pub fn read_continue(machine: &mut Machine<'_>, place: Place) -> Result<Option<Doing>, AllocError>
+pub fn read_continue(machine: &mut Parser<'_>, place: Place) -> Result<Option<Doing>, AllocError>
     ensures { Steps machine.old result machine.new (step_at (plain.continuing place)) }
 {
     let Some(end) = machine.rest.take_sign(Sign::Semicolon) else {

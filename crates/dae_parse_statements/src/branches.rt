@@ -14,20 +14,20 @@ use crate::nodes::{
     switch_statement, while_statement, with_statement,
 };
 use dae_base::Place;
-use dae_parse_nodes::{Loop, Operand};
+use dae_parse_nodes::{Loop, ReadOperand};
 use dae_parse_parts::Read;
-use dae_parse_states::{Doing, Head, Inside, Machine, StatementFrame, StatementKind};
+use dae_parse_states::{Doing, Inside, Parser, StatementFrame, StatementHead, StatementKind};
 use dae_tree::{Keyword, Statement};
 use std::alloc::AllocError;
 
 /// Behind the first branch of an `if` (C90 6.6.4.1).
 #[tactic(auto, using(crate::proofs::OtherwiseStatements::branched_otherwise))]
 pub fn then_branch(
-    machine: &mut Machine<'_>,
+    machine: &mut Parser<'_>,
     found: Read<Box<Statement>>,
     place: Place,
     paren: Place,
-    test: Operand,
+    test: ReadOperand,
 ) -> Result<Option<Doing>, AllocError>
     ensures { (b : StatementTree) (e : Expression) → ShowsStatement found b → ShowsOperand test e →
         Steps machine.old result machine.new (statement_given b (plain.then_branch place paren e)) }
@@ -47,11 +47,11 @@ pub fn then_branch(
 
 /// Behind the second branch of an `if` (C90 6.6.4.1).
 pub fn else_branch(
-    machine: &mut Machine<'_>,
+    machine: &mut Parser<'_>,
     found: Read<Box<Statement>>,
     place: Place,
     paren: Place,
-    test: Operand,
+    test: ReadOperand,
     then: Read<Box<Statement>>,
 ) -> Result<Option<Doing>, AllocError>
     ensures { (b : StatementTree) (e : Expression) (a : StatementTree) → ShowsStatement found b
@@ -66,11 +66,11 @@ pub fn else_branch(
 /// Behind the body of a `while` (C90 6.6.5.1).
 #[inline(never)]
 pub fn while_body(
-    machine: &mut Machine<'_>,
+    machine: &mut Parser<'_>,
     found: Read<Box<Statement>>,
     place: Place,
     paren: Place,
-    test: Operand,
+    test: ReadOperand,
 ) -> Result<Option<Doing>, AllocError>
     ensures { (b : StatementTree) (e : Expression) → ShowsStatement found b → ShowsOperand test e →
         Steps machine.old result machine.new (statement_given b (plain.while_body place paren e)) }
@@ -82,11 +82,11 @@ pub fn while_body(
 /// Behind the body of a `switch` (C90 6.6.4.2).
 #[inline(never)]
 pub fn switch_body(
-    machine: &mut Machine<'_>,
+    machine: &mut Parser<'_>,
     found: Read<Box<Statement>>,
     place: Place,
     paren: Place,
-    test: Operand,
+    test: ReadOperand,
 ) -> Result<Option<Doing>, AllocError>
     ensures { (b : StatementTree) (e : Expression) → ShowsStatement found b → ShowsOperand test e →
         Steps machine.old result machine.new (statement_given b (plain.switch_body place paren e)) }
@@ -99,7 +99,7 @@ pub fn switch_body(
 #[inline(never)]
 #[tactic(auto, using(crate::proofs::OtherwiseStatements::done_or_none))]
 pub fn do_body(
-    machine: &mut Machine<'_>,
+    machine: &mut Parser<'_>,
     found: Read<Box<Statement>>,
     place: Place,
 ) -> Result<Option<Doing>, AllocError>
@@ -109,7 +109,7 @@ pub fn do_body(
     let Some(word) = machine.rest.take_word(Keyword::While) else {
         return Ok(None);
     };
-    Ok(Some(Doing::Opening(Head::Do {
+    Ok(Some(Doing::Opening(StatementHead::Do {
         place,
         body: found,
         word,
@@ -119,10 +119,10 @@ pub fn do_body(
 /// Behind the body of a `for` (C90 6.6.5.3).
 #[inline(never)]
 pub fn for_body(
-    machine: &mut Machine<'_>,
+    machine: &mut Parser<'_>,
     found: Read<Box<Statement>>,
     parts: Box<Loop>,
-    step: Option<Operand>,
+    step: Option<ReadOperand>,
 ) -> Result<Option<Doing>, AllocError>
     ensures { (b : StatementTree) (l : plain.Loop) (e : Option Expression) → ShowsStatement found b
         → ShowsLoop parts.value l → ShowsOptional step e
@@ -134,10 +134,10 @@ pub fn for_body(
 
 /// Behind the statement of a `case` (C90 6.6.1).
 pub fn case_body(
-    machine: &mut Machine<'_>,
+    machine: &mut Parser<'_>,
     found: Read<Box<Statement>>,
     place: Place,
-    value: Operand,
+    value: ReadOperand,
 ) -> Result<Option<Doing>, AllocError>
     ensures { (b : StatementTree) (e : Expression) → ShowsStatement found b → ShowsOperand value e →
         Steps machine.old result machine.new (statement_given b (plain.case_body place e)) }
@@ -149,7 +149,7 @@ pub fn case_body(
 /// Behind the statement of a `default` (C90 6.6.1).
 #[inline(never)]
 pub fn default_body(
-    machine: &mut Machine<'_>,
+    machine: &mut Parser<'_>,
     found: Read<Box<Statement>>,
     place: Place,
 ) -> Result<Option<Doing>, AllocError>
@@ -162,7 +162,7 @@ pub fn default_body(
 
 /// Behind a statement of a block (C90 6.6.2).
 pub fn in_statements(
-    machine: &mut Machine<'_>,
+    machine: &mut Parser<'_>,
     found: Read<Box<Statement>>,
     inside: Inside,
     before: Read<Vec<Statement>>,

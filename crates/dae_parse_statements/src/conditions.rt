@@ -11,16 +11,16 @@ ghost use Rattle.dae_parse_states.specs.States.{Steps};
 
 use crate::nodes::{evaluation, return_statement};
 use dae_base::Place;
-use dae_parse_nodes::{DoParts, Loop, Operand};
-use dae_parse_states::{Doing, Head, Machine, StatementFrame, StatementKind};
+use dae_parse_nodes::{DoParts, Loop, ReadOperand};
+use dae_parse_states::{Doing, Parser, StatementFrame, StatementHead, StatementKind};
 use dae_tree::Sign;
 use std::alloc::AllocError;
 
 /// Behind the expression of a statement (C90 6.6.3).
 #[tactic(auto, using(dae_parse_states::proofs::Laws::semicolon_or_none))]
 pub fn in_evaluation(
-    machine: &mut Machine<'_>,
-    operand: Operand,
+    machine: &mut Parser<'_>,
+    operand: ReadOperand,
 ) -> Result<Option<Doing>, AllocError>
     ensures { (e : Expression) → ShowsOperand operand e →
         Steps machine.old result machine.new (expression_given e plain.in_evaluation) }
@@ -36,34 +36,34 @@ pub fn in_evaluation(
 #[inline(never)]
 #[tactic(auto, using(dae_parse_states::proofs::Laws::paren_or_none))]
 pub fn in_test(
-    machine: &mut Machine<'_>,
-    test: Operand,
-    head: Head,
+    machine: &mut Parser<'_>,
+    test: ReadOperand,
+    head: StatementHead,
     paren: Place,
 ) -> Result<Option<Doing>, AllocError>
-    ensures { (e : Expression) (h : plain.Head) → ShowsOperand test e → ShowsHead head h →
+    ensures { (e : Expression) (h : plain.StatementHead) → ShowsOperand test e → ShowsHead head h →
         Steps machine.old result machine.new (expression_given e (plain.in_test h paren)) }
 {
     if machine.rest.take_sign(Sign::RightParen).is_none() {
         return Ok(None);
     }
     match head {
-        Head::If(place) => machine.push_statement(StatementFrame::ThenBranch {
+        StatementHead::If(place) => machine.push_statement(StatementFrame::ThenBranch {
             place,
             paren,
             test,
         })?,
-        Head::While(place) => machine.push_statement(StatementFrame::WhileBody {
+        StatementHead::While(place) => machine.push_statement(StatementFrame::WhileBody {
             place,
             paren,
             test,
         })?,
-        Head::Switch(place) => machine.push_statement(StatementFrame::SwitchBody {
+        StatementHead::Switch(place) => machine.push_statement(StatementFrame::SwitchBody {
             place,
             paren,
             test,
         })?,
-        Head::Do { place, body, word } => {
+        StatementHead::Do { place, body, word } => {
             return Ok(Some(Doing::Finishing(DoParts {
                 place,
                 body,
@@ -80,8 +80,8 @@ pub fn in_test(
 #[inline(never)]
 #[tactic(auto, using(dae_parse_states::proofs::Laws::semicolon_or_none))]
 pub fn in_start(
-    machine: &mut Machine<'_>,
-    start: Operand,
+    machine: &mut Parser<'_>,
+    start: ReadOperand,
     word: Place,
     paren: Place,
 ) -> Result<Option<Doing>, AllocError>
@@ -103,11 +103,11 @@ pub fn in_start(
 #[inline(never)]
 #[tactic(auto, using(dae_parse_states::proofs::Laws::semicolon_or_none))]
 pub fn in_loop_test(
-    machine: &mut Machine<'_>,
-    test: Operand,
+    machine: &mut Parser<'_>,
+    test: ReadOperand,
     word: Place,
     paren: Place,
-    start: Option<Operand>,
+    start: Option<ReadOperand>,
     first: Place,
 ) -> Result<Option<Doing>, AllocError>
     ensures { (e : Expression) (a : Option Expression) → ShowsOperand test e → ShowsOptional start a
@@ -133,8 +133,8 @@ pub fn in_loop_test(
 #[inline(never)]
 #[tactic(auto, using(dae_parse_states::proofs::Laws::paren_or_none))]
 pub fn in_step(
-    machine: &mut Machine<'_>,
-    step: Operand,
+    machine: &mut Parser<'_>,
+    step: ReadOperand,
     parts: Box<Loop>,
 ) -> Result<Option<Doing>, AllocError>
     ensures { (e : Expression) (l : plain.Loop) → ShowsOperand step e → ShowsLoop parts.value l →
@@ -151,8 +151,8 @@ pub fn in_step(
 #[inline(never)]
 #[tactic(auto, using(dae_parse_states::proofs::Laws::semicolon_or_none))]
 pub fn in_return(
-    machine: &mut Machine<'_>,
-    value: Operand,
+    machine: &mut Parser<'_>,
+    value: ReadOperand,
     place: Place,
 ) -> Result<Option<Doing>, AllocError>
     ensures { (e : Expression) → ShowsOperand value e →
@@ -169,8 +169,8 @@ pub fn in_return(
 #[inline(never)]
 #[tactic(auto, using(dae_parse_states::proofs::Laws::colon_or_none))]
 pub fn in_case(
-    machine: &mut Machine<'_>,
-    value: Operand,
+    machine: &mut Parser<'_>,
+    value: ReadOperand,
     place: Place,
 ) -> Result<Option<Doing>, AllocError>
     ensures { (e : Expression) → ShowsOperand value e →

@@ -9,19 +9,19 @@ ghost use Rattle.dae_parse_states.specs.States.{Steps};
 
 use dae_base::Place;
 use dae_parse_nodes::{
-    Declared, Operand, Specified, assignment, binary, call, cast, comma, conditional, index,
+    Declared, ReadOperand, Specified, assignment, binary, call, cast, comma, conditional, index,
     parenthesised, prefix, sizeof_expression, with_argument,
 };
 use dae_parse_parts::{ASSIGNMENT, CONDITIONAL, Read};
-use dae_parse_states::{Doing, ExpressionFrame, Machine};
+use dae_parse_states::{Doing, ExpressionFrame, Parser};
 use dae_tree::{AssignmentOperator, BinaryOperator, Expression, PrefixOperator, Sign};
 use std::alloc::AllocError;
 
 /// Behind an expression in parentheses.
 #[tactic(auto, using(dae_parse_states::proofs::Laws::paren_or_none))]
 pub fn in_parentheses(
-    machine: &mut Machine<'_>,
-    a: Operand,
+    machine: &mut Parser<'_>,
+    a: ReadOperand,
     place: Place,
     level: u8,
 ) -> Result<Option<Doing>, AllocError>
@@ -37,9 +37,9 @@ pub fn in_parentheses(
 /// Behind a subscript.
 #[tactic(auto, using(dae_parse_states::proofs::Laws::bracket_or_none))]
 pub fn in_index(
-    machine: &mut Machine<'_>,
-    a: Operand,
-    base: Operand,
+    machine: &mut Parser<'_>,
+    a: ReadOperand,
+    base: ReadOperand,
     place: Place,
     level: u8,
 ) -> Result<Option<Doing>, AllocError>
@@ -54,8 +54,8 @@ pub fn in_index(
 
 /// Behind the operand of a prefix operator.
 pub fn behind_prefix(
-    machine: &mut Machine<'_>,
-    a: Operand,
+    machine: &mut Parser<'_>,
+    a: ReadOperand,
     place: Place,
     operator: PrefixOperator,
     level: u8,
@@ -69,9 +69,9 @@ pub fn behind_prefix(
 
 /// Behind the right operand of a binary operator.
 pub fn behind_binary(
-    machine: &mut Machine<'_>,
-    a: Operand,
-    left: Operand,
+    machine: &mut Parser<'_>,
+    a: ReadOperand,
+    left: ReadOperand,
     place: Place,
     operator: BinaryOperator,
     level: u8,
@@ -87,9 +87,9 @@ pub fn behind_binary(
 #[inline(never)]
 #[tactic(auto, using(dae_parse_states::proofs::Laws::colon_or_none))]
 pub fn behind_question(
-    machine: &mut Machine<'_>,
-    a: Operand,
-    test: Operand,
+    machine: &mut Parser<'_>,
+    a: ReadOperand,
+    test: ReadOperand,
     place: Place,
     level: u8,
 ) -> Result<Option<Doing>, AllocError>
@@ -106,9 +106,9 @@ pub fn behind_question(
 /// Behind an argument.
 #[tactic(auto, using(crate::proofs::OtherwiseExpressions::argument_or_none))]
 pub fn in_arguments(
-    machine: &mut Machine<'_>,
-    a: Operand,
-    callee: Operand,
+    machine: &mut Parser<'_>,
+    a: ReadOperand,
+    callee: ReadOperand,
     place: Place,
     before: Read<Vec<Expression>>,
     level: u8,
@@ -132,8 +132,8 @@ pub fn in_arguments(
 /// Behind the operand of `sizeof`.
 #[inline(never)]
 pub fn behind_sizeof(
-    machine: &mut Machine<'_>,
-    a: Operand,
+    machine: &mut Parser<'_>,
+    a: ReadOperand,
     place: Place,
     level: u8,
 ) -> Result<Option<Doing>, AllocError>
@@ -146,8 +146,8 @@ pub fn behind_sizeof(
 /// Behind the operand of a cast.
 #[inline(never)]
 pub fn behind_cast(
-    machine: &mut Machine<'_>,
-    a: Operand,
+    machine: &mut Parser<'_>,
+    a: ReadOperand,
     place: Place,
     specified: Specified,
     declared: Declared,
@@ -163,11 +163,11 @@ pub fn behind_cast(
 /// Behind the third operand of the conditional operator.
 #[inline(never)]
 pub fn behind_colon(
-    machine: &mut Machine<'_>,
-    a: Operand,
-    test: Operand,
+    machine: &mut Parser<'_>,
+    a: ReadOperand,
+    test: ReadOperand,
     place: Place,
-    then: Operand,
+    then: ReadOperand,
     level: u8,
 ) -> Result<Option<Doing>, AllocError>
     ensures { (e f g : Tree) → ShowsOperand a e → ShowsOperand test f → ShowsOperand then g →
@@ -178,9 +178,9 @@ pub fn behind_colon(
 
 /// Behind the right operand of an assignment.
 pub fn behind_assignment(
-    machine: &mut Machine<'_>,
-    a: Operand,
-    left: Operand,
+    machine: &mut Parser<'_>,
+    a: ReadOperand,
+    left: ReadOperand,
     place: Place,
     operator: AssignmentOperator,
     level: u8,
@@ -194,9 +194,9 @@ pub fn behind_assignment(
 
 /// Behind the right operand of a comma.
 pub fn behind_comma(
-    machine: &mut Machine<'_>,
-    a: Operand,
-    left: Operand,
+    machine: &mut Parser<'_>,
+    a: ReadOperand,
+    left: ReadOperand,
     level: u8,
 ) -> Result<Option<Doing>, AllocError>
     ensures { (e f : Tree) → ShowsOperand a e → ShowsOperand left f →

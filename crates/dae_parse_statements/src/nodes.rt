@@ -10,9 +10,9 @@ ghost use Rattle.dae_parse_parts.specs.Shown.{Shows};
 ghost use Rattle.dae_parse_nodes.specs.Parts.{ShowsOperand, ShowsOptional, ShowsDeclarations, ShowsStatement, ShowsStatements, ShowsLoop};
 
 use dae_base::Place;
-use dae_parse_nodes::{DoParts, Loop, Operand};
+use dae_parse_nodes::{DoParts, Loop, ReadOperand};
 use dae_parse_parts::{Read, beside, flat, longer, node, over, unbox};
-use dae_tree::{Block, Declaration, Expression, Heading, Statement, Test};
+use dae_tree::{Block, Declaration, Expression, Heading, Statement, StatementTest};
 use std::alloc::{AllocError, Global};
 
 /// A statement more.
@@ -65,7 +65,7 @@ pub fn empty_statement(alloc: Global, place: Place) -> Result<Read<Box<Statement
 /// An expression, with the semicolon behind it (C90 6.6.3).
 pub fn evaluation(
     alloc: Global,
-    operand: Operand,
+    operand: ReadOperand,
     end: Place,
 ) -> Result<Read<Box<Statement>>, AllocError>
     ensures { (e : tree.Expression) → ShowsOperand operand e
@@ -81,7 +81,7 @@ pub fn if_statement(
     alloc: Global,
     place: Place,
     paren: Place,
-    test: Operand,
+    test: ReadOperand,
     body: Read<Box<Statement>>,
 ) -> Result<Read<Box<Statement>>, AllocError>
     ensures { (e : tree.Expression) (s : tree.Statement) → ShowsOperand test e
@@ -89,7 +89,7 @@ pub fn if_statement(
 {
     let parts = beside(test.read, body)?;
     node(alloc, place, parts, |(expression, body)| {
-        let test = Test {
+        let test = StatementTest {
             place: paren,
             expression,
         };
@@ -102,7 +102,7 @@ pub fn if_else_statement(
     alloc: Global,
     place: Place,
     paren: Place,
-    test: Operand,
+    test: ReadOperand,
     then: Read<Box<Statement>>,
     other: Read<Box<Statement>>,
 ) -> Result<Read<Box<Statement>>, AllocError>
@@ -113,7 +113,7 @@ pub fn if_else_statement(
     let rest = beside(then, other)?;
     let parts = beside(test.read, rest)?;
     node(alloc, place, parts, |(expression, (then, other))| {
-        let test = Test {
+        let test = StatementTest {
             place: paren,
             expression,
         };
@@ -126,7 +126,7 @@ pub fn switch_statement(
     alloc: Global,
     place: Place,
     paren: Place,
-    test: Operand,
+    test: ReadOperand,
     body: Read<Box<Statement>>,
 ) -> Result<Read<Box<Statement>>, AllocError>
     ensures { (e : tree.Expression) (s : tree.Statement) → ShowsOperand test e
@@ -135,7 +135,7 @@ pub fn switch_statement(
 {
     let parts = beside(test.read, body)?;
     node(alloc, place, parts, |(expression, body)| {
-        let test = Test {
+        let test = StatementTest {
             place: paren,
             expression,
         };
@@ -148,7 +148,7 @@ pub fn while_statement(
     alloc: Global,
     place: Place,
     paren: Place,
-    test: Operand,
+    test: ReadOperand,
     body: Read<Box<Statement>>,
 ) -> Result<Read<Box<Statement>>, AllocError>
     ensures { (e : tree.Expression) (s : tree.Statement) → ShowsOperand test e
@@ -156,7 +156,7 @@ pub fn while_statement(
 {
     let parts = beside(test.read, body)?;
     node(alloc, place, parts, |(expression, body)| {
-        let test = Test {
+        let test = StatementTest {
             place: paren,
             expression,
         };
@@ -184,7 +184,7 @@ pub fn do_statement(
     } = parts;
     let parts = beside(body, test.read)?;
     node(alloc, place, parts, |(body, expression)| {
-        let test = Test {
+        let test = StatementTest {
             place: paren,
             expression,
         };
@@ -193,7 +193,7 @@ pub fn do_statement(
 }
 
 /// An operand that may be lacking, as a part.
-fn optional(alloc: Global, operand: Option<Operand>) -> Read<Option<Box<Expression>>>
+fn optional(alloc: Global, operand: Option<ReadOperand>) -> Read<Option<Box<Expression>>>
     ensures { (e : Option tree.Expression) → ShowsOptional operand e
         → Shows view_optional firsts_optional result e }
 {
@@ -214,7 +214,7 @@ fn optional(alloc: Global, operand: Option<Operand>) -> Read<Option<Box<Expressi
 pub fn for_statement(
     alloc: Global,
     parts: Loop,
-    step: Option<Operand>,
+    step: Option<ReadOperand>,
     body: Read<Box<Statement>>,
 ) -> Result<Read<Box<Statement>>, AllocError>
     ensures { (l : frames.Loop) (e : Option tree.Expression) (s : tree.Statement)
@@ -279,7 +279,7 @@ pub fn continue_statement(
 pub fn return_statement(
     alloc: Global,
     place: Place,
-    value: Option<Operand>,
+    value: Option<ReadOperand>,
     end: Place,
 ) -> Result<Read<Box<Statement>>, AllocError>
     ensures { (e : Option tree.Expression) → ShowsOptional value e
@@ -294,7 +294,7 @@ pub fn return_statement(
 pub fn case_statement(
     alloc: Global,
     place: Place,
-    value: Operand,
+    value: ReadOperand,
     body: Read<Box<Statement>>,
 ) -> Result<Read<Box<Statement>>, AllocError>
     ensures { (e : tree.Expression) (s : tree.Statement) → ShowsOperand value e

@@ -11,16 +11,18 @@ ghost use Rattle.dae_parse_nodes.specs.Parts.{ShowsOperand};
 ghost use Rattle.dae_parse_states.specs.States.{Steps};
 
 use dae_base::Place;
-use dae_parse_nodes::{Operand, call, constant, identifier, literal, no_arguments, no_specifiers};
+use dae_parse_nodes::{
+    ReadOperand, call, constant, identifier, literal, no_arguments, no_specifiers,
+};
 use dae_parse_parts::{ASSIGNMENT, CAST, COMMA, UNARY, operand_level, prefix_operator};
 use dae_parse_states::{
-    Doing, ExpressionFrame, Machine, SpecifiersFrame, begins_specifiers, is_type,
+    Doing, ExpressionFrame, Parser, SpecifiersFrame, begins_specifiers, is_type,
 };
-use dae_tree::{Keyword, Kind, Name, Seen, Sign};
+use dae_tree::{Keyword, Name, Seen, Sign, TokenKind};
 use std::alloc::AllocError;
 
 /// Before an operand (C90 6.3.1 to 6.3.4).
-pub fn seek_operand(machine: &mut Machine<'_>, level: u8) -> Result<Option<Doing>, AllocError>
+pub fn seek_operand(machine: &mut Parser<'_>, level: u8) -> Result<Option<Doing>, AllocError>
     ensures { Steps machine.old result machine.new (sought_of level) }
 {
     let Some(token) = machine.rest.front() else {
@@ -28,26 +30,26 @@ pub fn seek_operand(machine: &mut Machine<'_>, level: u8) -> Result<Option<Doing
     };
     let place = token.place;
     match token.kind {
-        Kind::Name(number) => seek_name(machine, Name { place, number }, level),
-        Kind::Constant(value) => {
+        TokenKind::Name(number) => seek_name(machine, Name { place, number }, level),
+        TokenKind::Constant(value) => {
             machine.rest.skip();
             Ok(Some(Doing::Operated(constant(machine.alloc, place, value)?, level)))
         }
-        Kind::Literal(number) => {
+        TokenKind::Literal(number) => {
             machine.rest.skip();
             Ok(Some(Doing::Operated(literal(machine.alloc, place, number)?, level)))
         }
-        Kind::Keyword(Keyword::Sizeof) => {
+        TokenKind::Keyword(Keyword::Sizeof) => {
             machine.rest.skip();
             Ok(Some(Doing::Measuring(place, level)))
         }
-        Kind::Keyword(_) => Ok(None),
-        Kind::Sign(sign) => seek_sign(machine, sign, place, level),
+        TokenKind::Keyword(_) => Ok(None),
+        TokenKind::Sign(sign) => seek_sign(machine, sign, place, level),
     }
 }
 
 /// Before a name.
-fn seek_name(machine: &mut Machine<'_>, found: Name, level: u8) -> Result<Option<Doing>, AllocError>
+fn seek_name(machine: &mut Parser<'_>, found: Name, level: u8) -> Result<Option<Doing>, AllocError>
     ensures { machine.old.rest ≡ name found ∷ behind machine.old.rest →
         Steps machine.old result machine.new (sought_of level) }
 {
@@ -60,7 +62,7 @@ fn seek_name(machine: &mut Machine<'_>, found: Name, level: u8) -> Result<Option
 
 /// Before a sign.
 fn seek_sign(
-    machine: &mut Machine<'_>,
+    machine: &mut Parser<'_>,
     sign: Sign,
     place: Place,
     level: u8,
@@ -81,7 +83,7 @@ fn seek_sign(
 
 /// Before a parenthesis: a cast, or an expression in parentheses (C90 6.3.1 and 6.3.4).
 fn seek_parenthesis(
-    machine: &mut Machine<'_>,
+    machine: &mut Parser<'_>,
     place: Place,
     level: u8,
 ) -> Result<Option<Doing>, AllocError>
@@ -101,7 +103,7 @@ fn seek_parenthesis(
 /// Behind `sizeof` (C90 6.3.3.4).
 #[inline(never)]
 pub fn read_sizeof(
-    machine: &mut Machine<'_>,
+    machine: &mut Parser<'_>,
     place: Place,
     level: u8,
 ) -> Result<Option<Doing>, AllocError>
@@ -125,8 +127,8 @@ pub fn read_sizeof(
 
 /// Behind the parenthesis of a call (C90 6.3.2.2).
 pub fn read_call(
-    machine: &mut Machine<'_>,
-    callee: Operand,
+    machine: &mut Parser<'_>,
+    callee: ReadOperand,
     place: Place,
     level: u8,
 ) -> Result<Option<Doing>, AllocError>

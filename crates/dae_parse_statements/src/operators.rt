@@ -10,16 +10,16 @@ ghost use Rattle.dae_parse_nodes.specs.Parts.{ShowsOperand};
 ghost use Rattle.dae_parse_states.specs.States.{Steps};
 
 use dae_base::Place;
-use dae_parse_nodes::{Operand, member, postfix};
+use dae_parse_nodes::{ReadOperand, member, postfix};
 use dae_parse_parts::{ASSIGNMENT, COMMA, begun_by, left_level, reach, under};
-use dae_parse_states::{Doing, ExpressionFrame, Machine};
-use dae_tree::{Kind, MemberOperator, Operation, Sign};
+use dae_parse_states::{Doing, ExpressionFrame, Parser};
+use dae_tree::{MemberOperator, Operation, Sign, TokenKind};
 use std::alloc::AllocError;
 
 /// Behind an operand, which an operator may follow (C90 6.3.2 and 6.3.5 to 6.3.17).
 pub fn read_operator(
-    machine: &mut Machine<'_>,
-    operand: Operand,
+    machine: &mut Parser<'_>,
+    operand: ReadOperand,
     level: u8,
 ) -> Result<Option<Doing>, AllocError>
     ensures { (e : Tree) → ShowsOperand operand e →
@@ -29,19 +29,19 @@ pub fn read_operator(
         return Ok(Some(Doing::Gave(operand)));
     };
     match token.kind {
-        Kind::Sign(Sign::RightParen | Sign::RightBracket | Sign::RightBrace | Sign::Colon) => {
+        TokenKind::Sign(Sign::RightParen | Sign::RightBracket | Sign::RightBrace | Sign::Colon) => {
             Ok(Some(Doing::Gave(operand)))
         }
-        Kind::Sign(Sign::Comma) => read_comma(machine, operand, level),
-        Kind::Sign(sign) => read_sign(machine, operand, sign, token.place, level),
+        TokenKind::Sign(Sign::Comma) => read_comma(machine, operand, level),
+        TokenKind::Sign(sign) => read_sign(machine, operand, sign, token.place, level),
         _ => Ok(Some(Doing::Gave(operand))),
     }
 }
 
 /// Before a comma.
 fn read_comma(
-    machine: &mut Machine<'_>,
-    operand: Operand,
+    machine: &mut Parser<'_>,
+    operand: ReadOperand,
     level: u8,
 ) -> Result<Option<Doing>, AllocError>
     ensures { (e : Tree) → machine.old.rest ≡ part comma ∷ behind machine.old.rest
@@ -57,8 +57,8 @@ fn read_comma(
 
 /// Before a sign that may be an operator.
 fn read_sign(
-    machine: &mut Machine<'_>,
-    operand: Operand,
+    machine: &mut Parser<'_>,
+    operand: ReadOperand,
     sign: Sign,
     place: Place,
     level: u8,
@@ -76,9 +76,9 @@ fn read_sign(
 
 /// Behind the sign of an operation.
 fn operate(
-    machine: &mut Machine<'_>,
+    machine: &mut Parser<'_>,
     operation: Operation,
-    operand: Operand,
+    operand: ReadOperand,
     place: Place,
     level: u8,
 ) -> Result<Option<Doing>, AllocError>
@@ -118,8 +118,8 @@ fn operate(
 
 /// Before the name of a member (C90 6.3.2.3).
 fn read_member_name(
-    machine: &mut Machine<'_>,
-    operand: Operand,
+    machine: &mut Parser<'_>,
+    operand: ReadOperand,
     place: Place,
     operator: MemberOperator,
     level: u8,

@@ -1,6 +1,6 @@
 -- Where a file stands in the machine.
 use Rattle.std.specs.Prelude.{◌≡◌, List, [], ◌∷◌}
-use Rattle.dae_parse_grammar.specs.Frames.{Frame, awaits_declaration, in_file, Doing, externals, State, state}
+use Rattle.dae_parse_grammar.specs.Frames.{Frame, awaits_declaration, in_file, Doing, externals, ParserState, state}
 
 -- What is read of a file stands at the bottom of the stack alone.
 abbrev pub IsBottom : List Frame → Type 0
@@ -14,5 +14,5 @@ IsEmptyAt (externals before) s = s ≡ []
 IsEmptyAt _ s = Unit {0}
 
 -- Both hold of a state's stack.
-abbrev pub IsBottomState : State → Type 0
+abbrev pub IsBottomState : ParserState → Type 0
 IsBottomState (state d s names ts) = IsBottom s × IsEmptyAt d s

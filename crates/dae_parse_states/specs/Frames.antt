@@ -9,7 +9,7 @@ use Rattle.dae_tree.specs.Trees as tree
 use Rattle.dae_parse_grammar.specs.Machine.{specifiers_onto, onto}
 use Rattle.dae_parse_grammar.specs.Frames as plain
 use Rattle.dae_parse_nodes.specs.Parts.{ShowsOperand, ShowsArguments, ShowsOptional, ShowsSpecified, ShowsMembers, ShowsEnumerators, ShowsDeclared, ShowsDeclarators, ShowsParameters, ShowsInitialiser, ShowsInitialisers, ShowsItems, ShowsDeclaration, ShowsDeclarations, ShowsStatement, ShowsStatements, ShowsLoop, ShowsExternals}
-use Rattle.dae_parse_nodes.specs.declared.values.Body.{Body}
+use Rattle.dae_parse_nodes.specs.declared.values.TypeBody.{TypeBody}
 use Rattle.dae_parse_nodes.specs.declared.values.Specified.{Specified}
 use Rattle.dae_parse_states.specs.declared.frames.Manner.{Manner}
 use Rattle.dae_parse_states.specs.declared.frames.Manner.TheVariants as manner
@@ -21,11 +21,11 @@ use Rattle.dae_parse_states.specs.declared.frames.FunctionBody.{FunctionBody}
 use Rattle.dae_parse_states.specs.declared.frames.FunctionBody.TheVariants as function_body
 use Rattle.dae_parse_states.specs.declared.frames.StatementKind.{StatementKind}
 use Rattle.dae_parse_states.specs.declared.frames.StatementKind.TheVariants as statement_kind
-use Rattle.dae_parse_states.specs.declared.frames.Open.{Open}
-use Rattle.dae_parse_states.specs.declared.frames.Head.{Head}
-use Rattle.dae_parse_states.specs.declared.frames.Head.TheVariants as head
+use Rattle.dae_parse_states.specs.declared.frames.OpenParameters.{OpenParameters}
+use Rattle.dae_parse_states.specs.declared.frames.StatementHead.{StatementHead}
+use Rattle.dae_parse_states.specs.declared.frames.StatementHead.TheVariants as head
 use Rattle.dae_parse_states.specs.declared.frames.Inside.{Inside}
-use Rattle.dae_parse_states.specs.declared.frames.Before.{Before}
+use Rattle.dae_parse_states.specs.declared.frames.FileSoFar.{FileSoFar}
 use Rattle.dae_parse_states.specs.declared.frames.ExpressionFrame.{ExpressionFrame}
 use Rattle.dae_parse_states.specs.declared.frames.ExpressionFrame.TheVariants as expression
 use Rattle.dae_parse_states.specs.declared.frames.SpecifiersFrame.{SpecifiersFrame}
@@ -66,19 +66,19 @@ is_allowed function_body.Excluded = false
 abbrev pub ShowsBefore : Specified → List tree.Specifier → Type 0
 ShowsBefore s before = ShowsSpecified s (specifiers_onto before no_specifiers)
 
-pub record ShowsBody (b : Box Body Global) (a : plain.Body) : Type 0 where
+pub record ShowsBody (b : Box TypeBody Global) (a : plain.TypeBody) : Type 0 where
   pub place : b.value.place ≡ a.place
   pub tag : b.value.tag ≡ a.tag
   pub brace : b.value.brace ≡ a.brace
   pub seen : b.value.seen ≡ a.seen
   pub before : ShowsBefore b.value.before a.before
 
-pub record ShowsOpen (o : Open) (a : plain.Open) : Type 0 where
+pub record ShowsOpen (o : OpenParameters) (a : plain.OpenParameters) : Type 0 where
   pub declared : ShowsDeclared o.declared a.declarator
   pub place : o.place ≡ a.place
   pub manner : manner_of o.manner ≡ a.manner
 
-abbrev pub ShowsHead : Head → plain.Head → Type 0
+abbrev pub ShowsHead : StatementHead → plain.StatementHead → Type 0
 ShowsHead (head.If p) (plain.if_head q) = p ≡ q
 ShowsHead (head.While p) (plain.while_head q) = p ≡ q
 ShowsHead (head.Switch p) (plain.switch_head q) = p ≡ q
@@ -89,7 +89,7 @@ pub record ShowsInside (i : Inside) (a : plain.Inside) : Type 0 where
   pub place : i.place ≡ a.place
   pub declarations : ShowsDeclarations i.declarations a.declarations
 
-pub record ShowsFile (b : Before) (before : List tree.External) : Type 0 where
+pub record ShowsFile (b : FileSoFar) (before : List tree.External) : Type 0 where
   pub read : ShowsExternals b.read before
   pub taken : b.taken ≡ length (externals_before before [])
   pub too_long : b.too_long ≡ first_too_long (onto before [])

@@ -1,11 +1,11 @@
 // Frames: what a parser has begun and awaits the rest of.
 
 use dae_base::Place;
-use dae_parse_nodes::{Body, Declared, DoParts, Loop, Operand, ParameterList, Specified};
+use dae_parse_nodes::{Declared, DoParts, Loop, ParameterList, ReadOperand, Specified, TypeBody};
 use dae_parse_parts::Read;
 use dae_tree::{
-    AssignmentOperator, BinaryOperator, Declaration, Declarator, Enumerator, Expression, External,
-    Initialiser, Item, Member, Name, PrefixOperator, Seen, Statement,
+    AssignmentOperator, BinaryOperator, BlockItem, Declaration, Declarator, Enumerator, Expression,
+    External, Initialiser, Member, Name, PrefixOperator, Seen, Statement,
 };
 
 /// Whether a declarator has a name, has none, or may have one.
@@ -46,7 +46,7 @@ pub enum StatementKind {
 
 /// What stands before parameters.
 #[derive(Drop)]
-pub struct Open {
+pub struct OpenParameters {
     pub declared: Declared,
     pub place: Place,
     pub manner: Manner,
@@ -54,7 +54,7 @@ pub struct Open {
 
 /// A statement up to its test, with the place of its first word.
 #[derive(Drop)]
-pub enum Head {
+pub enum StatementHead {
     If(Place),
     While(Place),
     Switch(Place),
@@ -75,7 +75,7 @@ pub struct Inside {
 
 /// What was read of a file, how many tokens it has, and the place of the first definition with too many.
 #[derive(Drop)]
-pub struct Before {
+pub struct FileSoFar {
     pub read: Read<Vec<External>>,
     pub taken: usize,
     pub too_long: Option<Place>,
@@ -85,21 +85,21 @@ pub struct Before {
 #[derive(Drop)]
 pub enum ExpressionFrame {
     InParentheses(Place, u8),
-    InIndex(Operand, Place, u8),
-    InArguments(Operand, Place, Read<Vec<Expression>>, u8),
+    InIndex(ReadOperand, Place, u8),
+    InArguments(ReadOperand, Place, Read<Vec<Expression>>, u8),
     BehindPrefix(Place, PrefixOperator, u8),
     BehindSizeof(Place, u8),
     BehindCast(Place, Specified, Declared, u8),
-    BehindBinary(Operand, Place, BinaryOperator, u8),
-    BehindQuestion(Operand, Place, u8),
-    BehindColon(Operand, Place, Operand, u8),
-    BehindAssignment(Operand, Place, AssignmentOperator, u8),
-    BehindComma(Operand, u8),
+    BehindBinary(ReadOperand, Place, BinaryOperator, u8),
+    BehindQuestion(ReadOperand, Place, u8),
+    BehindColon(ReadOperand, Place, ReadOperand, u8),
+    BehindAssignment(ReadOperand, Place, AssignmentOperator, u8),
+    BehindComma(ReadOperand, u8),
     InSize(Declared, Place, Manner),
-    InEnumerator(Box<Body>, Read<Vec<Enumerator>>, Name, Place),
+    InEnumerator(Box<TypeBody>, Read<Vec<Enumerator>>, Name, Place),
     InValue,
     InEvaluation,
-    InTest(Head, Place),
+    InTest(StatementHead, Place),
     InStart {
         word: Place,
         paren: Place,
@@ -108,7 +108,7 @@ pub enum ExpressionFrame {
     InLoopTest {
         word: Place,
         paren: Place,
-        start: Option<Operand>,
+        start: Option<ReadOperand>,
         first: Place,
     },
     InStep(Box<Loop>),
@@ -125,8 +125,8 @@ pub enum SpecifiersFrame {
         paren: Place,
         level: u8,
     },
-    ForParameter(Open, ParameterList),
-    ForMember(Box<Body>, Read<Vec<Member>>),
+    ForParameter(OpenParameters, ParameterList),
+    ForMember(Box<TypeBody>, Read<Vec<Member>>),
     ForDeclaration(FunctionBody),
 }
 
@@ -142,22 +142,22 @@ pub enum DeclaratorFrame {
         specified: Specified,
         level: u8,
     },
-    OfParameter(Open, ParameterList, Specified),
-    OfMember(Box<Body>, Read<Vec<Member>>, Specified, Read<Vec<Declarator>>),
-    OfItem(FunctionBody, Specified, Read<Vec<Item>>),
+    OfParameter(OpenParameters, ParameterList, Specified),
+    OfMember(Box<TypeBody>, Read<Vec<Member>>, Specified, Read<Vec<Declarator>>),
+    OfItem(FunctionBody, Specified, Read<Vec<BlockItem>>),
 }
 
 /// What awaits an initialiser.
 #[derive(Drop)]
 pub enum InitialiserFrame {
     InList(Place, Read<Vec<Initialiser>>),
-    OfValue(Specified, Read<Vec<Item>>, Declared, Place),
+    OfValue(Specified, Read<Vec<BlockItem>>, Declared, Place),
 }
 
 /// What awaits a declaration.
 #[derive(Drop)]
 pub enum DeclarationFrame {
-    InFile(Before),
+    InFile(FileSoFar),
     InBlock(Inside),
 }
 
@@ -167,27 +167,27 @@ pub enum StatementFrame {
     ThenBranch {
         place: Place,
         paren: Place,
-        test: Operand,
+        test: ReadOperand,
     },
     ElseBranch {
         place: Place,
         paren: Place,
-        test: Operand,
+        test: ReadOperand,
         branch: Read<Box<Statement>>,
     },
     WhileBody {
         place: Place,
         paren: Place,
-        test: Operand,
+        test: ReadOperand,
     },
     SwitchBody {
         place: Place,
         paren: Place,
-        test: Operand,
+        test: ReadOperand,
     },
     DoBody(Place),
-    ForBody(Box<Loop>, Option<Operand>),
-    CaseBody(Place, Operand),
+    ForBody(Box<Loop>, Option<ReadOperand>),
+    CaseBody(Place, ReadOperand),
     DefaultBody(Place),
     InStatements(Inside, Read<Vec<Statement>>),
     InDefinition(Specified, Declared),
@@ -208,18 +208,18 @@ pub enum Frame {
 #[derive(Drop)]
 pub enum Doing {
     Seek(u8),
-    Operated(Operand, u8),
-    Gave(Operand),
-    Calling(Operand, Place, u8),
+    Operated(ReadOperand, u8),
+    Gave(ReadOperand),
+    Calling(ReadOperand, Place, u8),
     Measuring(Place, u8),
     Specifying(Seen, Specified),
     Tagging(TagKind, Place, Seen, Specified),
     Tagged(TagKind, Place, Name, Seen, Specified),
-    InMembers(Box<Body>, Read<Vec<Member>>),
-    Enumerating(Box<Body>, Read<Vec<Enumerator>>),
-    Enumerated(Box<Body>, Read<Vec<Enumerator>>, Name),
-    Entered(Box<Body>, Read<Vec<Enumerator>>),
-    Entering(Box<Body>, Read<Vec<Enumerator>>),
+    InMembers(Box<TypeBody>, Read<Vec<Member>>),
+    Enumerating(Box<TypeBody>, Read<Vec<Enumerator>>),
+    Enumerated(Box<TypeBody>, Read<Vec<Enumerator>>, Name),
+    Entered(Box<TypeBody>, Read<Vec<Enumerator>>),
+    Entering(Box<TypeBody>, Read<Vec<Enumerator>>),
     GaveSpecifiers(Specified),
     Declaring(Manner, Presence),
     Qualifying(Manner, Place, Vec<Place>),
@@ -230,13 +230,13 @@ pub enum Doing {
     Initialising,
     Listing(Place, Read<Vec<Initialiser>>),
     GaveInitialiser(Read<Initialiser>),
-    AfterItem(Specified, Read<Vec<Item>>),
+    AfterItem(Specified, Read<Vec<BlockItem>>),
     GaveDeclaration(Read<Declaration>),
-    Externals(Before),
+    Externals(FileSoFar),
     Declarations(Inside),
     Statements(Inside, Read<Vec<Statement>>),
     AtStatement,
-    Opening(Head),
+    Opening(StatementHead),
     Finishing(DoParts),
     Looping(Place),
     Starting {
@@ -247,7 +247,7 @@ pub enum Doing {
     Testing {
         word: Place,
         paren: Place,
-        start: Option<Operand>,
+        start: Option<ReadOperand>,
         first: Place,
     },
     Stepping(Box<Loop>),

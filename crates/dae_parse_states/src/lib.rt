@@ -4,13 +4,13 @@
 #![tactic(auto)]
 
 pub use frames::{
-    Before, DeclarationFrame, DeclaratorFrame, Doing, ExpressionFrame, Frame, FunctionBody, Head,
-    InitialiserFrame, Inside, Manner, Open, Presence, SpecifiersFrame, StatementFrame,
-    StatementKind, TagKind,
+    DeclarationFrame, DeclaratorFrame, Doing, ExpressionFrame, FileSoFar, Frame, FunctionBody,
+    InitialiserFrame, Inside, Manner, OpenParameters, Presence, SpecifiersFrame, StatementFrame,
+    StatementHead, StatementKind, TagKind,
 };
-pub use machine::Machine;
+pub use machine::Parser;
 pub use names::{begins_specifiers, is_type};
-pub use rest::Rest;
+pub use rest::TokensLeft;
 
 mod frames;
 mod machine;

@@ -9,21 +9,21 @@ ghost use Rattle.dae_parse_states.specs.Kept.{out_of_box};
 ghost use Rattle.dae_parse_states.specs.States.{frames_of, Popped};
 
 use crate::frames::Frame;
-use crate::rest::Rest;
+use crate::rest::TokensLeft;
 use dae_parse_nodes::{Declared, Specified};
 use dae_parse_parts::Scope;
 use std::alloc::{AllocError, Global};
 
 /// The machine that reads trees: the tokens that are left, the names in scope, and what comes behind the part that is read.
 #[derive(Drop)]
-pub struct Machine<'t> {
+pub struct Parser<'t> {
     pub alloc: Global,
-    pub rest: Rest<'t>,
+    pub rest: TokensLeft<'t>,
     pub scope: Scope<bool>,
     pub stack: Vec<Frame>,
 }
 
-impl<'t> Machine<'t> {
+impl<'t> Parser<'t> {
     /// Puts a frame on the stack.
     #[tactic(auto, using(crate::proofs::Stacks::stack_more))]
     pub(crate) fn push(&mut self, frame: Frame) -> Result<(), AllocError>

@@ -4,7 +4,7 @@ ghost use Rattle.std.specs.Prelude.{◌≡◌};
 ghost use Rattle.dae_tree.specs.Names.{is_type};
 ghost use Rattle.dae_tree.specs.Words as words;
 
-use crate::rest::Rest;
+use crate::rest::TokensLeft;
 use dae_parse_parts::Scope;
 use dae_tree::Seen;
 
@@ -18,7 +18,7 @@ pub fn is_type(names: &Scope<bool>, name: u32) -> bool
 
 /// Whether the next token begins specifiers, where these names are in scope.
 #[tactic(auto, using(crate::proofs::ByKind::begins_by))]
-pub fn begins_specifiers(names: &Scope<bool>, rest: &Rest<'_>) -> bool
+pub fn begins_specifiers(names: &Scope<bool>, rest: &TokensLeft<'_>) -> bool
     ensures { result ≡ words.begins_specifiers names.now.names rest.now }
 {
     if let Some(word) = rest.word() {

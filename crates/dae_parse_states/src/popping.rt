@@ -7,9 +7,9 @@ use crate::frames::{
     DeclarationFrame, DeclaratorFrame, ExpressionFrame, Frame, InitialiserFrame, SpecifiersFrame,
     StatementFrame,
 };
-use crate::machine::Machine;
+use crate::machine::Parser;
 
-impl<'t> Machine<'t> {
+impl<'t> Parser<'t> {
     /// Takes the top frame off the stack, where it awaits an expression. One that awaits something else is dropped.
     #[tactic(auto, using(crate::proofs::Stacks::not_expression))]
     pub fn pop_expression(&mut self) -> Option<ExpressionFrame>

@@ -8,10 +8,10 @@ use crate::frames::{
     DeclarationFrame, DeclaratorFrame, ExpressionFrame, Frame, InitialiserFrame, SpecifiersFrame,
     StatementFrame,
 };
-use crate::machine::Machine;
+use crate::machine::Parser;
 use std::alloc::AllocError;
 
-impl<'t> Machine<'t> {
+impl<'t> Parser<'t> {
     /// Puts what awaits an expression on the stack.
     pub fn push_expression(&mut self, frame: ExpressionFrame) -> Result<(), AllocError>
         ensures stack { IfOk result

@@ -1,39 +1,39 @@
 // The tokens that are left, and what is in front of them.
 
 ghost use Rattle.std.specs.Prelude.{◌≡◌, ◌∷◌, List, length, IfSome};
-ghost use Rattle.dae_tree.specs.Marks.{Mark, marks, mark, mark_of};
+ghost use Rattle.dae_tree.specs.Marks.{TokenMark, marks, mark, mark_of};
 ghost use Rattle.dae_base.specs.declared.Place.{Place};
 ghost use Rattle.dae_parse_states.specs.Fronts.{Fronts, TookSign, TookWord, TookName, sign_at, word_at, name_at};
 ghost use Rattle.dae_parse_grammar.specs.Stuck.{behind};
 
 use dae_base::Place;
-use dae_tree::{Keyword, Kind, Name, Sign, Token};
+use dae_tree::{Keyword, Name, Sign, Token, TokenKind};
 use std::marker::Model;
 
 /// The tokens that are left, from the next on. Clauses see their marks.
 #[derive(Drop)]
-pub struct Rest<'t> {
+pub struct TokensLeft<'t> {
     tokens: &'t [Token],
     at: usize,
 }
 
-impl<'t> Model for Rest<'t> {
+impl<'t> Model for TokensLeft<'t> {
     ghost use Rattle.std.specs.Prelude.{◌≤◌, List, drop, length};
-    ghost use Rattle.dae_tree.specs.Marks.{Mark, marks};
+    ghost use Rattle.dae_tree.specs.Marks.{TokenMark, marks};
 
-    ghost Value = { List Mark };
+    ghost Value = { List TokenMark };
 
     ghost view = { λ r. marks (drop r.at r.tokens.now) };
 
     ghost invariant = { λ r. r.at ≤ length r.tokens.now };
 }
 
-impl<'t> Rest<'t> {
+impl<'t> TokensLeft<'t> {
     /// All of these tokens.
-    pub fn new(tokens: &'t [Token]) -> Rest<'t>
+    pub fn new(tokens: &'t [Token]) -> TokensLeft<'t>
         ensures { result ≡ marks tokens.entry.now }
     {
-        Rest { tokens, at: 0 }
+        TokensLeft { tokens, at: 0 }
     }
 
     /// How many tokens are left.
@@ -76,16 +76,16 @@ impl<'t> Rest<'t> {
     }
 
     /// The tokens behind the next.
-    pub fn behind(&self) -> Rest<'t>
+    pub fn behind(&self) -> TokensLeft<'t>
         ensures { result ≡ behind self.now }
     {
         if self.at < self.tokens.len() {
-            Rest {
+            TokensLeft {
                 tokens: self.tokens,
                 at: self.at + 1,
             }
         } else {
-            Rest {
+            TokensLeft {
                 tokens: self.tokens,
                 at: self.at,
             }
@@ -162,40 +162,40 @@ impl<'t> Rest<'t> {
 }
 
 #[tactic(auto, using(crate::proofs::ByKind::sign_kept, crate::proofs::ByKind::no_sign))]
-fn sign_in(kind: Kind) -> Option<Sign>
-    ensures { (p : Place) (ts : List Mark) → sign_at (mark_of kind p ∷ ts) ≡ result }
+fn sign_in(kind: TokenKind) -> Option<Sign>
+    ensures { (p : Place) (ts : List TokenMark) → sign_at (mark_of kind p ∷ ts) ≡ result }
 {
     match kind {
-        Kind::Sign(sign) => Some(sign),
-        Kind::Keyword(_) => None,
-        Kind::Name(_) => None,
-        Kind::Constant(_) => None,
-        Kind::Literal(_) => None,
+        TokenKind::Sign(sign) => Some(sign),
+        TokenKind::Keyword(_) => None,
+        TokenKind::Name(_) => None,
+        TokenKind::Constant(_) => None,
+        TokenKind::Literal(_) => None,
     }
 }
 
 #[tactic(auto, using(crate::proofs::ByKind::word_kept, crate::proofs::ByKind::no_word))]
-fn word_in(kind: Kind) -> Option<Keyword>
-    ensures { (p : Place) (ts : List Mark) → word_at (mark_of kind p ∷ ts) ≡ result }
+fn word_in(kind: TokenKind) -> Option<Keyword>
+    ensures { (p : Place) (ts : List TokenMark) → word_at (mark_of kind p ∷ ts) ≡ result }
 {
     match kind {
-        Kind::Sign(_) => None,
-        Kind::Keyword(word) => Some(word),
-        Kind::Name(_) => None,
-        Kind::Constant(_) => None,
-        Kind::Literal(_) => None,
+        TokenKind::Sign(_) => None,
+        TokenKind::Keyword(word) => Some(word),
+        TokenKind::Name(_) => None,
+        TokenKind::Constant(_) => None,
+        TokenKind::Literal(_) => None,
     }
 }
 
 #[tactic(auto, using(crate::proofs::ByKind::no_name_sign, crate::proofs::ByKind::no_name_word))]
-fn name_in(kind: Kind, place: Place) -> Option<Name>
-    ensures { (ts : List Mark) → name_at (mark_of kind place ∷ ts) ≡ result }
+fn name_in(kind: TokenKind, place: Place) -> Option<Name>
+    ensures { (ts : List TokenMark) → name_at (mark_of kind place ∷ ts) ≡ result }
 {
     match kind {
-        Kind::Sign(_) => None,
-        Kind::Keyword(_) => None,
-        Kind::Name(number) => Some(Name { place, number }),
-        Kind::Constant(_) => None,
-        Kind::Literal(_) => None,
+        TokenKind::Sign(_) => None,
+        TokenKind::Keyword(_) => None,
+        TokenKind::Name(number) => Some(Name { place, number }),
+        TokenKind::Constant(_) => None,
+        TokenKind::Literal(_) => None,
     }
 }

@@ -3,7 +3,7 @@
 use dae_base::{Items, Place};
 use dae_lex::tokens;
 use dae_rows::{bytes_of, source_of};
-use dae_tree::{Constant, Keyword, Kind, LexError, Room, Sign, Token, Tokens};
+use dae_tree::{Constant, Keyword, LexError, Room, Sign, Token, TokenKind, Tokens};
 use std::alloc::{AllocError, Global};
 use std::process::Abort;
 
@@ -30,7 +30,7 @@ fn at(line: u32, col: u32) -> Place {
     Place { file: 0, line, col }
 }
 
-fn token(kind: Kind, start: u32, end: u32, place: Place) -> Token {
+fn token(kind: TokenKind, start: u32, end: u32, place: Place) -> Token {
     Token {
         kind,
         start,
@@ -104,9 +104,9 @@ pub fn lines_told(alloc: Global, lines: u32) -> Result<String, AllocError> {
 fn macro_tokens_have_the_span_of_the_name(rt: HostRuntime) {
     let here = at(2, 1);
     let tokens = [
-        token(Kind::Name(0), 14, 15, here),
-        token(Kind::Sign(Sign::Plus), 14, 15, here),
-        token(Kind::Name(1), 14, 15, here),
+        token(TokenKind::Name(0), 14, 15, here),
+        token(TokenKind::Sign(Sign::Plus), 14, 15, here),
+        token(TokenKind::Name(1), 14, 15, here),
     ];
     assert!(rt; reads(rt.alloc(), b"#define a a+b\na", &tokens));
 }
@@ -114,11 +114,11 @@ fn macro_tokens_have_the_span_of_the_name(rt: HostRuntime) {
 #[test]
 fn the_longest_token_counts(rt: HostRuntime) {
     let tokens = [
-        token(Kind::Name(0), 0, 1, at(1, 1)),
-        token(Kind::Sign(Sign::Increment), 1, 3, at(1, 2)),
-        token(Kind::Sign(Sign::Increment), 3, 5, at(1, 4)),
-        token(Kind::Sign(Sign::Plus), 5, 6, at(1, 6)),
-        token(Kind::Name(1), 6, 7, at(1, 7)),
+        token(TokenKind::Name(0), 0, 1, at(1, 1)),
+        token(TokenKind::Sign(Sign::Increment), 1, 3, at(1, 2)),
+        token(TokenKind::Sign(Sign::Increment), 3, 5, at(1, 4)),
+        token(TokenKind::Sign(Sign::Plus), 5, 6, at(1, 6)),
+        token(TokenKind::Name(1), 6, 7, at(1, 7)),
     ];
     assert!(rt; reads(rt.alloc(), b"x+++++y", &tokens));
 }
@@ -126,28 +126,28 @@ fn the_longest_token_counts(rt: HostRuntime) {
 #[test]
 fn a_joined_token_has_its_first_place(rt: HostRuntime) {
     let tokens = [
-        token(Kind::Keyword(Keyword::Int), 0, 3, at(1, 1)),
-        token(Kind::Name(0), 4, 8, at(1, 5)),
-        token(Kind::Sign(Sign::Semicolon), 8, 9, at(2, 2)),
+        token(TokenKind::Keyword(Keyword::Int), 0, 3, at(1, 1)),
+        token(TokenKind::Name(0), 4, 8, at(1, 5)),
+        token(TokenKind::Sign(Sign::Semicolon), 8, 9, at(2, 2)),
     ];
     assert!(rt; reads(rt.alloc(), b"int a\\\nb;", &tokens));
 }
 
-fn int_constant(value: u32) -> Kind {
-    Kind::Constant(Constant {
+fn int_constant(value: u32) -> TokenKind {
+    TokenKind::Constant(Constant {
         value,
         unsigned: false,
     })
 }
 
-fn unsigned_constant(value: u32) -> Kind {
-    Kind::Constant(Constant {
+fn unsigned_constant(value: u32) -> TokenKind {
+    TokenKind::Constant(Constant {
         value,
         unsigned: true,
     })
 }
 
-fn has_kinds(tokens: &[Token], kinds: &[Kind]) -> bool {
+fn has_kinds(tokens: &[Token], kinds: &[TokenKind]) -> bool {
     if tokens.len() != kinds.len() {
         return false;
     }
@@ -173,7 +173,7 @@ fn is_spelled(read: &Tokens, expected: &[u8]) -> bool {
 
 fn check_reading(rt: &impl Abort, read: &Tokens) {
     let kinds = [
-        Kind::Literal(0),
+        TokenKind::Literal(0),
         int_constant(0),
         unsigned_constant(u32::MAX),
         int_constant(65),

@@ -2,7 +2,7 @@
 
 use dae_base::Place;
 use dae_parse_nodes::{
-    Body, Declared, Operand, ParameterList, Specified, binary, function, identifier, named,
+    Declared, ParameterList, ReadOperand, Specified, TypeBody, binary, function, identifier, named,
     no_declarators, no_members, no_parameters, no_specifiers, parenthesised, pointer,
     with_declarator, with_member, with_parameter, with_structure_body, with_word,
 };
@@ -27,7 +27,7 @@ fn name(col: u32, number: u32) -> Name {
 }
 
 /// A name in so many parentheses.
-fn nested(alloc: Global, count: usize) -> Result<Operand, AllocError> {
+fn nested(alloc: Global, count: usize) -> Result<ReadOperand, AllocError> {
     let mut operand = identifier(alloc, name(7, 0))?;
     for _ in 0..count {
         operand = parenthesised(alloc, at(1), operand)?;
@@ -71,7 +71,7 @@ fn function_of_one(alloc: Global) -> Result<Declared, AllocError> {
 }
 
 // a + b
-fn sum(alloc: Global) -> Result<Operand, AllocError> {
+fn sum(alloc: Global) -> Result<ReadOperand, AllocError> {
     let left = identifier(alloc, name(23, 1))?;
     let right = identifier(alloc, name(27, 2))?;
     binary(alloc, left, at(25), BinaryOperator::Add, right)
@@ -100,7 +100,7 @@ fn structure(alloc: Global) -> Result<Specified, AllocError> {
     let declarators = with_declarator(no_declarators(alloc), pointer_to_named(alloc)?)?;
     let specified = word(alloc, 10, Keyword::Int)?;
     let members = with_member(no_members(alloc), specified, declarators, at(16))?;
-    let body = Body {
+    let body = TypeBody {
         place: at(1),
         tag: None,
         brace: at(8),

@@ -15,7 +15,7 @@ use Rattle.dae_meaning.proofs.Laws.{front_same}
 use Rattle.dae_program.specs.Trees as tree
 use Rattle.dae_program.specs.Trees.{Expression, Target, Expressions, Setting, Statements, Arms, Program, Function}
 use Rattle.dae_program.specs.Outcomes.{Outcome, Gives, Object, Local, Placed, unless, access, store, read, write, with_written, last_world}
-use Rattle.dae_program.specs.Expressions.{Setup, operate, divides, decide, evaluate, object, arguments, return_to, with_printed}
+use Rattle.dae_program.specs.Expressions.{ProgramSetup, operate, divides, decide, evaluate, object, arguments, return_to, with_printed}
 use Rattle.dae_program.proofs.Above.{same_above, bind_above, choice_above, Above, AboveResult, Giving, Ending, GoingTo, GoingOn, SameResult}
 
 -- ---- what doesn't depend on the bound
@@ -60,10 +60,10 @@ decide_above y env w = choice_above (nat_eq y 0) w.printed _ _ _ _ (gives_above 
 -- ---- expressions
 
 module _ (address : ℕ → ℕ) (calls more : ℕ → List ℕ → World → Outcome ℕ) (called : (f : ℕ) (xs : List ℕ) (w : World) → Above w.printed (calls f xs w) (more f xs w)) where
-  abbrev pub less : Setup
+  abbrev pub less : ProgramSetup
   less = record { address = address; calls = calls }
 
-  abbrev pub greater : Setup
+  abbrev pub greater : ProgramSetup
   greater = record { address = address; calls = more }
 
   mutual

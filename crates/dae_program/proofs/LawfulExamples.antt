@@ -10,7 +10,7 @@ use Rattle.dae_program.specs.declared.expressions.Fixity.TheVariants.{Prefix}
 use Rattle.dae_program.specs.declared.expressions.Target.TheVariants as target
 use Rattle.dae_program.specs.declared.program.Function.{Function}
 use Rattle.dae_program.specs.declared.program.Links.{Links}
-use Rattle.dae_program.specs.declared.program.Slot.{Slot}
+use Rattle.dae_program.specs.declared.program.FrameSlot.{FrameSlot}
 use Rattle.dae_program.specs.declared.statements.Statement.{Statement}
 use Rattle.dae_program.specs.declared.statements.Statement.TheVariants as statement
 use Rattle.dae_program.specs.Lawful.{is_lawful}
@@ -20,7 +20,7 @@ use Rattle.dae_program.proofs.SetFirstExamples.{here}
 abbrev links : List Links
 links = record { addresses = 16 ∷ []; functions = 1 ∷ [] } ∷ []
 
-abbrev function : List (Option Slot) → ℕ → List Statement → Function
+abbrev function : List (Option FrameSlot) → ℕ → List Statement → Function
 function parameters frame body = record {
   name = [];
   place = here;
@@ -31,7 +31,7 @@ function parameters frame body = record {
   body = body;
 }
 
-abbrev program : List Statement → List (Option Slot) → ℕ → List Statement → Bool
+abbrev program : List Statement → List (Option FrameSlot) → ℕ → List Statement → Bool
 program main parameters frame body = is_lawful 64 20 (1 ∷ (2 ∷ (3 ∷ (4 ∷ [])))) links (function [] 0 main ∷ (function parameters frame body ∷ [])) 0
 
 -- the box with another value
@@ -44,7 +44,7 @@ stops b = statement.Evaluate here (held b (expression.Abort here)) ∷ []
 abbrev steps : Box Expression Global → ℕ → List Statement
 steps b v = statement.Evaluate here (held b (expression.Step here kind.I32 (target.Variable v) 1 Prefix)) ∷ []
 
-abbrev slot : ℕ → List (Option Slot)
+abbrev slot : ℕ → List (Option FrameSlot)
 slot offset = Some (record { offset = offset; width = width.B4 }) ∷ (None ∷ [])
 
 lawful : (b : Box Expression Global) → program (stops b) (slot 4) 8 (steps b 2) ≡ true

@@ -8,8 +8,8 @@ use Rattle.dae_base.proofs.Laws.{and_first, and_second}
 use Rattle.dae_meaning.specs.Operations.{combined}
 use Rattle.dae_meaning.specs.declared.Operator.{Operator}
 use Rattle.dae_meaning.specs.declared.Operator.TheVariants.{Add, Subtract, Multiply, DivideSigned, DivideUnsigned, RemainderSigned, RemainderUnsigned, And, Or, Xor, ShiftLeft, ShiftRightSigned, ShiftRightUnsigned}
-use Rattle.dae_program.specs.declared.program.Slot.{Slot}
-use Rattle.dae_program.specs.Lawful.{Bounds, is_good, fits_frame, adds, number_of, if_number, is_named, is_checked_or_named, is_sound, is_sound_target, are_sound, is_sound_some, are_sound_items, are_sound_statements, are_sound_arms, is_sound_slot}
+use Rattle.dae_program.specs.declared.program.FrameSlot.{FrameSlot}
+use Rattle.dae_program.specs.Lawful.{FunctionBounds, is_good, fits_frame, adds, number_of, if_number, is_named, is_checked_or_named, is_sound, is_sound_target, are_sound, is_sound_some, are_sound_items, are_sound_statements, are_sound_arms, is_sound_slot}
 use Rattle.dae_program.specs.Placed.{IsGood, IsInFrame, IsNamed, IsTested, IsPlaced, IsTargetPlaced, ArePlaced, IsSomePlaced, AreSettingsPlaced, AreSlotsPlaced, AreStatementsPlaced, AreArmsPlaced}
 use Rattle.dae_program.specs.Trees as tree
 use Rattle.dae_program.specs.Trees.{Expression, Target, Expressions, Setting, Statements, Arms}
@@ -59,11 +59,11 @@ good : (width : Width) (x memory : ℕ) → is_good width x memory ≡ true → 
 good width x memory h = (eqb-true _ 0 (and_first _ _ h), leb-true 16 x (and_first _ _ (and_second _ _ h)), leb-true _ memory (and_second _ _ (and_second _ _ h)))
 
 -- in a memory that isn't longer than addresses reach
-module _ (b : Bounds) (small : b.memory ≤ 4294967296) where
+module _ (b : FunctionBounds) (small : b.memory ≤ 4294967296) where
   in_frame : (width : Width) (offset : ℕ) → fits_frame width offset b.frame ≡ true → IsInFrame b.memory b.frame width offset
   in_frame width offset h = in_frame_by_numbers b.memory b.frame width offset small (eqb-true _ 0 (and_first _ _ h)) (leb-true _ b.frame (and_second _ _ h))
 
-  pub slots_placed : (slots : List (Option Slot)) → list_all (is_sound_slot b.frame) slots ≡ true → AreSlotsPlaced b.address b.memory b.frame slots
+  pub slots_placed : (slots : List (Option FrameSlot)) → list_all (is_sound_slot b.frame) slots ≡ true → AreSlotsPlaced b.address b.memory b.frame slots
   slots_placed [] h = tt
   slots_placed (None ∷ slots) h = slots_placed slots h
   slots_placed (Some slot ∷ slots) h = (in_frame slot.width slot.offset (and_second _ _ (and_first _ _ h)), slots_placed slots (and_second _ _ h))

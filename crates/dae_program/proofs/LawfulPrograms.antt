@@ -10,7 +10,7 @@ use Rattle.dae_base.proofs.Laws.{passes_at, and_first, and_second}
 use Rattle.dae_program.specs.declared.program.Function.{Function}
 use Rattle.dae_program.specs.declared.program.Links.{Links}
 use Rattle.dae_program.specs.declared.program.Program.{Program}
-use Rattle.dae_program.specs.Lawful.{Bounds, is_well_placed, is_lawful_memory, is_lawful_body, is_lawful_in, is_main, parameter_count, are_inside, spares, is_sound_slot, are_sound_statements}
+use Rattle.dae_program.specs.Lawful.{FunctionBounds, is_well_placed, is_lawful_memory, is_lawful_body, is_lawful_in, is_main, parameter_count, are_inside, spares, is_sound_slot, are_sound_statements}
 use Rattle.dae_program.specs.Placed.{KeepsFrame, KeepsFrames}
 use Rattle.dae_program.specs.Programs.{program_of, start}
 use Rattle.dae_program.specs.Promise.{KeepsRules, LawfulKeepRules, NeverStrays}
@@ -36,7 +36,7 @@ too_many m n h e = omega (arith, h, e)
 -- ---- functions
 
 module _ (memory variables : ℕ) (counts : ℕ → Option ℕ) (returns : Bool) (f : tree.Function) (h : is_lawful_body memory variables counts returns f ≡ true) where
-  abbrev bounds : Bounds
+  abbrev bounds : FunctionBounds
   bounds = record { variables = variables; parameters = counts; address = f.address; memory = memory; frame = f.frame }
 
   numbers : (nat_eq (f.frame % 4) 0 && nat_le (1 + length f.parameters) variables) ≡ true

@@ -5,9 +5,9 @@ use Rattle.std.proofs.lemmas.Bool.{ltb-true}
 use Rattle.dae_base.specs.declared.Width.{Width}
 use Rattle.dae_base.specs.Words.{width_of}
 use Rattle.dae_base.proofs.Laws.{and_first, and_second}
-use Rattle.dae_program.specs.declared.program.Slot.{Slot}
+use Rattle.dae_program.specs.declared.program.FrameSlot.{FrameSlot}
 use Rattle.dae_program.specs.Switches.{count_arms}
-use Rattle.dae_program.specs.Lawful.{Bounds, is_sound, is_sound_target, are_sound, is_sound_some, are_sound_items, are_sound_statements, are_sound_arms, is_label_word, is_sound_slot}
+use Rattle.dae_program.specs.Lawful.{FunctionBounds, is_sound, is_sound_target, are_sound, is_sound_some, are_sound_items, are_sound_statements, are_sound_arms, is_label_word, is_sound_slot}
 use Rattle.dae_program.specs.Scope.{IsIn, IsTargetIn, AreIn, IsSomeIn, AreSettingsIn, IsLabel, AreStatementsIn, AreArmsIn, AreSlotsIn}
 use Rattle.dae_program.specs.Trees as tree
 use Rattle.dae_program.specs.Trees.{Expression, Target, Expressions, Setting, Statements, Arms}
@@ -17,12 +17,12 @@ are_labels [] h = tt
 are_labels (None ∷ labels) h = (tt, are_labels labels h)
 are_labels (Some k ∷ labels) h = (ltb-true k (2 ^ 32) (and_first _ _ h), are_labels labels (and_second _ _ h))
 
-pub slots_in : (frame : ℕ) (slots : List (Option Slot)) → list_all (is_sound_slot frame) slots ≡ true → AreSlotsIn slots
+pub slots_in : (frame : ℕ) (slots : List (Option FrameSlot)) → list_all (is_sound_slot frame) slots ≡ true → AreSlotsIn slots
 slots_in frame [] h = tt
 slots_in frame (None ∷ slots) h = slots_in frame slots h
 slots_in frame (Some slot ∷ slots) h = (ltb-true slot.offset (2 ^ 32) (and_first _ _ (and_first _ _ h)), slots_in frame slots (and_second _ _ h))
 
-module _ (b : Bounds) where
+module _ (b : FunctionBounds) where
   mutual
     in_scope : (e : Expression) → is_sound b e ≡ true → IsIn b.variables e
     in_scope (tree.Number k) h = ltb-true k (2 ^ 32) h

@@ -10,14 +10,14 @@ use Rattle.dae_meaning.specs.Operations.{spelled, misplaced}
 use Rattle.dae_meaning.specs.Variables.{Env, put, entered}
 use Rattle.dae_meaning.specs.declared.Spelling.TheVariants.{Byte}
 use Rattle.dae_meaning.proofs.Laws.{front_same, front_on}
-use Rattle.dae_program.specs.declared.statements.Piece.{Piece}
-use Rattle.dae_program.specs.declared.statements.Piece.TheVariants as piece
-use Rattle.dae_program.specs.declared.program.Slot.{Slot}
+use Rattle.dae_program.specs.declared.statements.FormatPiece.{FormatPiece}
+use Rattle.dae_program.specs.declared.statements.FormatPiece.TheVariants as piece
+use Rattle.dae_program.specs.declared.program.FrameSlot.{FrameSlot}
 use Rattle.dae_program.specs.Turns.{IsBelow, Same, Fewer, TurnsInOrder}
 use Rattle.dae_program.specs.Trees as tree
 use Rattle.dae_program.specs.Trees.{Expression, Target, Expressions, Setting, Statements, Arms, Program, Function}
 use Rattle.dae_program.specs.Outcomes.{Outcome, Gives, Ends, unless, with_read}
-use Rattle.dae_program.specs.Expressions.{Setup, with_printed}
+use Rattle.dae_program.specs.Expressions.{ProgramSetup, with_printed}
 use Rattle.dae_program.specs.Printing.{print_text, print_pieces, most_bytes}
 use Rattle.dae_program.specs.Initialising.{clear, set_items}
 use Rattle.dae_program.specs.Switches.{first_arm}
@@ -33,7 +33,7 @@ text_grows zero x env w = front_same w.printed
 text_grows (suc most) x env w =
     over_grown w.printed _ _ (value_over w.printed (unless (misplaced B1 x (length w.memory)) (Gives (loaded U8 x w.memory) env (with_read w)) w) _ _ _ (unless_above (misplaced B1 x (length w.memory)) (Gives (loaded U8 x w.memory) env (with_read w)) w (front_same w.printed)) (λ b env w. choice_over (nat_eq b 0) w.printed _ _ _ _ (SameResult (At Next env w) (front_same w.printed)) (SameResult (print_text most (plus x 1) env (with_printed (spelled Byte b) w)) (front_on w.printed (w.printed ++ spelled Byte b) _ (spelled Byte b, refl) (text_grows most (plus x 1) env (with_printed (spelled Byte b) w))))))
 
-shown_grows : (ps : List Piece) (words : List ℕ) (env : Env) (w : World) → IsFront w.printed (world_of (print_pieces ps words env w)).printed
+shown_grows : (ps : List FormatPiece) (words : List ℕ) (env : Env) (w : World) → IsFront w.printed (world_of (print_pieces ps words env w)).printed
 shown_grows [] words env w = front_same w.printed
 shown_grows (piece.Byte b ∷ ps) words env w = front_on w.printed (w.printed ++ spelled Byte b) _ (spelled Byte b, refl) (shown_grows ps words env _)
 shown_grows (piece.Word spelling k ∷ ps) words env w = front_on w.printed (w.printed ++ spelled spelling _) _ (spelled spelling _, refl) (shown_grows ps words env _)
@@ -43,7 +43,7 @@ clear_over : (count x : ℕ) (env : Env) (w : World) → AboveResult w.printed (
 clear_over zero x env w = SameResult (At Next env w) (front_same w.printed)
 clear_over (suc count) x env w = then_over w.printed _ _ _ _ (store_over B1 x 0 env (ticked w)) (clear_over count (plus x 1))
 
-keep_over : (slots : List (Option Slot)) (k : ℕ) (env : Env) (w : World) → AboveResult w.printed (keep_parameters slots k env w) (keep_parameters slots k env w)
+keep_over : (slots : List (Option FrameSlot)) (k : ℕ) (env : Env) (w : World) → AboveResult w.printed (keep_parameters slots k env w) (keep_parameters slots k env w)
 keep_over [] k env w = SameResult (At Next env w) (front_same w.printed)
 keep_over (None ∷ slots) k env w = keep_over slots (k + 1) env w
 keep_over (Some slot ∷ slots) k env w = then_over w.printed _ _ _ _ (store_over slot.width (plus w.frame slot.offset) (env k) env (ticked w)) (keep_over slots (k + 1))
@@ -76,10 +76,10 @@ untested_next (suc n) t t' b b' c c' ht hb hc env w =
 
 module _ (last last' : Bool) (n n' : ℕ) (loops : LoopsOver last last' n n') where
   module _ (address : ℕ → ℕ) (calls more : ℕ → List ℕ → World → Outcome ℕ) (called : (f : ℕ) (xs : List ℕ) (w : World) → Above w.printed (calls f xs w) (more f xs w)) where
-    abbrev fewer : Setup
+    abbrev fewer : ProgramSetup
     fewer = record { address = address; calls = calls }
 
-    abbrev all : Setup
+    abbrev all : ProgramSetup
     all = record { address = address; calls = more }
 
     test_over : (e : Option Expression) → AboveRuns (test fewer e) (test all e)

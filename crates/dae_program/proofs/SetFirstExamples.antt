@@ -4,7 +4,7 @@ use Rattle.dae_base.specs.declared.Place.{Place}
 use Rattle.dae_base.specs.declared.LoadKind.TheVariants.{I32}
 use Rattle.dae_meaning.specs.declared.Operator.TheVariants.{Add}
 use Rattle.dae_meaning.specs.declared.Comparison.TheVariants.{LessSigned}
-use Rattle.dae_program.specs.declared.program.Slot.{Slot}
+use Rattle.dae_program.specs.declared.program.FrameSlot.{FrameSlot}
 use Rattle.dae_program.specs.Trees as tree
 use Rattle.dae_program.specs.Trees.{Expression, Function, Statements}
 use Rattle.dae_program.specs.SetFirst.{is_set_first}
@@ -13,7 +13,7 @@ use Rattle.dae_program.specs.SetFirst.{is_set_first}
 abbrev pub here : Place
 here = record { file = 0; line = 1; col = 1 }
 
-abbrev function : List (Option Slot) → Statements → Function
+abbrev function : List (Option FrameSlot) → Statements → Function
 function parameters body = record { address = λ k. 16; callee = λ g. g; parameters = parameters; frame = 0; body = body }
 
 abbrev gets : ℕ → Expression → Statements → Statements

@@ -14,15 +14,15 @@ use Rattle.dae_meaning.specs.Variables.{Env, put, entered}
 use Rattle.dae_meaning.specs.declared.Operator.{Operator}
 use Rattle.dae_meaning.specs.declared.Spelling.TheVariants.{Byte}
 use Rattle.dae_meaning.proofs.Laws.{IsTold}
-use Rattle.dae_program.specs.declared.statements.Piece.{Piece}
-use Rattle.dae_program.specs.declared.statements.Piece.TheVariants as piece
-use Rattle.dae_program.specs.declared.program.Slot.{Slot}
+use Rattle.dae_program.specs.declared.statements.FormatPiece.{FormatPiece}
+use Rattle.dae_program.specs.declared.statements.FormatPiece.TheVariants as piece
+use Rattle.dae_program.specs.declared.program.FrameSlot.{FrameSlot}
 use Rattle.dae_program.specs.Trees as tree
 use Rattle.dae_program.specs.Trees.{Expression, Target, Expressions, Setting, Statements, Arms, Program, Function}
 use Rattle.dae_program.specs.Programs.{program_end as end_of}
 use Rattle.dae_program.specs.Placed.{IsGood, IsFrame, AreGood, IsInFrame, IsNamed, IsPlaced, IsTargetPlaced, ArePlaced, IsSomePlaced, AreSettingsPlaced, AreSlotsPlaced, AreStatementsPlaced, AreArmsPlaced, KeepsFrame, KeepsFrames}
 use Rattle.dae_program.specs.Outcomes.{Outcome, Gives, Ends, ◌⟫◌, ◌⊳◌, Object, Local, Placed, unless, access, store, read, write, with_read, with_written}
-use Rattle.dae_program.specs.Expressions.{Setup, operate as operated, divides, decide as decided, bit, evaluate as value, object as target, arguments as values, return_to as returned, with_printed}
+use Rattle.dae_program.specs.Expressions.{ProgramSetup, operate as operated, divides, decide as decided, bit, evaluate as value, object as target, arguments as values, return_to as returned, with_printed}
 use Rattle.dae_program.specs.Printing.{print_text as text, argument, print_pieces as shown, most_bytes}
 use Rattle.dae_program.specs.Initialising.{clear as cleared, set_items as set}
 use Rattle.dae_program.specs.Statements.{test as tested, do_effects as evaluated, loop as looped, execute as does, execute_from as does_from}
@@ -151,7 +151,7 @@ module _ (memory start top depth : ℕ) where
     by None go = fine_choice (nat_eq (loaded U8 x w.memory) 0) _ _ (Goes Next env (with_read w) i) (go env _ i)
     by (Some code) go = Halts (Trapped code) w tt
 
-  shown_fine : (ps : List Piece) (words : List ℕ) (env : Env) (w : World) → Inside w → Fine (shown ps words env w)
+  shown_fine : (ps : List FormatPiece) (words : List ℕ) (env : Env) (w : World) → Inside w → Fine (shown ps words env w)
   shown_fine [] words env w i = Goes Next env w i
   shown_fine (piece.Byte b ∷ ps) words env w i = shown_fine ps words env _ i
   shown_fine (piece.Word spelling k ∷ ps) words env w i = shown_fine ps words env _ i
@@ -166,7 +166,7 @@ module _ (memory start top depth : ℕ) where
   looped_fine false test body step t b c zero env w i = Halts Going w tt
   looped_fine last test body step t b c (suc n) env w i = fine_loop _ _ (fine_then _ _ (t env (ticked w) i) b) (λ env w i. fine_loop _ _ (c env w i) (λ env w i. looped_fine last test body step t b c n env w i))
 
-  module _ (s : Setup) (frame : ℕ) (this : IsFrame memory frame start) (calls : (f : ℕ) (xs : List ℕ) (w : World) → Inside w → Sound Any (s.calls f xs w)) where
+  module _ (s : ProgramSetup) (frame : ℕ) (this : IsFrame memory frame start) (calls : (f : ℕ) (xs : List ℕ) (w : World) → Inside w → Sound Any (s.calls f xs w)) where
     in_frame : (width : Width) (offset : ℕ) (w : World) → Inside w → IsInFrame memory frame width offset → IsGood width (plus w.frame offset) memory
     in_frame width offset w i h = subst (λ (f : ℕ). IsGood width (plus f offset) memory) (sym (i.1)) (h start this)
 
@@ -239,7 +239,7 @@ module _ (memory start top depth : ℕ) where
     evaluated_fine None h env w i = Goes Next env w i
     evaluated_fine (Some e) h env w i = fine_value _ _ (value_sound e h env w i) (λ x env w i t. Goes Next env w i)
 
-    kept_fine : (slots : List (Option Slot)) (k : ℕ) → AreSlotsPlaced s.address memory frame slots → (env : Env) (w : World) → Inside w → Fine (kept slots k env w)
+    kept_fine : (slots : List (Option FrameSlot)) (k : ℕ) → AreSlotsPlaced s.address memory frame slots → (env : Env) (w : World) → Inside w → Fine (kept slots k env w)
     kept_fine [] k h env w i = Goes Next env w i
     kept_fine (None ∷ slots) k h env w i = kept_fine slots (k + 1) h env w i
     kept_fine (Some slot ∷ slots) k h env w i = fine_then _ _ (stores_fine slot.width (plus w.frame slot.offset) (env k) env (ticked w) i (in_frame slot.width slot.offset w i h.0)) (λ env w i. kept_fine slots (k + 1) h.1 env w i)
@@ -286,13 +286,13 @@ module _ (p : Program) (last : Bool) (n memory : ℕ) (placed : KeepsFrames memo
   abbrev entry : List ℕ → Env
   entry xs = entered (λ _. true) 1 xs
 
-  abbrev setup_of : ℕ → ℕ → Setup
+  abbrev setup_of : ℕ → ℕ → ProgramSetup
   setup_of fuel f = let g = p.function f in record { address = g.address; calls = λ h. calls_of p last n fuel (g.callee h) }
 
   abbrev body_of : ℕ → Statements
   body_of f = let h = p.function f in h.body
 
-  abbrev slots_of : ℕ → List (Option Slot)
+  abbrev slots_of : ℕ → List (Option FrameSlot)
   slots_of f = let h = p.function f in h.parameters
 
   room_fits : (a : Bool) (f top : ℕ) (w : World) → length w.memory ≡ memory → w.top ≡ top → (a || nat_lt (length w.memory) (w.top + frame_of f)) ≡ false → top + frame_of f ≤ memory

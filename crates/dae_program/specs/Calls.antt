@@ -8,14 +8,14 @@ use Rattle.dae_meaning.specs.Worlds.{World, ticked, back}
 use Rattle.dae_meaning.specs.Results.{Result, At, Over, Next, Leaves, Skips, Returns, Astray, Run, ◌▷◌}
 use Rattle.dae_meaning.specs.Variables.{Env, entered}
 use Rattle.dae_meaning.specs.Operations.{passed}
-use Rattle.dae_program.specs.declared.program.Slot.{Slot}
+use Rattle.dae_program.specs.declared.program.FrameSlot.{FrameSlot}
 use Rattle.dae_program.specs.Outcomes.{Outcome, Gives, Ends, unless, store}
 use Rattle.dae_program.specs.Expressions.{Calls}
 use Rattle.dae_program.specs.Statements.{execute}
 use Rattle.dae_program.specs.Trees.{Function, Program}
 
 -- parameters from number k on are stored in the frame, where they have a slot
-abbrev pub keep_parameters : List (Option Slot) → ℕ → Run Env
+abbrev pub keep_parameters : List (Option FrameSlot) → ℕ → Run Env
 keep_parameters [] k env w = At Next env w
 keep_parameters (None ∷ slots) k env w = keep_parameters slots (k + 1) env w
 keep_parameters (Some slot ∷ slots) k env w =

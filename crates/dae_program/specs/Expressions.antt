@@ -47,7 +47,7 @@ return_to env (Gives x e w) = Gives x env w
 return_to env (Ends end w) = Ends end w
 
 -- where the objects of the file with static storage are, and what calls do
-pub record Setup : Type 0 where
+pub record ProgramSetup : Type 0 where
   pub address : ℕ → ℕ
   pub calls : Calls
 
@@ -64,7 +64,7 @@ with_printed bytes w = record w { printed = w.printed ++ bytes; items = w.items 
 -- and which reads before its right side is evaluated (6.3.16.2); `++` and `--` (6.3.2.4, 6.3.3.1); calls (6.3.2.2); putchar
 -- (7.9.7.9); exit (7.10.4.3); abort, which is trap 5 (7.10.4.1).
 abbrev mutual
-  pub evaluate : Setup → Expression → Env → World → Outcome ℕ
+  pub evaluate : ProgramSetup → Expression → Env → World → Outcome ℕ
   evaluate s (Number k) env w = Gives k env (ticked w)
   evaluate s (Address number offset) env w = Gives (plus (s.address number) offset) env (ticked w)
   evaluate s (Frame p offset) env w = Gives (plus w.frame offset) env (ticked w)
@@ -101,12 +101,12 @@ abbrev mutual
   evaluate s (Abort p) env w = Ends (Trapped 5) (ticked w)
 
   -- which object is assigned; its address is computed here and once
-  pub object : Setup → Target → Env → World → Outcome Object
+  pub object : ProgramSetup → Target → Env → World → Outcome Object
   object s (InVariable v) env w = Gives (Local v) env w
   object s (AtAddress checked a) env w = evaluate s a env w ⟫ λ x. Gives (Placed checked x)
 
   -- arguments from left to right
-  pub arguments : Setup → Expressions → Env → World → Outcome (List ℕ)
+  pub arguments : ProgramSetup → Expressions → Env → World → Outcome (List ℕ)
   arguments s no_expressions env w = Gives [] env w
   arguments s (expression_then a xs) env w =
       evaluate s a env (ticked w) ⟫ λ x env w. arguments s xs env w ⟫ λ words. Gives (x ∷ words)

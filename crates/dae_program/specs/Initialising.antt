@@ -7,7 +7,7 @@ use Rattle.dae_meaning.specs.Worlds.{ticked}
 use Rattle.dae_meaning.specs.Results.{At, Next, Run, ◌▷◌}
 use Rattle.dae_meaning.specs.Variables.{Env}
 use Rattle.dae_program.specs.Outcomes.{◌⊳◌, store}
-use Rattle.dae_program.specs.Expressions.{Setup, evaluate}
+use Rattle.dae_program.specs.Expressions.{ProgramSetup, evaluate}
 use Rattle.dae_program.specs.Trees.{Setting}
 
 -- so many zero bytes from an address on
@@ -16,7 +16,7 @@ clear zero x env w = At Next env w
 clear (suc count) x env w = store B1 x 0 env (ticked w) ▷ clear count (plus x 1)
 
 -- the items, each at its offset in the frame
-abbrev pub set_items : Setup → List Setting → Run Env
+abbrev pub set_items : ProgramSetup → List Setting → Run Env
 set_items s [] env w = At Next env w
 set_items s (item ∷ items) env w =
     evaluate s item.value env w ⊳ λ y env w. store item.width (plus w.frame item.offset) y env w ▷ set_items s items

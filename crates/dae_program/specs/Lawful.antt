@@ -11,9 +11,9 @@ use Rattle.dae_meaning.specs.declared.Operator.{Operator}
 use Rattle.dae_meaning.specs.declared.Operator.TheVariants.{Add}
 use Rattle.dae_program.specs.declared.program.Function.{Function}
 use Rattle.dae_program.specs.declared.program.Links.{Links}
-use Rattle.dae_program.specs.declared.program.Slot.{Slot}
-use Rattle.dae_program.specs.declared.statements.Piece.{Piece}
-use Rattle.dae_program.specs.declared.statements.Piece.TheVariants as piece
+use Rattle.dae_program.specs.declared.program.FrameSlot.{FrameSlot}
+use Rattle.dae_program.specs.declared.statements.FormatPiece.{FormatPiece}
+use Rattle.dae_program.specs.declared.statements.FormatPiece.TheVariants as piece
 use Rattle.dae_program.specs.Switches.{count_arms}
 use Rattle.dae_program.specs.Trees as tree
 use Rattle.dae_program.specs.Trees.{Expression, Target, Expressions, Setting, Statements, Arms, Number, Address, Frame, Variable, Read, Convert, Not, Binary, Compare, And, Or, Conditional, Comma, Assign, Update, Step, Call, Putchar, Exit, Abort, InVariable, AtAddress, no_expressions, expression_then, Done, Evaluate, Initialise, Print, If, Loop, Do, Switch, Break, Continue, Return, no_arms, arm_then}
@@ -25,7 +25,7 @@ is_word k = nat_lt k (2 ^ 32)
 
 -- where a function stands: how many variables it has, how many parameters the functions of its file have that are there, the
 -- addresses of its file's objects, and how many bytes the memory and its frame have
-pub record Bounds : Type 0 where
+pub record FunctionBounds : Type 0 where
   pub variables : ℕ
   pub parameters : ℕ → Option ℕ
   pub address : ℕ → ℕ
@@ -53,7 +53,7 @@ if_number None test = false
 if_number (Some k) test = test k
 
 -- an object of a name, k bytes further; the name may stand behind `,` and in both branches of `?:`
-abbrev pub is_named : Bounds → Width → ℕ → Expression → Bool
+abbrev pub is_named : FunctionBounds → Width → ℕ → Expression → Bool
 is_named b width k (Address object offset) = is_good width (plus (b.address object) (plus offset k)) b.memory
 is_named b width k (Frame p offset) = fits_frame width (plus offset k) b.frame
 is_named b width k (Binary p operator x y) = adds operator && if_number (number_of y) (λ j. is_named b width (plus j k) x)
@@ -75,7 +75,7 @@ is_named b width k (Putchar p x) = false
 is_named b width k (Exit p x) = false
 is_named b width k (Abort p) = false
 
-abbrev pub is_checked_or_named : Bounds → Bool → Width → Expression → Bool
+abbrev pub is_checked_or_named : FunctionBounds → Bool → Width → Expression → Bool
 is_checked_or_named b true width x = true
 is_checked_or_named b false width x = is_named b width 0 x
 
@@ -91,7 +91,7 @@ takes None arguments = false
 takes (Some parameters) arguments = nat_eq arguments parameters
 
 abbrev mutual
-  pub is_sound : Bounds → Expression → Bool
+  pub is_sound : FunctionBounds → Expression → Bool
   is_sound b (Number k) = is_word k
   is_sound b (Address object offset) = is_word offset
   is_sound b (Frame p offset) = is_word offset
@@ -113,21 +113,21 @@ abbrev mutual
   is_sound b (Exit p x) = is_sound b x
   is_sound b (Abort p) = true
 
-  pub is_sound_target : Bounds → Width → Target → Bool
+  pub is_sound_target : FunctionBounds → Width → Target → Bool
   is_sound_target b width (InVariable v) = nat_lt 0 v && nat_lt v b.variables
   is_sound_target b width (AtAddress checked x) = is_checked_or_named b checked width x && is_sound b x
 
-  pub are_sound : Bounds → Expressions → Bool
+  pub are_sound : FunctionBounds → Expressions → Bool
   are_sound b no_expressions = true
   are_sound b (expression_then x xs) = is_sound b x && are_sound b xs
 
-abbrev pub is_sound_some : Bounds → Option Expression → Bool
+abbrev pub is_sound_some : FunctionBounds → Option Expression → Bool
 is_sound_some b None = true
 is_sound_some b (Some x) = is_sound b x
 
 -- ---- statements
 
-abbrev pub are_sound_items : Bounds → List Setting → Bool
+abbrev pub are_sound_items : FunctionBounds → List Setting → Bool
 are_sound_items b [] = true
 are_sound_items b (item ∷ items) =
     (is_word item.offset && fits_frame item.width item.offset b.frame) && (is_sound b item.value && are_sound_items b items)
@@ -137,7 +137,7 @@ is_label_word None = true
 is_label_word (Some k) = is_word k
 
 abbrev mutual
-  pub are_sound_statements : Bounds → Statements → Bool
+  pub are_sound_statements : FunctionBounds → Statements → Bool
   are_sound_statements b Done = true
   are_sound_statements b (Evaluate p x k) = is_sound b x && are_sound_statements b k
   are_sound_statements b (Initialise p offset size items k) =
@@ -154,7 +154,7 @@ abbrev mutual
   are_sound_statements b (Continue p k) = are_sound_statements b k
   are_sound_statements b (Return p x k) = is_sound_some b x && are_sound_statements b k
 
-  pub are_sound_arms : Bounds → Arms → Bool
+  pub are_sound_arms : FunctionBounds → Arms → Bool
   are_sound_arms b no_arms = true
   are_sound_arms b (arm_then labels t rest) = list_all is_label_word labels && (are_sound_statements b t && are_sound_arms b rest)
 
@@ -180,7 +180,7 @@ abbrev mutual
 
 -- ---- formats
 
-abbrev pub is_byte : Piece → Bool
+abbrev pub is_byte : FormatPiece → Bool
 is_byte (piece.Byte b) = nat_lt b (2 ^ 8)
 is_byte (piece.Word spelling k) = true
 is_byte (piece.String k) = true
@@ -205,7 +205,7 @@ abbrev mutual
 
 -- ---- functions and programs
 
-abbrev pub is_sound_slot : ℕ → Option Slot → Bool
+abbrev pub is_sound_slot : ℕ → Option FrameSlot → Bool
 is_sound_slot frame None = true
 is_sound_slot frame (Some slot) = is_word slot.offset && fits_frame slot.width slot.offset frame
 

@@ -6,7 +6,7 @@ use Rattle.dae_base.specs.declared.Width.{Width}
 use Rattle.dae_base.specs.declared.Width.TheVariants.{B1}
 use Rattle.dae_meaning.specs.Worlds.{World}
 use Rattle.dae_meaning.specs.Operations.{combined}
-use Rattle.dae_program.specs.declared.program.Slot.{Slot}
+use Rattle.dae_program.specs.declared.program.FrameSlot.{FrameSlot}
 use Rattle.dae_program.specs.Trees.{Expression, Target, Expressions, Setting, Statements, Arms, Function, Program, Number, Address, Frame, Variable, Read, Convert, Not, Binary, Compare, And, Or, Conditional, Comma, Assign, Update, Step, Call, Putchar, Exit, Abort, InVariable, AtAddress, no_expressions, expression_then, Done, Evaluate, Initialise, Print, If, Loop, Do, Switch, Break, Continue, Return, no_arms, arm_then}
 
 -- an access at x is good in a memory of so many bytes: at a multiple of its width, from 16 on, and within
@@ -96,7 +96,7 @@ module _ (address : ℕ → ℕ) (memory frame : ℕ) where
   AreSettingsPlaced [] = Unit {0}
   AreSettingsPlaced (item ∷ items) = IsInFrame memory frame item.width item.offset × IsPlaced item.value × AreSettingsPlaced items
 
-  abbrev pub AreSlotsPlaced : List (Option Slot) → Type 0
+  abbrev pub AreSlotsPlaced : List (Option FrameSlot) → Type 0
   AreSlotsPlaced [] = Unit {0}
   AreSlotsPlaced (None ∷ slots) = AreSlotsPlaced slots
   AreSlotsPlaced (Some slot ∷ slots) = IsInFrame memory frame slot.width slot.offset × AreSlotsPlaced slots

@@ -9,8 +9,8 @@ use Rattle.dae_meaning.specs.Results.{At, Over, Next, Trapped, Run, ◌▷◌}
 use Rattle.dae_meaning.specs.Variables.{Env}
 use Rattle.dae_meaning.specs.Operations.{spelled, misplaced}
 use Rattle.dae_meaning.specs.declared.Spelling.TheVariants.{Byte}
-use Rattle.dae_program.specs.declared.statements.Piece.{Piece}
-use Rattle.dae_program.specs.declared.statements.Piece.TheVariants as piece
+use Rattle.dae_program.specs.declared.statements.FormatPiece.{FormatPiece}
+use Rattle.dae_program.specs.declared.statements.FormatPiece.TheVariants as piece
 use Rattle.dae_program.specs.Outcomes.{Gives, ◌⊳◌, unless, with_read}
 use Rattle.dae_program.specs.Expressions.{with_printed}
 
@@ -32,7 +32,7 @@ argument other (x ∷ xs) zero = x
 argument other (x ∷ xs) (suc k) = argument other xs k
 
 -- the pieces in order, with the values of the arguments
-abbrev pub print_pieces : List Piece → List ℕ → Run Env
+abbrev pub print_pieces : List FormatPiece → List ℕ → Run Env
 print_pieces [] words env w = At Next env w
 print_pieces (piece.Byte b ∷ ps) words env w = print_pieces ps words env (with_printed (spelled Byte b) w)
 print_pieces (piece.Word spelling k ∷ ps) words env w =

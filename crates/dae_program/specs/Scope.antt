@@ -2,7 +2,7 @@
 -- by a return alone, its numbers are words, and nobody calls main, which has no parameters.
 use Rattle.std.specs.Prelude.{◌≡◌, ◌≢◌, ℕ, ◌+◌, ◌^◌, ◌<◌, ◌≤◌, List, [], ◌∷◌, length, Option, Some, None}
 use Rattle.std.specs.List.{AllByRecursion}
-use Rattle.dae_program.specs.declared.program.Slot.{Slot}
+use Rattle.dae_program.specs.declared.program.FrameSlot.{FrameSlot}
 use Rattle.dae_program.specs.Switches.{count_arms}
 use Rattle.dae_program.specs.Trees.{Expression, Target, Expressions, Setting, Statements, Arms, Program, Number, Address, Frame, Variable, Read, Convert, Not, Binary, Compare, And, Or, Conditional, Comma, Assign, Update, Step, Call, Putchar, Exit, Abort, InVariable, AtAddress, no_expressions, expression_then, Done, Evaluate, Initialise, Print, If, Loop, Do, Switch, Break, Continue, Return, no_arms, arm_then}
 
@@ -68,7 +68,7 @@ abbrev mutual
   AreArmsIn m no_arms = Unit {0}
   AreArmsIn m (arm_then labels t rest) = AllByRecursion IsLabel labels × AreStatementsIn m t × AreArmsIn m rest
 
-abbrev pub AreSlotsIn : List (Option Slot) → Type 0
+abbrev pub AreSlotsIn : List (Option FrameSlot) → Type 0
 AreSlotsIn [] = Unit {0}
 AreSlotsIn (None ∷ slots) = AreSlotsIn slots
 AreSlotsIn (Some slot ∷ slots) = (slot.offset < 2 ^ 32) × AreSlotsIn slots

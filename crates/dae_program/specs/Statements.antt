@@ -7,19 +7,19 @@ use Rattle.dae_meaning.specs.Worlds.{ticked}
 use Rattle.dae_meaning.specs.Results.{At, Over, Next, Leaves, Skips, Returns, Going, Run, ◌▷◌, ◌↻◌}
 use Rattle.dae_meaning.specs.Variables.{Env, put}
 use Rattle.dae_program.specs.Outcomes.{◌⊳◌}
-use Rattle.dae_program.specs.Expressions.{Setup, evaluate, arguments}
+use Rattle.dae_program.specs.Expressions.{ProgramSetup, evaluate, arguments}
 use Rattle.dae_program.specs.Initialising.{clear, set_items}
 use Rattle.dae_program.specs.Printing.{print_pieces}
 use Rattle.dae_program.specs.Switches.{first_arm, count_labels, leave_switch, with_work}
 use Rattle.dae_program.specs.Trees.{Expression, Statements, Arms, Done, Evaluate, Initialise, Print, If, Loop, Do, Switch, Break, Continue, Return, no_arms, arm_then}
 
 -- goes on where a test holds, and leaves the loop where not; without a test it holds (6.6.5.3)
-abbrev pub test : Setup → Option Expression → Run Env
+abbrev pub test : ProgramSetup → Option Expression → Run Env
 test s None env w = At Next env w
 test s (Some e) env w = evaluate s e env w ⊳ λ x env w. if nat_eq x 0 then At Leaves env w else At Next env w
 
 -- an expression for its effects (6.6.3)
-abbrev pub do_effects : Setup → Option Expression → Run Env
+abbrev pub do_effects : ProgramSetup → Option Expression → Run Env
 do_effects s None env w = At Next env w
 do_effects s (Some e) env w = evaluate s e env w ⊳ λ x. At Next
 
@@ -35,7 +35,7 @@ loop last test body step (suc n) env w =
 -- 6.6.5.3); `do` (6.6.5.2); `switch` (6.6.4.2); `break` (6.6.6.3); `continue` (6.6.6.2); `return` (6.6.6.4), without a value
 -- of 0
 abbrev mutual
-  pub execute : Setup → Bool → ℕ → Statements → Run Env
+  pub execute : ProgramSetup → Bool → ℕ → Statements → Run Env
   execute s last n Done env w = At Next env w
   execute s last n (Evaluate p e k) env w = (evaluate s e env (ticked w) ⊳ λ x. At Next) ▷ execute s last n k
   execute s last n (Initialise p offset size items k) env w =
@@ -57,7 +57,7 @@ abbrev mutual
   execute s last n (Return p (Some e) k) env w = evaluate s e env (ticked w) ⊳ λ x env w. At Returns (put true 0 x env) w
 
   -- the arms of a switch from a number on, one after the other
-  pub execute_from : Setup → Bool → ℕ → ℕ → Arms → Run Env
+  pub execute_from : ProgramSetup → Bool → ℕ → ℕ → Arms → Run Env
   execute_from s last n first no_arms env w = At Next env w
   execute_from s last n zero (arm_then labels t rest) env w = execute s last n t env w ▷ execute_from s last n zero rest
   execute_from s last n (suc first) (arm_then labels t rest) env w = execute_from s last n first rest env w

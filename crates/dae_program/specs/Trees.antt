@@ -5,8 +5,8 @@ use Rattle.dae_base.specs.declared.Width.{Width}
 use Rattle.dae_base.specs.declared.LoadKind.{LoadKind}
 use Rattle.dae_meaning.specs.declared.Operator.{Operator}
 use Rattle.dae_meaning.specs.declared.Comparison.{Comparison}
-use Rattle.dae_program.specs.declared.statements.Piece.{Piece}
-use Rattle.dae_program.specs.declared.program.Slot.{Slot}
+use Rattle.dae_program.specs.declared.statements.FormatPiece.{FormatPiece}
+use Rattle.dae_program.specs.declared.program.FrameSlot.{FrameSlot}
 
 mutual
   pub data Expression : Type 0 where
@@ -51,7 +51,7 @@ mutual
     Done : Statements
     Evaluate : Place → Expression → (k : Statements) → Statements
     Initialise : Place → (offset size : ℕ) → List Setting → (k : Statements) → Statements
-    Print : Place → Expressions → List Piece → (k : Statements) → Statements
+    Print : Place → Expressions → List FormatPiece → (k : Statements) → Statements
     If : Place → Expression → (s t k : Statements) → Statements
     Loop : Place → (test : Option Expression) → (body : Statements) → (step : Option Expression) → (k : Statements) → Statements
     Do : Place → (body : Statements) → (test : Expression) → (k : Statements) → Statements
@@ -69,7 +69,7 @@ mutual
 pub record Function : Type 0 where
   pub address : ℕ → ℕ
   pub callee : ℕ → ℕ
-  pub parameters : List (Option Slot)
+  pub parameters : List (Option FrameSlot)
   pub frame : ℕ
   pub body : Statements
 

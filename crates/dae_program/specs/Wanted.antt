@@ -1,8 +1,8 @@
 -- What of a program the access side may load and decide by itself: what is wanted for addresses, and which tests are open to
 -- it. Both speak of the program alone, and bound what a compiler may give the access side to do.
 use Rattle.std.specs.Prelude.{◌≡◌, ℕ, suc, ◌+◌, Bool, true, false, ◌&&◌, ◌||◌, nat_eq, if◌then◌else◌, List, ◌∷◌, Option, Some, None, []}
-use Rattle.dae_program.specs.declared.statements.Piece.{Piece}
-use Rattle.dae_program.specs.declared.statements.Piece.TheVariants as piece
+use Rattle.dae_program.specs.declared.statements.FormatPiece.{FormatPiece}
+use Rattle.dae_program.specs.declared.statements.FormatPiece.TheVariants as piece
 use Rattle.dae_program.specs.Expressions.{bit}
 use Rattle.dae_program.specs.Trees.{Expression, Target, Expressions, Setting, Statements, Arms, Program, Number, Address, Frame, Variable, Read, Convert, Not, Binary, Compare, And, Or, Conditional, Comma, Assign, Update, Step, Call, Putchar, Exit, Abort, InVariable, AtAddress, no_expressions, expression_then, Done, Evaluate, Initialise, Print, If, Loop, Do, Switch, Break, Continue, Return, no_arms, arm_then}
 
@@ -15,7 +15,7 @@ IfSo true X = X
 IfSo false X = Unit {0}
 
 -- whether an argument of printf is one for `%s`
-abbrev pub is_text : ℕ → List Piece → Bool
+abbrev pub is_text : ℕ → List FormatPiece → Bool
 is_text k [] = false
 is_text k (piece.Byte b ∷ ps) = is_text k ps
 is_text k (piece.Word spelling j ∷ ps) = is_text k ps
@@ -60,7 +60,7 @@ module _ (wants : Wants) (callee : ℕ → ℕ) (f : ℕ) where
     KeepArguments g k no_expressions = Unit {0}
     KeepArguments g k (expression_then x xs) = KeepsWants (wants g k) x × KeepArguments g (suc k) xs
 
-  abbrev pub KeepPrinted : List Piece → (k : ℕ) → Expressions → Type 0
+  abbrev pub KeepPrinted : List FormatPiece → (k : ℕ) → Expressions → Type 0
   KeepPrinted pieces k no_expressions = Unit {0}
   KeepPrinted pieces k (expression_then x xs) = KeepsWants (is_text k pieces) x × KeepPrinted pieces (suc k) xs
 
@@ -126,7 +126,7 @@ module _ (wants : Wants) (callee : ℕ → ℕ) (f : ℕ) where
     wanted_arguments g k no_expressions = 0
     wanted_arguments g k (expression_then x xs) = wanted (wants g k) x + wanted_arguments g (suc k) xs
 
-  abbrev pub wanted_printed : List Piece → (k : ℕ) → Expressions → ℕ
+  abbrev pub wanted_printed : List FormatPiece → (k : ℕ) → Expressions → ℕ
   wanted_printed pieces k no_expressions = 0
   wanted_printed pieces k (expression_then x xs) = wanted (is_text k pieces) x + wanted_printed pieces (suc k) xs
 

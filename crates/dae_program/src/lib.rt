@@ -4,9 +4,9 @@
 #![tactic(auto)]
 
 pub use expressions::{Expression, Fixity, Target};
-pub use program::{Function, Links, Program, Slot};
+pub use program::{FrameSlot, Function, Links, Program};
 pub use rules::{lawful_keep_rules, named_never_stray, never_strays};
-pub use statements::{Arm, Piece, Setting, Statement};
+pub use statements::{Arm, FormatPiece, Setting, Statement};
 pub use turns::{ends_stay, going_before, one_end, output_grows, turns_in_order};
 
 mod expressions;

@@ -5,7 +5,7 @@ use dae_base::{Items, Place, Text, Width};
 
 /// Where a parameter stands in the frame, in bytes, and how wide it is.
 #[derive(Clone, Copy, PartialEq, Eq)]
-pub struct Slot {
+pub struct FrameSlot {
     pub offset: u32,
     pub width: Width,
 }
@@ -18,7 +18,7 @@ pub struct Function {
     pub name: Text,
     pub place: Place,
     pub file: u32,
-    pub parameters: Items<Option<Slot>>,
+    pub parameters: Items<Option<FrameSlot>>,
     pub variables: u32,
     pub frame: u64,
     pub body: Items<Statement>,

@@ -7,7 +7,7 @@ use dae_meaning::Spelling;
 /// What `printf` prints: a byte of the format, an argument, or the bytes that an argument points to. Arguments are numbered
 /// from 0.
 #[derive(Clone, Copy)]
-pub enum Piece {
+pub enum FormatPiece {
     Byte(u8),
     Word(Spelling, u32),
     String(u32),
@@ -30,7 +30,7 @@ pub enum Statement {
     Evaluate(Place, Box<Expression>),
     /// An initialised aggregate of so many bytes from an offset in the frame on: zeros, and then the items.
     Initialise(Place, u32, u32, Vec<Setting>),
-    Print(Place, Vec<Expression>, Vec<Piece>),
+    Print(Place, Vec<Expression>, Vec<FormatPiece>),
     If(Place, Box<Expression>, Vec<Statement>, Vec<Statement>),
     /// `while` and `for`: a test or none, the body, and what follows each turn, or nothing.
     Loop(Place, Option<Box<Expression>>, Vec<Statement>, Option<Box<Expression>>),

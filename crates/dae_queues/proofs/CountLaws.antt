@@ -9,18 +9,18 @@ use Rattle.dae_base.specs.declared.LoadKind.{LoadKind}
 use Rattle.dae_queues.specs.declared.Slot.{Slot}
 use Rattle.dae_queues.specs.declared.StoreAt.{StoreAt}
 use Rattle.dae_queues.specs.Lists.{Slots, rest, first_value, without_front, with_slot, new_slot, is_waiting, waiting, give, with_value, next_store}
-use Rattle.dae_queues.specs.Numbers.{Counts, SlotsCount}
+use Rattle.dae_queues.specs.Numbers.{CountsUp, SlotsCount}
 
-pub counts_le : (low : ℕ) (ns : List ℕ) (high : ℕ) → Counts low ns high → low ≤ high
+pub counts_le : (low : ℕ) (ns : List ℕ) (high : ℕ) → CountsUp low ns high → low ≤ high
 counts_le low [] high h = omega arith
 counts_le low (n ∷ ns) high h = let k = counts_le (low + 1) ns high h.1 in omega arith
 
-pub counts_more : (low : ℕ) (ns : List ℕ) (high : ℕ) → Counts low ns high → Counts low (ns ++ high ∷ []) (high + 1)
+pub counts_more : (low : ℕ) (ns : List ℕ) (high : ℕ) → CountsUp low ns high → CountsUp low (ns ++ high ∷ []) (high + 1)
 counts_more low [] high h = (sym h, ap (λ n. n + 1) h)
 counts_more low (n ∷ ns) high h = (h.0, counts_more (low + 1) ns high h.1)
 
 -- what waits has a number below the next one
-pub counts_find : (low n high : ℕ) (ss : List Slot) (s : Slot) → Counts low (map (λ (slot : Slot). slot.number) ss) high → waiting n ss ≡ Some s → n < high
+pub counts_find : (low n high : ℕ) (ss : List Slot) (s : Slot) → CountsUp low (map (λ (slot : Slot). slot.number) ss) high → waiting n ss ≡ Some s → n < high
 counts_find low n high [] s h f = cc
 counts_find low n high (z ∷ ss) s h f =
     let k = counts_le (low + 1) (map (λ (slot : Slot). slot.number) ss) high h.1 in
@@ -35,7 +35,7 @@ all_find P p [] x h f = cc
 all_find P p (z ∷ xs) x h f = some_gives P (p z) z x (find p xs) h.0 (all_find P p xs x h.1) f
 
 -- the next store is older than the next address
-pub counts_next : (low high : ℕ) (as' : List StoreAt) (ws : List ℕ) (s : StoreAt × ℕ) → Counts low (map (λ (a : StoreAt). a.number) as') high → next_store as' ws ≡ Some s → s.0.number < high
+pub counts_next : (low high : ℕ) (as' : List StoreAt) (ws : List ℕ) (s : StoreAt × ℕ) → CountsUp low (map (λ (a : StoreAt). a.number) as') high → next_store as' ws ≡ Some s → s.0.number < high
 counts_next low high [] ws s h n = cc
 counts_next low high (a ∷ as') [] s h n = cc
 counts_next low high (a ∷ as') (w ∷ ws) s h n =
@@ -87,18 +87,18 @@ slots_rest issued s f c = slots_rest_by issued s.taken s.reserved s.slots f c
 pub slots_given : (issued n w : ℕ) (s : Slots) → SlotsCount issued s → SlotsCount issued (record s { slots = with_value n w s.slots })
 slots_given issued n w s c = record { numbers = rw (numbers_given n w s.slots) c.numbers; stamps = stamps_given n w issued s.slots c.stamps }
 
-pub sa_rest : (drained issued : ℕ) (as' : List StoreAt) (ws : List ℕ) (s : StoreAt × ℕ) → next_store as' ws ≡ Some s → Counts drained (map (λ (a : StoreAt). a.number) as') issued → Counts (drained + 1) (map (λ (a : StoreAt). a.number) (rest as')) issued
+pub sa_rest : (drained issued : ℕ) (as' : List StoreAt) (ws : List ℕ) (s : StoreAt × ℕ) → next_store as' ws ≡ Some s → CountsUp drained (map (λ (a : StoreAt). a.number) as') issued → CountsUp (drained + 1) (map (λ (a : StoreAt). a.number) (rest as')) issued
 sa_rest drained issued [] ws s n c = absurd (cc)
 sa_rest drained issued (a ∷ as') ws s n c = c.1
 
 -- where something waits, fewer were taken than were put in
-pub counts_front : (low high v : ℕ) (ss : List Slot) → Counts low (map (λ (slot : Slot). slot.number) ss) high → first_value ss ≡ Some v → low + 1 ≤ high
+pub counts_front : (low high v : ℕ) (ss : List Slot) → CountsUp low (map (λ (slot : Slot). slot.number) ss) high → first_value ss ≡ Some v → low + 1 ≤ high
 counts_front low high v [] h f = cc
 counts_front low high v (s ∷ ss) h f = counts_le (low + 1) (map (λ (slot : Slot). slot.number) ss) high h.1
 
-pub counts_store : (low high : ℕ) (as' : List StoreAt) (ws : List ℕ) (s : StoreAt × ℕ) → Counts low (map (λ (a : StoreAt). a.number) as') high → next_store as' ws ≡ Some s → low + 1 ≤ high
+pub counts_store : (low high : ℕ) (as' : List StoreAt) (ws : List ℕ) (s : StoreAt × ℕ) → CountsUp low (map (λ (a : StoreAt). a.number) as') high → next_store as' ws ≡ Some s → low + 1 ≤ high
 counts_store low high [] ws s h f = cc
 counts_store low high (a ∷ as') ws s h f = counts_le (low + 1) (map (λ (a : StoreAt). a.number) as') high h.1
 
-pub stores_more : (low high addr : ℕ) (width : Width) (as' : List StoreAt) → Counts low (map (λ (a : StoreAt). a.number) as') high → Counts low (map (λ (a : StoreAt). a.number) (as' ++ record { number = high; addr = addr; width = width } ∷ [])) (high + 1)
+pub stores_more : (low high addr : ℕ) (width : Width) (as' : List StoreAt) → CountsUp low (map (λ (a : StoreAt). a.number) as') high → CountsUp low (map (λ (a : StoreAt). a.number) (as' ++ record { number = high; addr = addr; width = width } ∷ [])) (high + 1)
 stores_more low high addr width as' c = rw (map-append (λ (a : StoreAt). a.number) as' (record { number = high; addr = addr; width = width } ∷ [])) (counts_more low (map (λ (a : StoreAt). a.number) as') high c)

@@ -4,12 +4,12 @@ use Rattle.std.specs.Prelude.{Option, Some, None, is_none, nat_lt, nat_eq, slice
 use Rattle.std.proofs.lemmas.Bool.Decides.{nat_tests}
 use Rattle.dae_queues.specs.declared.Slot.{Slot}
 use Rattle.dae_queues.specs.Lists.{is_waiting, waiting, with_value}
-use Rattle.dae_queues.specs.Numbers.{Counts}
+use Rattle.dae_queues.specs.Numbers.{CountsUp}
 use Rattle.dae_queues.proofs.CountLaws.{numbers_given}
 use Rattle.dae_queues.specs.Rings.{unfilled, at_place}
 
 abbrev pub SlotsNumbered : ℕ → List Slot → ℕ → Type 0
-SlotsNumbered low ss high = Counts low (map (λ (s : Slot). s.number) ss) high
+SlotsNumbered low ss high = CountsUp low (map (λ (s : Slot). s.number) ss) high
 
 pub none_below : (n low high : ℕ) (ss : List Slot) → SlotsNumbered low ss high → n < low → waiting n ss ≡ None
 none_below n low high [] c l = refl

@@ -5,15 +5,15 @@ use Rattle.std.proofs.lemmas.Bool.{true≢false}
 use Rattle.dae_queues.specs.Lists.{first, rest}
 
 -- what waits, oldest first, and how much may wait
-pub record Line (X : Type 0) : Type 0 where
+pub record BoundedQueue (X : Type 0) : Type 0 where
   pub held : List X
   pub depth : ℕ
 
 module _ {X : Type 0} where
-  abbrev pub with_item : X → Line X → Line X
+  abbrev pub with_item : X → BoundedQueue X → BoundedQueue X
   with_item x q = record { held = q.held ++ x ∷ []; depth = q.depth }
 
-  abbrev pub without_item : Line X → Line X
+  abbrev pub without_item : BoundedQueue X → BoundedQueue X
   without_item q = record { held = rest q.held; depth = q.depth }
 
   -- a push and a take commute on a queue that has an item

@@ -71,9 +71,9 @@ pub struct PlainFifo<T: Copy> {
 
 impl<T: Copy> Model for PlainFifo<T> {
     ghost use Rattle.std.specs.Prelude.{◌<◌, ◌≤◌, ◌^◌, length, vec_capacity};
-    ghost use Rattle.dae_queues.specs.Fifos.{Line};
+    ghost use Rattle.dae_queues.specs.Fifos.{BoundedQueue};
 
-    ghost Value = { Line T };
+    ghost Value = { BoundedQueue T };
 
     ghost view = { λ q. record { held = q.items.items; depth = q.depth } };
 
@@ -147,9 +147,9 @@ pub struct RingFifo<T: Copy> {
 
 impl<T: Copy> Model for RingFifo<T> {
     ghost use Rattle.std.specs.Prelude.{◌<◌, ◌^◌};
-    ghost use Rattle.dae_queues.specs.Fifos.{Line};
+    ghost use Rattle.dae_queues.specs.Fifos.{BoundedQueue};
 
-    ghost Value = { Line T };
+    ghost Value = { BoundedQueue T };
 
     ghost view = { λ q. record { held = q.ring.items; depth = q.ring.capacity } };
 

@@ -26,7 +26,7 @@ pub struct SlotQueue {
 
 impl Model for SlotQueue {
     ghost use Rattle.std.specs.Prelude.{◌<◌, ◌^◌, map};
-    ghost use Rattle.dae_queues.specs.Numbers.{Counts};
+    ghost use Rattle.dae_queues.specs.Numbers.{CountsUp};
     ghost use Rattle.dae_queues.specs.Rings.{SlotRing, AreFilled};
 
     ghost Value = { SlotRing };
@@ -37,7 +37,7 @@ impl Model for SlotQueue {
           depth = q.ring.capacity;
         } };
 
-    ghost invariant = { λ q. Counts q.taken (map (λ slot. slot.number) q.ring.items) q.reserved
+    ghost invariant = { λ q. CountsUp q.taken (map (λ slot. slot.number) q.ring.items) q.reserved
         × (q.ring.capacity < 2 ^ 16) × AreFilled q.filled q.ring.items };
 }
 

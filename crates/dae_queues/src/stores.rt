@@ -21,7 +21,7 @@ pub struct StoreQueue {
 
 impl Model for StoreQueue {
     ghost use Rattle.std.specs.Prelude.{◌<◌, ◌^◌, map};
-    ghost use Rattle.dae_queues.specs.Numbers.{Counts};
+    ghost use Rattle.dae_queues.specs.Numbers.{CountsUp};
     ghost use Rattle.dae_queues.specs.Rings.{StoreRing};
 
     ghost Value = { StoreRing };
@@ -38,7 +38,7 @@ impl Model for StoreQueue {
           sd_depth = q.words.capacity;
         } };
 
-    ghost invariant = { λ q. Counts q.drained (map (λ at. at.number) q.addresses.items) q.issued
+    ghost invariant = { λ q. CountsUp q.drained (map (λ at. at.number) q.addresses.items) q.issued
         × (q.addresses.capacity < 2 ^ 16) × (q.words.capacity < 2 ^ 16) };
 }
 

@@ -12,7 +12,7 @@ use Rattle.dae_ir.specs.declared.stream.Action.{Action}
 use Rattle.dae_ir.specs.declared.stream.Branch.{Branch}
 use Rattle.dae_ir.specs.declared.stream.Step.{Step}
 use Rattle.dae_ir.specs.declared.stream.Step.TheVariants as step
-use Rattle.dae_select_walks.specs.Live.{Ways, ways, live, lives, before, sets, decided, with_all, turn, body_ways, step_ways, none, nowhere, parameters_of, function_lives}
+use Rattle.dae_select_walks.specs.Live.{LiveWays, ways, live, lives, before, sets, decided, with_all, turn, body_ways, step_ways, none, nowhere, parameters_of, function_lives}
 use Rattle.dae_select_walks.proofs.LawsOfWalks.{turn_again}
 use Rattle.dae_select_live.specs.Members.{member}
 use Rattle.dae_select_live.proofs.Laws.{onto_if, onto_loop}
@@ -45,7 +45,7 @@ pub branched : (s : Step) (m : Mark) (b : Branch) (p q : Vec Step Global) (leave
 branched s m b p q leaves skips next old mid last new one other set is second first both more counted base k n h =
     let x = ways n (member leaves) (member skips) in
     let P = actions_of p.items in let Q = actions_of q.items in
-    let inner : Ways = ways (live k x) (member leaves) (member skips) in
+    let inner : LiveWays = ways (live k x) (member leaves) (member skips) in
     let second' = subst (λ (l : VariableSet). ArePlacesOf Q (ways l (member leaves) (member skips)) old mid other) h.live second in
     let first' = subst (λ (l : VariableSet). ArePlacesOf P (ways l (member leaves) (member skips)) mid last one) h.live first in
     let lived : member set ≡ live (If m b P Q k) x = rw (both, first'.live, second'.live) refl in
@@ -71,11 +71,11 @@ looped s m p q leaves skips next old mid last new turned again set is first step
     let x = ways n (member leaves) (member skips) in
     let B = actions_of p.items in let S = actions_of q.items in let N : VariableSet = live k x in
     let T : member turned ≡ turn B S N = first ∙ ap (turn B S) h.live in
-    let three : VariableSet → VariableSet → Ways = λ t u. ways t u t in
+    let three : VariableSet → VariableSet → LiveWays = λ t u. ways t u t in
     let e1 : ways (member turned) (member next) (member turned) ≡ step_ways B S N = ap (λ (t : VariableSet). three t (member next)) T ∙ ap (λ (u : VariableSet). three (turn B S N) u) h.live in
-    let step' = subst (λ (w : Ways). ArePlacesOf S w old mid again) e1 step in
+    let step' = subst (λ (w : LiveWays). ArePlacesOf S w old mid again) e1 step in
     let e2 : ways (member again) (member next) (member again) ≡ body_ways B S N = ap (λ (t : VariableSet). three t (member next)) step'.live ∙ ap (λ (u : VariableSet). three (live S (step_ways B S N)) u) h.live in
-    let body' = subst (λ (w : Ways). ArePlacesOf B w mid last set) e2 body in
+    let body' = subst (λ (w : LiveWays). ArePlacesOf B w mid last set) e2 body in
     let LB = lives B (body_ways B S N) in let LS = lives S (step_ways B S N) in
     let lived : member set ≡ live (Loop m B S k) x = body'.live ∙ turn_again B S N in
     let whole : step_onto s k ≡ Loop m B S k = ap (λ (z : Step). step_onto z k) is ∙ onto_loop m p q k in

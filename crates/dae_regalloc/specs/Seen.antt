@@ -5,7 +5,7 @@ use Rattle.dae_ir.specs.Classes.{VariableSet}
 use Rattle.dae_ir.specs.Sizes.{size}
 use Rattle.dae_ir.specs.Streams.{Actions, step_onto}
 use Rattle.dae_ir.specs.declared.stream.Step.{Step}
-use Rattle.dae_select_walks.specs.Live.{Ways, ways, live, lives}
+use Rattle.dae_select_walks.specs.Live.{LiveWays, ways, live, lives}
 use Rattle.dae_select_live.specs.Members.{member}
 use Rattle.dae_regalloc.specs.declared.Span.{Span}
 use Rattle.dae_regalloc.specs.declared.spans.Spans.{Spans}
@@ -90,7 +90,7 @@ pub record IsFurther (seen : ℕ → Type 0) (old new : Spans) : Type 0 where
   pub few : (n : ℕ) → length old.numbers ≤ n → ((v : ℕ) → seen v → v < n) → length new.numbers ≤ n
 
 -- behind the places that are seen those of the actions are seen, and these variables are live before the actions
-pub record ArePlacesOf (actions : Actions) (x : Ways) (old new : Spans) (set : List ℕ) : Type 0 where
+pub record ArePlacesOf (actions : Actions) (x : LiveWays) (old new : Spans) (set : List ℕ) : Type 0 where
   pub seen : (places : List VariableSet) → AreSeen places old → AreSeen (lives actions x ++ places) new
   pub live : member set ≡ live actions x
   pub count : new.places ≡ old.places + count_places actions

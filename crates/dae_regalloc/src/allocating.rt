@@ -8,7 +8,7 @@ ghost use Rattle.dae_select_walks.specs.Live.{function_lives};
 ghost use Rattle.dae_regalloc.specs.Seen.{number_in, AreBelow, can_number};
 ghost use Rattle.dae_regalloc.specs.Given.{numbered_home, IsRegister, AreFew};
 
-use crate::numbers::Numbers;
+use crate::numbers::SpanNumbers;
 use crate::places::spans_of;
 use crate::scanning::homes_of;
 use dae_ir::Step;
@@ -31,7 +31,7 @@ fn numbered_home(homes: &[Home], number: Option<usize>) -> Home
 /// The homes of variables, from those of their spans.
 fn homes_by_variable(
     alloc: Global,
-    numbers: &Numbers,
+    numbers: &SpanNumbers,
     homes: &[Home],
 ) -> Result<Vec<Home>, AllocError>
     ensures homes { IfOk result (λ table. (v : ℕ) → home_in table.items v

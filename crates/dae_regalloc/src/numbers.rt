@@ -9,11 +9,11 @@ use std::marker::Model;
 /// For each variable that has a span, its number. Clauses see what each variable has, from 0 on, up to some variable
 /// behind which none has one.
 #[derive(Drop)]
-pub struct Numbers {
+pub struct SpanNumbers {
     inside: Vec<Option<usize>>,
 }
 
-impl Model for Numbers {
+impl Model for SpanNumbers {
     ghost use Rattle.std.specs.Prelude.{ℕ, List, Option};
 
     ghost Value = { List (Option ℕ) };
@@ -21,12 +21,12 @@ impl Model for Numbers {
     ghost view = { λ numbers. numbers.inside.items };
 }
 
-impl Numbers {
+impl SpanNumbers {
     /// No variable has a number. It takes no memory.
-    pub fn new(alloc: Global) -> Numbers
+    pub fn new(alloc: Global) -> SpanNumbers
         ensures { result ≡ [] }
     {
-        Numbers {
+        SpanNumbers {
             inside: Vec::new(alloc),
         }
     }

@@ -4,7 +4,7 @@ ghost use Rattle.std.specs.Prelude.{◌≡◌, ◌+◌, ◌^◌, ◌<◌, true, 
 ghost use Rattle.dae_ir.specs.Code.{Done};
 ghost use Rattle.dae_ir.specs.Streams.{actions_of, step_onto};
 ghost use Rattle.dae_select_live.specs.Members.{member};
-ghost use Rattle.dae_select_live.specs.Turns.{told_by, TellsTurns};
+ghost use Rattle.dae_select_live.specs.Turns.{turns_told, TellsTurns};
 ghost use Rattle.dae_select_walks.specs.Live.{ways, with_all, only, sets, parameters_of, function_lives};
 ghost use Rattle.dae_regalloc.specs.Seen.{AreSeen, ArePlacesOf, ArePlacesOfStep, SeesPlace, can_number, count_places};
 
@@ -86,7 +86,7 @@ fn see_step(
     skips: &LiveSet,
 ) -> Result<LiveSet, AllocError>
     requires room { spans.old.places + count_places (step_onto step.now Done) < 2 ^ 32 }
-    requires told { TellsTurns (told_by turns.now) (step_onto step.now Done) }
+    requires told { TellsTurns (turns_told turns.now) (step_onto step.now Done) }
     ensures { IfOk result (λ set.
         ArePlacesOfStep step.now spans.old next leaves.now skips.now spans.new set) }
 {
@@ -126,7 +126,7 @@ fn see_steps(
     skips: &LiveSet,
 ) -> Result<LiveSet, AllocError>
     requires room { spans.old.places + count_places (actions_of steps.now) < 2 ^ 32 }
-    requires told { TellsTurns (told_by turns.now) (actions_of steps.now) }
+    requires told { TellsTurns (turns_told turns.now) (actions_of steps.now) }
     ensures { IfOk result (λ set.
         ArePlacesOf (actions_of steps.now) (ways (member next) (member leaves.now)
         (member skips.now)) spans.old spans.new set) }

@@ -6,7 +6,7 @@ ghost use Rattle.dae_select_live.specs.Members.{member};
 ghost use Rattle.dae_regalloc.specs.Seen.{widened, number_in, with_number, IsFurther, AreSeen};
 
 use crate::Span;
-use crate::numbers::Numbers;
+use crate::numbers::SpanNumbers;
 use dae_select_live::LiveSet;
 use std::alloc::{AllocError, Global};
 
@@ -15,7 +15,7 @@ use std::alloc::{AllocError, Global};
 #[derive(Drop)]
 pub struct Spans {
     pub spans: Vec<Span>,
-    pub numbers: Numbers,
+    pub numbers: SpanNumbers,
     pub places: u32,
 }
 
@@ -26,7 +26,7 @@ impl Spans {
     {
         Spans {
             spans: Vec::new(alloc),
-            numbers: Numbers::new(alloc),
+            numbers: SpanNumbers::new(alloc),
             places: 0,
         }
     }

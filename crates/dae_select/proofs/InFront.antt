@@ -7,10 +7,10 @@ use Rattle.dae_encode.specs.declared.Inst.{Inst}
 use Rattle.dae_ir.specs.Code.{Done, Do, If, Loop}
 use Rattle.dae_ir.specs.Streams.{Actions}
 use Rattle.dae_select_walks.specs.Agrees.{Plan}
-use Rattle.dae_select_walks.specs.declared.Standing.{Standing}
-use Rattle.dae_select_walks.specs.declared.Standing.TheVariants.{Settled}
+use Rattle.dae_select_walks.specs.declared.VariableStanding.{VariableStanding}
+use Rattle.dae_select_walks.specs.declared.VariableStanding.TheVariants.{Settled}
 use Rattle.dae_select_walks.specs.Facts.{Facts, facts_behind, facts_in_first, facts_in_second, facts_past_if, facts_at_turn, facts_at_step, facts_past_loop, need_of}
-use Rattle.dae_select_walks.specs.Live.{Ways, behind, live, step_ways, body_ways}
+use Rattle.dae_select_walks.specs.Live.{LiveWays, behind, live, step_ways, body_ways}
 use Rattle.dae_select_blocks.specs.Blocks.{jump_words, jump_over, jump_back}
 use Rattle.dae_select_blocks.specs.Sizes.{most_words_in}
 use Rattle.dae_select_blocks.proofs.LawsOfBlocks.{code_length}
@@ -75,10 +75,10 @@ put_front is js ps qs =
 -- ---- the instructions are those of the code
 
 module _ (short : Bool) (plan : Plan) (variables : ℕ → ℕ) (f : ℕ) where
-  abbrev code : Facts → Actions → Ways → ℕ → ℕ → List Inst
+  abbrev code : Facts → Actions → LiveWays → ℕ → ℕ → List Inst
   code known = code_of short plan variables f Settled known
 
-  abbrev marked : Facts → Actions → Ways → ℕ → ℕ → Grown
+  abbrev marked : Facts → Actions → LiveWays → ℕ → ℕ → Grown
   marked known = marked_code short plan variables f Settled known
 
   -- a loop, from its parts
@@ -110,7 +110,7 @@ module _ (short : Bool) (plan : Plan) (variables : ℕ → ℕ) (f : ℕ) where
       let eg : g ≡ turn = same_body (length d + words) 0 ∙ ap (λ (c : List Inst). body' (length c + words) 0) ed in
       ap (λ (c : List Inst). whole g d c) same_rest ∙ ap (λ (c : List Inst). whole g c rest') ed ∙ ap (λ (c : List Inst). whole c again rest') eg
 
-  pub same_code : (g : Standing) (known : Facts) (c : Actions) (x : Ways) (l s : ℕ) → (marked_code short plan variables f g known c x l s).code ≡ code_of short plan variables f g known c x l s
+  pub same_code : (g : VariableStanding) (known : Facts) (c : Actions) (x : LiveWays) (l s : ℕ) → (marked_code short plan variables f g known c x l s).code ≡ code_of short plan variables f g known c x l s
   same_code g' known Done x l s = refl
   same_code g' known (Do m a k) x l s =
       let next = standing_behind a k x in
@@ -153,11 +153,11 @@ module _ (short : Bool) (plan : Plan) (variables : ℕ → ℕ) (f : ℕ) where
       (λ l s. same_code Settled F t y l s) (λ l s. same_code Settled T (If m' b p q t) y l s) (λ l s. same_code Settled S step (step_ways (If m' b p q t) step n) l s) (same_code Settled K k x l s)
 
   -- how many words it has at most
-  pub marked_length : (known : Facts) (c : Actions) (x : Ways) (l s : ℕ) → length (marked known c x l s).code ≤ most_words_in c
+  pub marked_length : (known : Facts) (c : Actions) (x : LiveWays) (l s : ℕ) → length (marked known c x l s).code ≤ most_words_in c
   marked_length known c x l s = (let h = code_length short plan variables f Settled known c x l s in let e = ap length (same_code Settled known c x l s) in omega arith)
 
   -- what does nothing has no code
-  pub nothing_marked : (known : Facts) (c : Actions) (x : Ways) (l s : ℕ) → does_nothing c ≡ true → length (marked known c x l s).code ≡ 0
+  pub nothing_marked : (known : Facts) (c : Actions) (x : LiveWays) (l s : ℕ) → does_nothing c ≡ true → length (marked known c x l s).code ≡ 0
   nothing_marked known Done x l s is = refl
   nothing_marked known (Do m a k) x l s is = absurd cc
   nothing_marked known (If m b p q k) x l s is = absurd cc

@@ -14,9 +14,9 @@ use Rattle.dae_ir.specs.declared.stream.Step.TheVariants as step
 use Rattle.dae_select_walks.specs.Facts.{Facts, unknown, facts_behind, facts_in_first, facts_in_second, facts_past_if, facts_at_turn, facts_at_step, facts_past_loop, need_of}
 use Rattle.dae_select_walks.specs.declared.Need.{Need}
 use Rattle.dae_select_walks.specs.Agrees.{Plan}
-use Rattle.dae_select_walks.specs.declared.Standing.{Standing}
-use Rattle.dae_select_walks.specs.declared.Standing.TheVariants.{Settled}
-use Rattle.dae_select_walks.specs.Live.{Ways, ways, live, before, decided, with_all, turn, body_ways, step_ways, none, nowhere}
+use Rattle.dae_select_walks.specs.declared.VariableStanding.{VariableStanding}
+use Rattle.dae_select_walks.specs.declared.VariableStanding.TheVariants.{Settled}
+use Rattle.dae_select_walks.specs.Live.{LiveWays, ways, live, before, decided, with_all, turn, body_ways, step_ways, none, nowhere}
 use Rattle.dae_select_live.specs.Members.{member}
 use Rattle.dae_select_live.proofs.Laws.{onto_if, onto_loop}
 use Rattle.dae_select_blocks.proofs.LawsOfBlocks.{by_pairs}
@@ -38,7 +38,7 @@ module _ (short : Bool) (plan : Plan) (variables : ℕ → ℕ) (f : ℕ) where
   longer : (rest base : Grown) (more : ℕ) → length (in_front rest base).code + more ≡ length rest.code + (length base.code + more)
   longer rest base more = (let e = length-append rest.code base.code in omega arith)
 
-  pub acted : (exits : Exits) (need : Need) (told : Facts) (s : Step) (m : Mark) (a : Action) (first last : Standing) (old : Grown) (next : List ℕ) (new : Grown) (set : List ℕ) → s ≡ step.Act m a
+  pub acted : (exits : Exits) (need : Need) (told : Facts) (s : Step) (m : Mark) (a : Action) (first last : VariableStanding) (old : Grown) (next : List ℕ) (new : Grown) (set : List ℕ) → s ≡ step.Act m a
       → new ≡ in_front (acting m.place (block_code plan variables f need first a last (member next) (jump_over short (length old.code + exits.leaves)) (jump_over short (length old.code + exits.skips)))) old
       → ((n : VariableSet) → member set ≡ before a (member next) (ways n (member exits.leaves_live) (member exits.skips_live)))
       → IsStepCode short plan variables f need told first last exits s old next new set
@@ -46,12 +46,12 @@ module _ (short : Bool) (plan : Plan) (variables : ℕ → ℕ) (f : ℕ) where
       let x = ways n (member exits.leaves_live) (member exits.skips_live) in
       let later : Facts = facts_behind plan.memory a known in
       let h = subst (λ (z : Step). IsCodeOf short plan variables f last (facts_after plan.memory z known) base exits.leaves exits.skips x k old next) is h0 in
-      let code : Standing → Grown = λ g. marked_code short plan variables f g later k x (length base.code + exits.leaves) (length base.code + exits.skips) in
+      let code : VariableStanding → Grown = λ g. marked_code short plan variables f g later k x (length base.code + exits.leaves) (length base.code + exits.skips) in
       let rest = code last in
-      let block : Standing → VariableSet → ℕ → ℕ → Grown = λ g l i j. acting m.place (block_code plan variables f (need_of plan.memory known a k) first a g l (jump_over short i) (jump_over short j)) in
+      let block : VariableStanding → VariableSet → ℕ → ℕ → Grown = λ g l i j. acting m.place (block_code plan variables f (need_of plan.memory known a k) first a g l (jump_over short i) (jump_over short j)) in
       let to : length old.code + exits.leaves ≡ length rest.code + (length base.code + exits.leaves) = ap (λ (g : Grown). length g.code + exits.leaves) h.code ∙ longer rest base exits.leaves in
       let on : length old.code + exits.skips ≡ length rest.code + (length base.code + exits.skips) = ap (λ (g : Grown). length g.code + exits.skips) h.code ∙ longer rest base exits.skips in
-      let here : Standing → Grown = λ g. block g (live k x) (length (code g).code + (length base.code + exits.leaves)) (length (code g).code + (length base.code + exits.skips)) in
+      let here : VariableStanding → Grown = λ g. block g (live k x) (length (code g).code + (length base.code + exits.leaves)) (length (code g).code + (length base.code + exits.skips)) in
       let tested : need ≡ need_of plan.memory known a k = test.need ∙ ap (λ (z : Step). need_of_step plan.memory known z k) is in
       let inner : new ≡ in_front (in_front (here last) rest) base =
       made ∙ ap (λ (t : Need). in_front (acting m.place (block_code plan variables f t first a last (member next) (jump_over short (length old.code + exits.leaves)) (jump_over short (length old.code + exits.skips)))) old) tested ∙ ap (λ (l : VariableSet). in_front (block last l (length old.code + exits.leaves) (length old.code + exits.skips)) old) h.live
@@ -60,7 +60,7 @@ module _ (short : Bool) (plan : Plan) (variables : ℕ → ℕ) (f : ℕ) where
       let stands : last ≡ standing_behind a k x = stood ∙ ap (λ (z : Step). standing_after z k x) is in
       let lived : member set ≡ live (Do m a k) x = lives n ∙ ap (λ (l : VariableSet). before a l x) h.live in
       record {
-        code = inner ∙ ap (λ (g : Standing). in_front (in_front (here g) (code g)) base) stands ∙ sym (ap (λ (z : Step). in_front (marked_code short plan variables f first known (step_onto z k) x (length base.code + exits.leaves) (length base.code + exits.skips)) base) is);
+        code = inner ∙ ap (λ (g : VariableStanding). in_front (in_front (here g) (code g)) base) stands ∙ sym (ap (λ (z : Step). in_front (marked_code short plan variables f first known (step_onto z k) x (length base.code + exits.leaves) (length base.code + exits.skips)) base) is);
         live = lived ∙ sym (ap (λ (z : Step). live (step_onto z k) x) is);
       }
 
@@ -74,7 +74,7 @@ module _ (short : Bool) (plan : Plan) (variables : ℕ → ℕ) (f : ℕ) where
   led true all first past second old over is whole empty = (let no_words = empty refl in omega arith)
   led false all first past second old over is whole empty = omega arith
 
-  pub branched : (exits : Exits) (need : Need) (told : Facts) (g g' : Standing) (s : Step) (m : Mark) (b : Branch) (p q : Vec Step Global) (old : Grown) (next : List ℕ) (set one other : List ℕ) (c1 c2 c3 c4 : Grown) → s ≡ step.If m b p q
+  pub branched : (exits : Exits) (need : Need) (told : Facts) (g g' : VariableStanding) (s : Step) (m : Mark) (b : Branch) (p q : Vec Step Global) (old : Grown) (next : List ℕ) (set one other : List ℕ) (c1 c2 c3 c4 : Grown) → s ≡ step.If m b p q
       → IsCodeOf short plan variables f Settled (facts_in_second b told) old exits.leaves exits.skips (ways (member next) (member exits.leaves_live) (member exits.skips_live)) (actions_of q.items) c1 other
       → c2 ≡ in_front (glue (past_code short (does_nothing (actions_of p.items) || does_nothing (actions_of q.items)) (length c1.code - length old.code))) c1
       → IsCodeOf short plan variables f Settled (facts_in_first b told) c2 exits.leaves exits.skips (ways (member next) (member exits.leaves_live) (member exits.skips_live)) (actions_of p.items) c3 one
@@ -91,7 +91,7 @@ module _ (short : Bool) (plan : Plan) (variables : ℕ → ℕ) (f : ℕ) where
       let first = subst (λ (z : Facts). IsCodeOf short plan variables f Settled (facts_in_first b z) c2 lv sk (ways (member next) (member exits.leaves_live) (member exits.skips_live)) P0 c3 one) same first0 in
       let past_is : facts_after plan.memory s known ≡ K = ap (λ (c : Actions). facts_past plan.memory c known) (ap (λ (z : Step). step_onto z Done) is ∙ onto_if m b p q Done) in
       let h = subst (λ (z : Facts). IsCodeOf short plan variables f Settled z base exits.leaves exits.skips x k old next) past_is
-      (subst (λ (st : Standing). IsCodeOf short plan variables f st (facts_after plan.memory s known) base exits.leaves exits.skips x k old next) (stood ∙ ap (λ (z : Step). standing_after z k x) is) h0) in
+      (subst (λ (st : VariableStanding). IsCodeOf short plan variables f st (facts_after plan.memory s known) base exits.leaves exits.skips x k old next) (stood ∙ ap (λ (z : Step). standing_after z k x) is) h0) in
       let none = does_nothing (actions_of p.items) in let none' = none || does_nothing (actions_of q.items) in
       let rest = marked_code short plan variables f Settled K k x (length base.code + lv) (length base.code + sk) in
       let code : Facts → Actions → VariableSet → ℕ → ℕ → Grown = λ z c l. marked_code short plan variables f Settled z c (ways l (member exits.leaves_live) (member exits.skips_live)) in
@@ -142,10 +142,10 @@ module _ (short : Bool) (plan : Plan) (variables : ℕ → ℕ) (f : ℕ) where
   turned_assoc (Some t) a b r base = (let n = length a.code + length b.code in five (glue (jump_over short n)) a b (acting t.place (back_branch (plan.home f) t.branch true n)) r base)
 
   -- what of a body stands before the step
-  abbrev inner_of : Option PlacedBranch → Facts → Actions → Ways → ℕ → Grown
+  abbrev inner_of : Option PlacedBranch → Facts → Actions → LiveWays → ℕ → Grown
   inner_of test known body y l = if is_some test then marked_tail short plan variables f known body y l 0 else marked_code short plan variables f Settled known body y l 0
 
-  inner_is : (known : Facts) (steps : List Step) (again : Actions) (test : Option PlacedBranch) (y : Ways) (l : ℕ) → test ≡ bottom_of (actions_of steps) again
+  inner_is : (known : Facts) (steps : List Step) (again : Actions) (test : Option PlacedBranch) (y : LiveWays) (l : ℕ) → test ≡ bottom_of (actions_of steps) again
       → marked_code short plan variables f Settled (facts_in_tail test (actions_of steps) known) (actions_of (drop (if is_some test then 1 else 0) steps)) y l 0 ≡ inner_of test known (actions_of steps) y l
   inner_is known steps again None y l e = refl
   inner_is known [] again (Some t) y l e = absurd cc
@@ -165,7 +165,7 @@ module _ (short : Bool) (plan : Plan) (variables : ℕ → ℕ) (f : ℕ) where
   tail_short [] = omega arith
   tail_short (s ∷ steps) = (let e = onto_words s (actions_of steps) in omega arith)
 
-  pub near_turn : (test : Option PlacedBranch) (steps again : List Step) (tail : List Step) (l k : ℕ) (x y : Ways) (c1 c2 : Grown) (set other : List ℕ) (A T : Facts) → test ≡ bottom_of (actions_of steps) (actions_of again) → tail ≡ drop (if is_some test then 1 else 0) steps
+  pub near_turn : (test : Option PlacedBranch) (steps again : List Step) (tail : List Step) (l k : ℕ) (x y : LiveWays) (c1 c2 : Grown) (set other : List ℕ) (A T : Facts) → test ≡ bottom_of (actions_of steps) (actions_of again) → tail ≡ drop (if is_some test then 1 else 0) steps
       → IsCodeOf short plan variables f Settled A no_code l 0 x (actions_of again) c1 set → IsCodeOf short plan variables f Settled T no_code k 0 y (actions_of tail) c2 other → IsNearTurn test c2 c1
   near_turn None steps again tail l k x y c1 c2 set other A T below left one two = tt
   near_turn (Some t) steps again tail l k x y c1 c2 set other A T below left one two =
@@ -180,7 +180,7 @@ module _ (short : Bool) (plan : Plan) (variables : ℕ → ℕ) (f : ℕ) where
       let same : most_words_in (actions_of tail) ≡ most_words_in (actions_of (drop 1 steps)) = ap (λ (z : List Step). most_words_in (actions_of z)) left in
       omega arith
 
-  pub looped : (exits : Exits) (need : Need) (told : Facts) (g g' : Standing) (s : Step) (m : Mark) (p q : Vec Step Global) (old : Grown) (next begins again set : List ℕ) (c1 c2 new : Grown) (test : Option PlacedBranch) (words : ℕ) (tail : List Step) → s ≡ step.Loop m p q
+  pub looped : (exits : Exits) (need : Need) (told : Facts) (g g' : VariableStanding) (s : Step) (m : Mark) (p q : Vec Step Global) (old : Grown) (next begins again set : List ℕ) (c1 c2 new : Grown) (test : Option PlacedBranch) (words : ℕ) (tail : List Step) → s ≡ step.Loop m p q
       → member begins ≡ turn (actions_of p.items) (actions_of q.items) (member next)
       → test ≡ bottom_of (actions_of p.items) (actions_of q.items) → words ≡ words_behind (plan.home f) short test → tail ≡ drop (if is_some test then 1 else 0) p.items
       → IsCodeOf short plan variables f Settled (facts_at_step plan.memory (actions_of p.items) (actions_of q.items) told) no_code words 0 (ways (member begins) (member next) (member begins)) (actions_of q.items) c1 again
@@ -197,22 +197,22 @@ module _ (short : Bool) (plan : Plan) (variables : ℕ → ℕ) (f : ℕ) where
       let body = subst (λ (z : Facts). IsCodeOf short plan variables f Settled (facts_in_tail test B0 (facts_at_turn plan.memory B0 S0 z)) no_code (length c1.code + words) 0 (ways (member again) (member next) (member again)) (actions_of tail) c2 set) same body0 in
       let past_is : facts_after plan.memory s known ≡ K = ap (λ (c : Actions). facts_past plan.memory c known) (ap (λ (z : Step). step_onto z Done) is ∙ onto_loop m p q Done) in
       let h = subst (λ (z : Facts). IsCodeOf short plan variables f Settled z base exits.leaves exits.skips x k old next) past_is
-      (subst (λ (st : Standing). IsCodeOf short plan variables f st (facts_after plan.memory s known) base exits.leaves exits.skips x k old next) (stood ∙ ap (λ (z : Step). standing_after z k x) is) h0) in
+      (subst (λ (st : VariableStanding). IsCodeOf short plan variables f st (facts_after plan.memory s known) base exits.leaves exits.skips x k old next) (stood ∙ ap (λ (z : Step). standing_after z k x) is) h0) in
       let rest = marked_code short plan variables f Settled K k x (length base.code + exits.leaves) (length base.code + exits.skips) in
       let B = actions_of p.items in let S = actions_of q.items in let N : VariableSet = live k x in
       let W = words_behind (plan.home f) short test in
       let T : member begins ≡ turn B S N = first ∙ ap (turn B S) h.live in
-      let steps : VariableSet → VariableSet → Ways = λ t u. ways t u t in
+      let steps : VariableSet → VariableSet → LiveWays = λ t u. ways t u t in
       let again_ways : ways (member begins) (member next) (member begins) ≡ step_ways B S N = ap (λ (t : VariableSet). steps t (member next)) T ∙ ap (λ (u : VariableSet). steps (turn B S N) u) h.live in
       let step_made = marked_code short plan variables f Settled A S (step_ways B S N) W 0 in
       let zero : 0 + words ≡ W = omega arith in
-      let is1 : c1 ≡ step_made = step.code ∙ front_of_none _ ∙ ap (λ (l : ℕ). marked_code short plan variables f Settled A S (ways (member begins) (member next) (member begins)) l 0) zero ∙ ap (λ (y : Ways). marked_code short plan variables f Settled A S y W 0) again_ways in
+      let is1 : c1 ≡ step_made = step.code ∙ front_of_none _ ∙ ap (λ (l : ℕ). marked_code short plan variables f Settled A S (ways (member begins) (member next) (member begins)) l 0) zero ∙ ap (λ (y : LiveWays). marked_code short plan variables f Settled A S y W 0) again_ways in
       let step_live : member again ≡ live S (step_ways B S N) = step.live ∙ ap (live S) again_ways in
       let turn_ways : ways (member again) (member next) (member again) ≡ body_ways B S N = ap (λ (t : VariableSet). steps t (member next)) step_live ∙ ap (λ (u : VariableSet). steps (live S (step_ways B S N)) u) h.live in
       let to = length step_made.code + W in
       let body_made = inner_of test T0 B (body_ways B S N) to in
       let none : 0 + (length c1.code + words) ≡ to = ap (λ (g : Grown). 0 + (length g.code + words)) is1 ∙ omega arith in
-      let is2 : c2 ≡ body_made = body.code ∙ front_of_none _ ∙ ap (λ (y : Ways). marked_code short plan variables f Settled F (actions_of tail) y (0 + (length c1.code + words)) 0) turn_ways ∙ ap (λ (l : ℕ). marked_code short plan variables f Settled F (actions_of tail) (body_ways B S N) l 0) none
+      let is2 : c2 ≡ body_made = body.code ∙ front_of_none _ ∙ ap (λ (y : LiveWays). marked_code short plan variables f Settled F (actions_of tail) y (0 + (length c1.code + words)) 0) turn_ways ∙ ap (λ (l : ℕ). marked_code short plan variables f Settled F (actions_of tail) (body_ways B S N) l 0) none
       ∙ ap (λ (l : List Step). marked_code short plan variables f Settled F (actions_of l) (body_ways B S N) to 0) left ∙ inner_is T0 p.items S test (body_ways B S N) to below in
       let all : new ≡ turned (plan.home f) short test body_made step_made (in_front rest base) =
       made ∙ ap (λ (g : Grown). turned (plan.home f) short test g c1 old) is2 ∙ ap (λ (g : Grown). turned (plan.home f) short test body_made g old) is1 ∙ ap (λ (g : Grown). turned (plan.home f) short test body_made step_made g) h.code in
@@ -226,12 +226,12 @@ module _ (short : Bool) (plan : Plan) (variables : ℕ → ℕ) (f : ℕ) where
 
   -- ---- a list of steps
 
-  pub none_done : (g : Standing) (known : Facts) (steps : List Step) (base : Grown) (leaves skips : ℕ) (next : List ℕ) (lv sk : VariableSet) → IsCodeOf short plan variables f g known base leaves skips (ways (member next) lv sk) (actions_of (drop (length steps) steps)) base next
+  pub none_done : (g : VariableStanding) (known : Facts) (steps : List Step) (base : Grown) (leaves skips : ℕ) (next : List ℕ) (lv sk : VariableSet) → IsCodeOf short plan variables f g known base leaves skips (ways (member next) lv sk) (actions_of (drop (length steps) steps)) base next
   none_done g known steps base leaves skips next lv sk =
       let none : drop (length steps) steps ≡ [] = drop_all (length steps) steps (omega arith) in
       rw none (record { code = refl; live = refl })
 
-  pub one_more : (exits : Exits) (known : Facts) (need : Need) (told : Facts) (steps : List Step) (j : ℕ) (s : Step) (base old : Grown) (next : List ℕ) (new : Grown) (set : List ℕ) (n : VariableSet) (g g' : Standing) → 0 < j → j ≤ length steps → s ≡ get_or steps (j - 1) s
+  pub one_more : (exits : Exits) (known : Facts) (need : Need) (told : Facts) (steps : List Step) (j : ℕ) (s : Step) (base old : Grown) (next : List ℕ) (new : Grown) (set : List ℕ) (n : VariableSet) (g g' : VariableStanding) → 0 < j → j ≤ length steps → s ≡ get_or steps (j - 1) s
       → g' ≡ standing_after s (actions_of (drop j steps)) (ways n (member exits.leaves_live) (member exits.skips_live))
       → IsCodeOf short plan variables f g' (facts_after plan.memory s known) base exits.leaves exits.skips (ways n (member exits.leaves_live) (member exits.skips_live)) (actions_of (drop j steps)) old next
       → IsBefore plan.memory known s (actions_of (drop j steps)) need told → IsStepCode short plan variables f need told g g' exits s old next new set
@@ -242,7 +242,7 @@ module _ (short : Bool) (plan : Plan) (variables : ℕ → ℕ) (f : ℕ) where
       rw here (h known base (actions_of (drop j steps)) n test stood so_far)
 
   -- the same of what is the same
-  pub moved_code : (st : Standing) (known known' : Facts) (base base' : Grown) (l l' k k' : ℕ) (n lv lv' sk sk' : List ℕ) (xs xs' : List Step) (new : Grown) (set : List ℕ) → known ≡ known' → base ≡ base' → l ≡ l' → k ≡ k' → lv ≡ lv' → sk ≡ sk' → xs ≡ xs'
+  pub moved_code : (st : VariableStanding) (known known' : Facts) (base base' : Grown) (l l' k k' : ℕ) (n lv lv' sk sk' : List ℕ) (xs xs' : List Step) (new : Grown) (set : List ℕ) → known ≡ known' → base ≡ base' → l ≡ l' → k ≡ k' → lv ≡ lv' → sk ≡ sk' → xs ≡ xs'
       → IsCodeOf short plan variables f st known base l k (ways (member n) (member lv) (member sk)) (actions_of xs) new set → IsCodeOf short plan variables f st known' base' l' k' (ways (member n) (member lv') (member sk')) (actions_of xs') new set
   moved_code st known known' base base' l l' k k' n lv lv' sk sk' xs xs' new set z a b c d e g h = rw (← z, ← a, ← b, ← c, ← d, ← e, ← g) h
 
@@ -259,21 +259,21 @@ module _ (short : Bool) (plan : Plan) (variables : ℕ → ℕ) (f : ℕ) where
 
 -- ---- how things stand
 
-pub between_before : (o : Option Step) (s : Step) (k : Actions) (x : Ways) (g : Standing) → g ≡ standing_after s k x → standing_between o s (live k x) g ≡ standing_before o (step_onto s k) x
+pub between_before : (o : Option Step) (s : Step) (k : Actions) (x : LiveWays) (g : VariableStanding) → g ≡ standing_after s k x → standing_between o s (live k x) g ≡ standing_before o (step_onto s k) x
 between_before None s k x g e = refl
-between_before (Some (Act m a)) (Act m' b) k x g e = ap (λ (st : Standing). if_settled st (pair_standing a b (live k x))) e
+between_before (Some (Act m a)) (Act m' b) k x g e = ap (λ (st : VariableStanding). if_settled st (pair_standing a b (live k x))) e
 between_before (Some (Act m a)) (If' m' b i p j q) k x g e = refl
 between_before (Some (Act m a)) (Loop' m' i p j q) k x g e = refl
 between_before (Some (If' m b i p j q)) s k x g e = refl
 between_before (Some (Loop' m i p j q)) s k x g e = refl
 
 -- what is done early reads once what is taken
-taken_once : (a : Action) (k : Actions) (x : Ways) → IsTakenBy (standing_behind a k x) a
+taken_once : (a : Action) (k : Actions) (x : LiveWays) → IsTakenBy (standing_behind a k x) a
 taken_once a k x =
-    by_pairs (λ (a : Action) (k : Actions) (g : Standing). IsTakenBy g a) x (λ a k. tt) (λ t y m b k e passes dead. tt) (λ v m d y k e once dead. once)
+    by_pairs (λ (a : Action) (k : Actions) (g : VariableStanding). IsTakenBy g a) x (λ a k. tt) (λ t y m b k e passes dead. tt) (λ v m d y k e once dead. once)
     (λ v m d y k e once dead. once) a k
 
-pub taken_behind : (s : Step) (k : Actions) (x : Ways) (g : Standing) → g ≡ standing_after s k x → IsTakenByStep g s
+pub taken_behind : (s : Step) (k : Actions) (x : LiveWays) (g : VariableStanding) → g ≡ standing_after s k x → IsTakenByStep g s
 taken_behind (Act m a) k x g e = rw e (taken_once a k x)
 taken_behind (If' m b i p j q) k x g e = tt
 taken_behind (Loop' m i p j q) k x g e = tt
@@ -287,16 +287,16 @@ pub before_is : (steps : List Step) (j : ℕ) (s : Step) → 0 < j → j ≤ len
 before_is steps zero s some le is = absurd (omega arith)
 before_is steps (suc i) s some le is = (let one : suc i - 1 ≡ i = omega arith in found steps i s (omega arith) (subst (λ (n : ℕ). s ≡ get_or steps n s) one is))
 
-settled_end : (o : Option Step) (x : Ways) → Settled ≡ standing_before o Done x
+settled_end : (o : Option Step) (x : LiveWays) → Settled ≡ standing_before o Done x
 settled_end None x = refl
 settled_end (Some (Act m a)) x = refl
 settled_end (Some (If' m b i p j q)) x = refl
 settled_end (Some (Loop' m i p j q)) x = refl
 
-pub stands_at_end : (steps : List Step) (o : Option Step) (x : Ways) → Settled ≡ standing_before o (actions_of (drop (length steps) steps)) x
+pub stands_at_end : (steps : List Step) (o : Option Step) (x : LiveWays) → Settled ≡ standing_before o (actions_of (drop (length steps) steps)) x
 stands_at_end steps o x = (let none : drop (length steps) steps ≡ [] = drop_all (length steps) steps (omega arith) in rw none (settled_end o x))
 
-pub stands_before : (steps : List Step) (j : ℕ) (s : Step) (set : List ℕ) (x : Ways) (g g' : Standing) → 0 < j → j ≤ length steps → s ≡ get_or steps (j - 1) s
+pub stands_before : (steps : List Step) (j : ℕ) (s : Step) (set : List ℕ) (x : LiveWays) (g g' : VariableStanding) → 0 < j → j ≤ length steps → s ≡ get_or steps (j - 1) s
     → g' ≡ standing_after s (actions_of (drop j steps)) x → member set ≡ live (actions_of (drop j steps)) x → g ≡ standing_between (step_before steps (j - 1)) s (member set) g'
     → g ≡ standing_before (step_before steps (j - 1)) (actions_of (drop (j - 1) steps)) x
 stands_before steps j s set x g g' some le is stood lives e =

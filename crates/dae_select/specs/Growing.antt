@@ -6,12 +6,12 @@ use Rattle.dae_ir.specs.Streams.{Actions, step_onto}
 use Rattle.dae_ir.specs.declared.stream.Action.{Action}
 use Rattle.dae_ir.specs.declared.stream.Action.TheVariants.{Receive, Accept}
 use Rattle.dae_ir.specs.declared.stream.Step.{Step, Act, If', Loop'}
-use Rattle.dae_select_walks.specs.Live.{Ways, ways, behind, live, nowhere, step_ways, body_ways}
+use Rattle.dae_select_walks.specs.Live.{LiveWays, ways, behind, live, nowhere, step_ways, body_ways}
 use Rattle.dae_select_walks.specs.Facts.{Facts, unknown, facts_behind, facts_in_first, facts_in_second, facts_past_if, facts_at_turn, facts_at_step, facts_past_loop, need_of}
 use Rattle.dae_select_walks.specs.declared.Need.{Need}
 use Rattle.dae_select_walks.specs.Agrees.{Plan}
-use Rattle.dae_select_walks.specs.declared.Standing.{Standing}
-use Rattle.dae_select_walks.specs.declared.Standing.TheVariants.{Settled, Early}
+use Rattle.dae_select_walks.specs.declared.VariableStanding.{VariableStanding}
+use Rattle.dae_select_walks.specs.declared.VariableStanding.TheVariants.{Settled, Early}
 use Rattle.dae_select_live.specs.Members.{member}
 use Rattle.dae_select_walks.specs.declared.Home.{Home}
 use Rattle.dae_select_blocks.specs.Blocks.{jump_words, jump_over, jump_back}
@@ -52,7 +52,7 @@ IsNearTurn (Some test) turn again = length turn.code + length again.code ≤ 900
 
 -- the code of actions, block by block
 abbrev mutual
-  pub marked_code : Bool → Plan → (ℕ → ℕ) → ℕ → Standing → Facts → Actions → Ways → ℕ → ℕ → Grown
+  pub marked_code : Bool → Plan → (ℕ → ℕ) → ℕ → VariableStanding → Facts → Actions → LiveWays → ℕ → ℕ → Grown
   marked_code short plan variables f standing known Done x leaves skips = no_code
   marked_code short plan variables f standing known (Do m a k) x leaves skips =
       let next = standing_behind a k x in
@@ -79,7 +79,7 @@ abbrev mutual
       turned (plan.home f) short test turn again rest
 
   -- the code behind the test that a list begins with
-  pub marked_tail : Bool → Plan → (ℕ → ℕ) → ℕ → Facts → Actions → Ways → ℕ → ℕ → Grown
+  pub marked_tail : Bool → Plan → (ℕ → ℕ) → ℕ → Facts → Actions → LiveWays → ℕ → ℕ → Grown
   marked_tail short plan variables f known (If m b p q k) x leaves skips = marked_code short plan variables f Settled (facts_past_if b p q known) k x leaves skips
   marked_tail short plan variables f known code x leaves skips = no_code
 
@@ -91,31 +91,31 @@ function_places plan variables f code =
 
 -- in front of this code stands the code of a function's actions, before which things stand so and this is known,
 -- and these variables are live before it. A Break's way from its end is so much longer than what stands there, and a Continue's
-pub record IsCodeOf (short : Bool) (plan : Plan) (variables : ℕ → ℕ) (f : ℕ) (standing : Standing) (known : Facts) (base : Grown)
-    (leaves skips : ℕ) (x : Ways) (actions : Actions) (new : Grown) (set : List ℕ) : Type 0 where
+pub record IsCodeOf (short : Bool) (plan : Plan) (variables : ℕ → ℕ) (f : ℕ) (standing : VariableStanding) (known : Facts) (base : Grown)
+    (leaves skips : ℕ) (x : LiveWays) (actions : Actions) (new : Grown) (set : List ℕ) : Type 0 where
   pub code : new ≡ in_front (marked_code short plan variables f standing known actions x (length base.code + leaves) (length base.code + skips)) base
   pub live : member set ≡ live actions x
 
 -- ---- steps
 
 -- where the next action is done early, it reads once the variable that this action takes a word into
-abbrev pub IsTakenBy : Standing → Action → Type 0
+abbrev pub IsTakenBy : VariableStanding → Action → Type 0
 IsTakenBy (Early d x) (Receive v) = reads_once v x ≡ true
 IsTakenBy (Early d x) (Accept v) = reads_once v x ≡ true
 IsTakenBy standing a = Unit {0}
 
-abbrev pub IsTakenByStep : Standing → Step → Type 0
+abbrev pub IsTakenByStep : VariableStanding → Step → Type 0
 IsTakenByStep standing (Act m a) = IsTakenBy standing a
 IsTakenByStep standing step' = Unit {0}
 
 -- how things stand behind a step, before the rest of its list
-abbrev pub standing_after : Step → Actions → Ways → Standing
+abbrev pub standing_after : Step → Actions → LiveWays → VariableStanding
 standing_after (Act m a) k x = standing_behind a k x
 standing_after (If' m b s p t q) k x = Settled
 standing_after (Loop' m s p t q) k x = Settled
 
 -- how they stand before a step, where these variables are live behind it and things stand so behind it
-abbrev pub standing_between : Option Step → Step → VariableSet → Standing → Standing
+abbrev pub standing_between : Option Step → Step → VariableSet → VariableStanding → VariableStanding
 standing_between (Some (Act m a)) (Act m' b) live standing = if_settled standing (pair_standing a b live)
 standing_between before step' live standing = Settled
 
@@ -125,7 +125,7 @@ step_before steps zero = None
 step_before steps (suc i) = slice_get steps i
 
 -- how things stand before what is left of a list, where this step stands before it
-abbrev pub standing_before : Option Step → Actions → Ways → Standing
+abbrev pub standing_before : Option Step → Actions → LiveWays → VariableStanding
 standing_before None k x = Settled
 standing_before (Some step) k x = standing_after step k x
 
@@ -136,7 +136,7 @@ facts_in_tail (Some test) (If m b p q k) known = facts_past_if b p q known
 facts_in_tail (Some test) body known = known
 
 -- with a step before whatever stands there, of whose block so much is needed, and before which this is known if it has lists
-abbrev pub IsStepCode : Bool → Plan → (ℕ → ℕ) → ℕ → Need → Facts → Standing → Standing → Exits → Step → Grown → List ℕ → Grown → List ℕ → Type 0
+abbrev pub IsStepCode : Bool → Plan → (ℕ → ℕ) → ℕ → Need → Facts → VariableStanding → VariableStanding → Exits → Step → Grown → List ℕ → Grown → List ℕ → Type 0
 IsStepCode short plan variables f need told before after exits step old next new set =
     (known : Facts) (base : Grown) (k : Actions) (n : VariableSet)
     → IsBefore plan.memory known step k need told

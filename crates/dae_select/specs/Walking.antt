@@ -8,10 +8,10 @@ use Rattle.dae_ir.specs.declared.stream.Argument.{Argument}
 use Rattle.dae_ir.specs.declared.stream.Step.{Step}
 use Rattle.dae_select_values.specs.Tables.{home_by}
 use Rattle.dae_select_walks.specs.Live.{ways, is}
-use Rattle.dae_select_walks.specs.declared.Standing.TheVariants.{Settled}
+use Rattle.dae_select_walks.specs.declared.VariableStanding.TheVariants.{Settled}
 use Rattle.dae_select_live.specs.Members.{member}
 use Rattle.dae_select_facts.specs.Knowns.{facts_by}
-use Rattle.dae_select_facts.specs.declared.known.Known.{Known}
+use Rattle.dae_select_facts.specs.declared.known.KnownFacts.{KnownFacts}
 use Rattle.dae_select_blocks.specs.Blocks.{jump_over}
 use Rattle.dae_select_blocks.specs.Code.{call_code, action_code, block_code, branch_code}
 use Rattle.dae_select.specs.Grown.{Grown, acting}
@@ -51,7 +51,7 @@ IsStepBy m around exits s old next new set =
     IsStepCode (by_jal m) (plan_by m) (variables_by m) m.function around.need (facts_by around.known.now) around.before around.after exits s old next new set
 
 -- the code of a list of steps, before which something is known, and what is live before it
-abbrev pub IsListBy : Making → Known → Exits → List Step → Grown → List ℕ → Grown → List ℕ → Type 0
+abbrev pub IsListBy : Making → KnownFacts → Exits → List Step → Grown → List ℕ → Grown → List ℕ → Type 0
 IsListBy m known exits steps old next new set =
     IsCodeOf (by_jal m) (plan_by m) (variables_by m) m.function Settled (facts_by known) old exits.leaves exits.skips
     (ways (member next) (member exits.leaves_live) (member exits.skips_live)) (actions_of steps) new set

@@ -3,8 +3,8 @@
 ghost use Rattle.std.specs.Prelude.{◌≡◌, length, IfOk, OnOk};
 ghost use Rattle.dae_select_walks.specs.Live.{nowhere};
 ghost use Rattle.dae_select_walks.specs.Facts.{unknown};
-ghost use Rattle.dae_select_live.specs.Turns.{told_by, TellsTurns};
-ghost use Rattle.dae_select_walks.specs.declared.Standing.TheVariants.{Settled as IsSettled};
+ghost use Rattle.dae_select_live.specs.Turns.{turns_told, TellsTurns};
+ghost use Rattle.dae_select_walks.specs.declared.VariableStanding.TheVariants.{Settled as IsSettled};
 ghost use Rattle.dae_ir.specs.Streams.{actions_of};
 ghost use Rattle.dae_select_blocks.specs.Code.{entry_code, function_code};
 ghost use Rattle.dae_select.specs.Grown.{no_code, StandWithin};
@@ -27,7 +27,7 @@ use std::alloc::{AllocError, Global};
 fn body_code(code: &mut GrowingCode, making: &Making, body: &[Step]) -> Result<(), AllocError>
     requires sound { IsSound making.now }
     requires empty { code.old ≡ no_code }
-    requires told { TellsTurns (told_by making.now.turns.now) (actions_of body.now) }
+    requires told { TellsTurns (turns_told making.now.turns.now) (actions_of body.now) }
     ensures { OnOk result (code.new
         ≡ marked_code (by_jal making.now) (plan_by making.now) (variables_by making.now)
         making.now.function IsSettled unknown (actions_of body.now) nowhere 0 0) }

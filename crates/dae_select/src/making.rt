@@ -2,9 +2,9 @@
 
 use dae_base::Place;
 use dae_ir::Branch;
-use dae_select_facts::Known;
+use dae_select_facts::KnownFacts;
 use dae_select_live::LiveSet;
-use dae_select_walks::{Need, Standing};
+use dae_select_walks::{Need, VariableStanding};
 
 /// Where a Break goes and a Continue: what is live there, and how many words lie between the end of the code and there.
 #[derive(Drop)]
@@ -27,9 +27,9 @@ pub struct Onward<'s> {
 #[derive(Drop)]
 pub struct Around<'k> {
     pub need: Need,
-    pub known: &'k Known,
-    pub before: Standing,
-    pub after: Standing,
+    pub known: &'k KnownFacts,
+    pub before: VariableStanding,
+    pub after: VariableStanding,
 }
 
 /// A branch that stands at a place.

@@ -6,7 +6,7 @@ ghost use Rattle.dae_select_walks.specs.Live.{in_operand};
 ghost use Rattle.dae_select_live.specs.Members.{member};
 ghost use Rattle.dae_select_blocks.specs.Blocks.{value_code};
 ghost use Rattle.dae_select_blocks.specs.Code.{either_one, written_last, is_offset_sum, passes_on, reads_once, taken_standing, pair_standing, with_home, late_code, early_code, taking_code};
-ghost use Rattle.dae_select_walks.specs.declared.Standing.TheVariants.{Early as IsEarly};
+ghost use Rattle.dae_select_walks.specs.declared.VariableStanding.TheVariants.{Early as IsEarly};
 ghost use Rattle.dae_select_walks.specs.declared.Home.TheVariants.{Register as IsRegister};
 ghost use Rattle.dae_ir.specs.declared.form.Value.TheVariants.{Binary as IsBinary, Holds as IsHolds};
 ghost use Rattle.dae_select.specs.Growing.{standing_between, step_before, IsTakenBy};
@@ -22,7 +22,7 @@ use dae_select_values::{
     home_of, immediate, is_immediate, issue_at_sum, keep, operation, own_at_sum, register_or,
     set_code, source, value_code,
 };
-use dae_select_walks::Standing;
+use dae_select_walks::VariableStanding;
 use std::alloc::AllocError;
 
 // ---- which actions are pairs
@@ -97,53 +97,59 @@ fn reads_once(variable: u32, value: Value) -> bool
 }
 
 /// How things stand between an action that takes a word into a variable and the next one, behind which these are live.
-fn taken_standing(variable: u32, next: &Action, live: &LiveSet) -> Standing
+fn taken_standing(variable: u32, next: &Action, live: &LiveSet) -> VariableStanding
     ensures { result ≡ taken_standing variable next.now (member live.now) }
 {
     match next {
         Action::Set(target, value) => {
             let dies = variable == *target || !live.contains(variable);
             if reads_once(variable, *value) && dies {
-                Standing::Early(*target, *value)
+                VariableStanding::Early(*target, *value)
             } else {
-                Standing::Settled
+                VariableStanding::Settled
             }
         }
-        _ => Standing::Settled,
+        _ => VariableStanding::Settled,
     }
 }
 
 /// How things stand between an action and the next one, behind which these variables are live.
-fn pair_standing(action: &Action, next: &Action, live: &LiveSet) -> Standing
+fn pair_standing(action: &Action, next: &Action, live: &LiveSet) -> VariableStanding
     ensures { result ≡ pair_standing action.now next.now (member live.now) }
 {
     match action {
         Action::Set(variable, value) => {
             if passes_on(*variable, *value, next) && !live.contains(*variable) {
-                Standing::Late(*variable, *value)
+                VariableStanding::Late(*variable, *value)
             } else {
-                Standing::Settled
+                VariableStanding::Settled
             }
         }
         Action::Receive(variable) => taken_standing(*variable, next, live),
         Action::Accept(variable) => taken_standing(*variable, next, live),
-        _ => Standing::Settled,
+        _ => VariableStanding::Settled,
     }
 }
 
 /// How things stand between two steps, where these variables are live behind the second one and things stand so behind it.
-fn between_steps(before: &Step, step: &Step, live: &LiveSet, standing: Standing) -> Standing
+fn between_steps(
+    before: &Step,
+    step: &Step,
+    live: &LiveSet,
+    standing: VariableStanding,
+) -> VariableStanding
     ensures { result ≡ standing_between (IsThere before.now) step.now (member live.now) standing }
 {
     match before {
         Step::Act(_, action) => match step {
             Step::Act(_, next) => match standing {
-                Standing::Settled => pair_standing(action, next, live),
-                Standing::Early(_, _) | Standing::Late(_, _) => Standing::Settled,
+                VariableStanding::Settled => pair_standing(action, next, live),
+                VariableStanding::Early(_, _) | VariableStanding::Late(_, _) =>
+                    VariableStanding::Settled,
             },
-            Step::If(_, _, _, _) | Step::Loop(_, _, _) => Standing::Settled,
+            Step::If(_, _, _, _) | Step::Loop(_, _, _) => VariableStanding::Settled,
         },
-        Step::If(_, _, _, _) | Step::Loop(_, _, _) => Standing::Settled,
+        Step::If(_, _, _, _) | Step::Loop(_, _, _) => VariableStanding::Settled,
     }
 }
 
@@ -154,14 +160,14 @@ pub fn standing_between(
     index: usize,
     step: &Step,
     live: &LiveSet,
-    standing: Standing,
-) -> Standing
+    standing: VariableStanding,
+) -> VariableStanding
     requires { index ≤ length steps.now }
     ensures { result
         ≡ standing_between (step_before steps.now index) step.now (member live.now) standing }
 {
     if index == 0 {
-        Standing::Settled
+        VariableStanding::Settled
     } else {
         between_steps(&steps[index - 1], step, live, standing)
     }

@@ -6,7 +6,7 @@ ghost use Rattle.dae_ir.specs.Streams.{actions_of, step_onto};
 ghost use Rattle.dae_select_walks.specs.Facts.{facts_at_turn, facts_at_step};
 ghost use Rattle.dae_select_facts.specs.Knowns.{facts_by};
 ghost use Rattle.dae_select_live.specs.Members.{member};
-ghost use Rattle.dae_select_live.specs.Turns.{told_by, TellsTurns};
+ghost use Rattle.dae_select_live.specs.Turns.{turns_told, TellsTurns};
 ghost use Rattle.dae_select_blocks.specs.Blocks.{take_code, own_code, jump_over};
 ghost use Rattle.dae_select_blocks.specs.Code.{action_code, block_code, call_code, branch_code, is_dead};
 ghost use Rattle.dae_select_blocks.specs.Code.{does_nothing, past_code, leaves_first};
@@ -29,14 +29,14 @@ use dae_encode::Inst;
 use dae_ir::{Action, Argument, Branch, Operand, Step};
 use dae_select_calls::{Callee, Making, call_code, check_code, leave_code, placed_code};
 use dae_select_facts::{
-    Known, all_before, facts_at_turn, facts_behind_turn, facts_in_list, facts_past_if,
+    KnownFacts, all_before, facts_at_turn, facts_behind_turn, facts_in_list, facts_past_if,
 };
 use dae_select_live::{LiveSet, live_at_turn, live_before_action, live_with_branch, only_leaves};
 use dae_select_values::{
     HomeTable, address_code, back_branch, branch_code, call_number, hear_code, home_of, issue_code,
     jump_back, jump_over, jump_words, move_code, set_code, stop_code, system_code, take_code,
 };
-use dae_select_walks::{Edge, Need, Standing};
+use dae_select_walks::{Edge, Need, VariableStanding};
 use std::alloc::{AllocError, Global};
 
 /// What is at the front of a queue goes to a variable.
@@ -153,13 +153,13 @@ fn block_code(
         ++ block_by making.now around.now action.now onward.now ahead) }
 {
     match (around.before, around.after) {
-        (Standing::Late(_, value), _) => late_code(code, making.homes, action, value),
-        (Standing::Early(_, _), _) => Ok(()),
-        (Standing::Settled, Standing::Late(_, _)) => Ok(()),
-        (Standing::Settled, Standing::Early(target, value)) => {
+        (VariableStanding::Late(_, value), _) => late_code(code, making.homes, action, value),
+        (VariableStanding::Early(_, _), _) => Ok(()),
+        (VariableStanding::Settled, VariableStanding::Late(_, _)) => Ok(()),
+        (VariableStanding::Settled, VariableStanding::Early(target, value)) => {
             taking_code(code, making.homes, action, target, value)
         }
-        (Standing::Settled, Standing::Settled) => {
+        (VariableStanding::Settled, VariableStanding::Settled) => {
             if is_dead(action, onward.next) {
                 return Ok(());
             }
@@ -450,7 +450,7 @@ fn put_loop(
 }
 
 /// What is known behind the test that a loop's body begins with.
-fn facts_past_test(alloc: Global, body: &[Step], turn: Known) -> Result<Known, AllocError>
+fn facts_past_test(alloc: Global, body: &[Step], turn: KnownFacts) -> Result<KnownFacts, AllocError>
     ensures { IfOk result (λ new. (test : ATest) → facts_by new
         ≡ facts_in_tail (Some test) (actions_of body.now) (facts_by turn)) }
 {
@@ -469,8 +469,8 @@ fn facts_of_turn(
     alloc: Global,
     body: &[Step],
     test: Option<PlacedBranch>,
-    turn: Known,
-) -> Result<Known, AllocError>
+    turn: KnownFacts,
+) -> Result<KnownFacts, AllocError>
     ensures { IfOk result (λ new. facts_by new
         ≡ facts_in_tail test (actions_of body.now) (facts_by turn)) }
 {
@@ -483,8 +483,8 @@ fn facts_of_turn(
 /// What is known of a loop: where its step begins, and what of its body stands before the step.
 #[derive(Drop)]
 struct LoopFacts {
-    at_step: Known,
-    in_tail: Known,
+    at_step: KnownFacts,
+    in_tail: KnownFacts,
 }
 
 fn loop_facts(
@@ -492,7 +492,7 @@ fn loop_facts(
     body: &[Step],
     step: &[Step],
     test: Option<PlacedBranch>,
-    known: &Known,
+    known: &KnownFacts,
 ) -> Result<LoopFacts, AllocError>
     ensures at_step { IfOk result (λ facts. facts_by facts.at_step
         ≡ facts_at_step making.now.layouts.now.memory (actions_of body.now)
@@ -519,7 +519,7 @@ fn step_code(
 ) -> Result<LiveSet, AllocError>
     requires sound { IsSound making.now }
     requires taken { IsTakenByStep around.now.after step.now }
-    requires told { TellsTurns (told_by making.now.turns.now) (step_onto step.now Done) }
+    requires told { TellsTurns (turns_told making.now.turns.now) (step_onto step.now Done) }
     ensures { IfOk result (λ set. IsStepBy making.now around.now exits.now step.now code.old next
         code.new set) }
 {
@@ -570,19 +570,19 @@ fn step_code(
 pub fn list_code(
     code: &mut GrowingCode,
     making: &Making,
-    known: Known,
+    known: KnownFacts,
     steps: &[Step],
     next: LiveSet,
     exits: &Exits,
 ) -> Result<LiveSet, AllocError>
     requires sound { IsSound making.now }
-    requires told { TellsTurns (told_by making.now.turns.now) (actions_of steps.now) }
+    requires told { TellsTurns (turns_told making.now.turns.now) (actions_of steps.now) }
     ensures { IfOk result (λ set. IsListBy making.now known exits.now steps.now code.old next
         code.new set) }
 {
     let all = all_before(making.alloc, making.layouts.memory, known, steps)?;
     let mut set = next;
-    let mut after = Standing::Settled;
+    let mut after = VariableStanding::Settled;
     for index in (0..steps.len()).rev() {
         let step = &steps[index];
         let before = standing_between(steps, index, step, &set, after);

@@ -12,7 +12,7 @@ use Rattle.dae_base.specs.declared.LoadKind.{LoadKind}
 use Rattle.dae_base.specs.declared.LoadKind.TheVariants.{I8, U8, I16, U16, I32}
 use Rattle.dae_encode.specs.declared.Inst.{Inst}
 use Rattle.dae_encode.specs.declared.QueueUse.TheVariants.{Take as Takes, Push as Pushes}
-use Rattle.dae_encode.specs.declared.Form.TheVariants.{Computes}
+use Rattle.dae_encode.specs.declared.InstructionForm.TheVariants.{Computes}
 use Rattle.dae_encode.specs.Instructions.{effect, DoesLoad, DoesStore}
 use Rattle.dae_encode.specs.Uses.{queue_use}
 use Rattle.dae_encode.specs.Processor.{Processor}
@@ -24,7 +24,7 @@ use Rattle.dae_ir.specs.Deeds.{Deed, Went, Take, Push, Reserve, Send, told_on}
 use Rattle.dae_ir.specs.declared.form.Operand.{Operand}
 use Rattle.dae_ir.specs.declared.form.Operand.TheVariants.{Variable}
 use Rattle.dae_ir.specs.declared.form.Value.{Value}
-use Rattle.dae_select_walks.specs.Walks.{Setting}
+use Rattle.dae_select_walks.specs.Walks.{WalkSetting}
 use Rattle.dae_select_walks.specs.Live.{in_operand, in_value}
 use Rattle.dae_select_walks.specs.Homes.{Contents}
 use Rattle.dae_select_walks.specs.Agrees.{Plan, Moment, Stands}
@@ -52,7 +52,7 @@ address_is B1 base offset = refl
 address_is B2 base offset = refl
 address_is B4 base offset = refl
 
-module _ (s : Setting) (plan : Plan) (variables : ℕ → ℕ) (fine : Fits s plan variables) (live live' : VariableSet) (m : Moment) where
+module _ (s : WalkSetting) (plan : Plan) (variables : ℕ → ℕ) (fine : Fits s plan variables) (live live' : VariableSet) (m : Moment) where
   -- behind the block the processor agrees with the moment that has these variables
   abbrev pub To : ℕ → Env → Processor → Type 0
   To k env p = Stands plan live' (with_env env m) k p

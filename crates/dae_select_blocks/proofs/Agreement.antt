@@ -9,9 +9,9 @@ use Rattle.dae_meaning.specs.Variables.{Env}
 use Rattle.dae_meaning.specs.Variables as form
 use Rattle.dae_select_walks.specs.declared.Home.{Home}
 use Rattle.dae_select_walks.specs.declared.Home.TheVariants.{Register, Slot}
-use Rattle.dae_select_walks.specs.Walks.{Setting}
+use Rattle.dae_select_walks.specs.Walks.{WalkSetting}
 use Rattle.dae_select_walks.specs.Homes.{Contents, held, kept, is_home_register, IsHome, kept_at, slot_at, frame_words, number_key, resident_home, resident_register, none_spared}
-use Rattle.dae_select_walks.specs.Agrees.{Plan, Moment, Waiting, depth_of, Agrees, AreWaiting, return_address, words_below}
+use Rattle.dae_select_walks.specs.Agrees.{Plan, Moment, CallFrame, depth_of, Agrees, AreWaiting, return_address, words_below}
 use Rattle.dae_select_walks.specs.Compiled.{with_env}
 use Rattle.dae_select_blocks.specs.Fits.{Fits}
 
@@ -65,9 +65,9 @@ pub record Like (r : ℕ) (c c' : Contents) : Type 0 where
   pub registers : (j : ℕ) → j ≢ r → c'.register j ≡ c.register j
   pub fits : (j : ℕ) → c'.register j < 2 ^ 32
 
-module _ (s : Setting) (plan : Plan) (variables : ℕ → ℕ) (fine : Fits s plan variables) where
+module _ (s : WalkSetting) (plan : Plan) (variables : ℕ → ℕ) (fine : Fits s plan variables) where
   -- the waiting calls are kept in the words up to the frame's first, in registers that are spared, and the address that is returned to
-  pub waiting_same : (c c' : Contents) (spared spared' : ℕ → Bool) (address address' base frame : ℕ) (ws : List Waiting) → address' ≡ address → ((i : ℕ) → i ≤ base → c'.word i ≡ c.word i) → ((r : ℕ) → spared' r ≡ spared r) →
+  pub waiting_same : (c c' : Contents) (spared spared' : ℕ → Bool) (address address' base frame : ℕ) (ws : List CallFrame) → address' ≡ address → ((i : ℕ) → i ≤ base → c'.word i ≡ c.word i) → ((r : ℕ) → spared' r ≡ spared r) →
       ((r : ℕ) → is_home_register r ≡ true → spared r ≡ true → c'.register r ≡ c.register r) → AreWaiting plan c spared address base frame ws → AreWaiting plan c' spared' address' base frame ws
   waiting_same c c' spared spared' address address' base frame [] returns same alike registers h = (h.0, h.1, returns ∙ h.2)
   waiting_same c c' spared spared' address address' base frame (w ∷ ws) returns same alike registers h =
@@ -95,24 +95,24 @@ module _ (s : Setting) (plan : Plan) (variables : ℕ → ℕ) (fine : Fits s pl
       one below v at is (Slot i) good = same (below + slot_at i) (omega arith)
 
   -- a function that makes calls has a frame of its own, and so has one with a slot
-  pub calls_framed : (f : ℕ) → plan.leaf f ≡ false → plan.bare f ≡ false
-  calls_framed f calls = by (plan.bare f) refl
+  pub calls_framed : (f : ℕ) → plan.leaf f ≡ false → plan.frameless f ≡ false
+  calls_framed f calls = by (plan.frameless f) refl
     where
-      by : (bare : Bool) → plan.bare f ≡ bare → bare ≡ false
+      by : (frameless : Bool) → plan.frameless f ≡ frameless → frameless ≡ false
       by true e = absurd (let leaf = fine.leaves f e in let no : true ≡ false = sym leaf ∙ calls in cc)
       by false e = refl
 
-  pub slot_framed : (f v i : ℕ) → plan.home f v ≡ Slot i → plan.bare f ≡ false
-  slot_framed f v i is = by (plan.bare f) refl
+  pub slot_framed : (f v i : ℕ) → plan.home f v ≡ Slot i → plan.frameless f ≡ false
+  slot_framed f v i is = by (plan.frameless f) refl
     where
-      by : (bare : Bool) → plan.bare f ≡ bare → bare ≡ false
-      by true e = absurd (fine.bare f v i e is)
+      by : (frameless : Bool) → plan.frameless f ≡ frameless → frameless ≡ false
+      by true e = absurd (fine.frameless f v i e is)
       by false e = refl
 
   -- and x2 points to it
-  pub own_frame : {live : VariableSet} {m : Moment} {c : Contents} (h : Ready plan live m c) → plan.bare m.function ≡ false → c.register 2 ≡ 4 * h.agrees.base
+  pub own_frame : {live : VariableSet} {m : Moment} {c : Contents} (h : Ready plan live m c) → plan.frameless m.function ≡ false → c.register 2 ≡ 4 * h.agrees.base
   own_frame {m = m} h framed =
-      h.agrees.pointer ∙ ap (λ (bare : Bool). 4 * (if bare then h.agrees.base - words_below plan m.waiting else h.agrees.base)) framed
+      h.agrees.pointer ∙ ap (λ (frameless : Bool). 4 * (if frameless then h.agrees.base - words_below plan m.waiting else h.agrees.base)) framed
 
   -- a leaf has that address in x1, any other function in its frame's first word
   pub address_same : (f base : ℕ) (c c' : Contents) → c'.register 1 ≡ c.register 1 → c'.word base ≡ c.word base → return_address plan f c' base ≡ return_address plan f c base
@@ -122,7 +122,7 @@ module _ (s : Setting) (plan : Plan) (variables : ℕ → ℕ) (fine : Fits s pl
       by true = link
       by false = first
 
-  pub waiting_stays : (f : ℕ) (c c' : Contents) (base frame : ℕ) (ws : List Waiting) → c'.register 1 ≡ c.register 1 → ((i : ℕ) → i ≤ base → c'.word i ≡ c.word i) → ((r : ℕ) → is_home_register r ≡ true → plan.spares f r ≡ true → c'.register r ≡ c.register r) →
+  pub waiting_stays : (f : ℕ) (c c' : Contents) (base frame : ℕ) (ws : List CallFrame) → c'.register 1 ≡ c.register 1 → ((i : ℕ) → i ≤ base → c'.word i ≡ c.word i) → ((r : ℕ) → is_home_register r ≡ true → plan.spares f r ≡ true → c'.register r ≡ c.register r) →
       AreWaiting plan c (plan.spares f) (return_address plan f c base) base frame ws → AreWaiting plan c' (plan.spares f) (return_address plan f c' base) base frame ws
   waiting_stays f c c' base frame ws link same registers h =
       waiting_same c c' (plan.spares f) (plan.spares f) (return_address plan f c base) (return_address plan f c' base) base frame ws (address_same f base c c' link (same base (omega arith))) same (λ r. refl) registers h
@@ -136,7 +136,7 @@ module _ (s : Setting) (plan : Plan) (variables : ℕ → ℕ) (fine : Fits s pl
       by false e = refl
 
   -- and has the address in its frame
-  pub waiting_kept : (f : ℕ) (c : Contents) (base frame : ℕ) (ws : List Waiting) → plan.leaf f ≡ false → AreWaiting plan c (plan.spares f) (return_address plan f c base) base frame ws → AreWaiting plan c none_spared (c.word base) base frame ws
+  pub waiting_kept : (f : ℕ) (c : Contents) (base frame : ℕ) (ws : List CallFrame) → plan.leaf f ≡ false → AreWaiting plan c (plan.spares f) (return_address plan f c base) base frame ws → AreWaiting plan c none_spared (c.word base) base frame ws
   waiting_kept f c base frame ws calls h =
       let found : return_address plan f c base ≡ c.word base = ap (λ (leaf : Bool). if leaf then c.register 1 else c.word base) calls in
       waiting_same c c (plan.spares f) none_spared (return_address plan f c base) (c.word base) base frame ws (sym found) (λ i l. refl) (λ r. sym (calls_spare f r calls)) (λ r good e. refl) h

@@ -15,7 +15,7 @@ use Rattle.dae_ir.specs.Classes.{VariableSet}
 use Rattle.dae_meaning.specs.Variables.{Env}
 use Rattle.dae_ir.specs.Deeds.{Deed, Went}
 use Rattle.dae_select_walks.specs.declared.Home.TheVariants.{Register}
-use Rattle.dae_select_walks.specs.Walks.{Setting, Comes}
+use Rattle.dae_select_walks.specs.Walks.{WalkSetting, Comes}
 use Rattle.dae_select_walks.specs.Layout.{CodeAt}
 use Rattle.dae_select_walks.specs.Homes.{Contents, resident_home, resident_register}
 use Rattle.dae_select_walks.specs.Agrees.{Plan, Moment, AreResident, Shows, Stands, counted_depth}
@@ -81,7 +81,7 @@ first_has top x n r numbers c here rest = by (nat_eq n x) refl
     by true t e = let same : n ≡ x = grind (arith, nat_tests) in told (nat_lt 24 top && nat_lt top 28) same e
     by false t e = rest n r e
 
-runs_residents : (s : Setting) (private : ℕ) (to : ℕ → Env → Processor → Type 0) {c : Contents} {d : Deed} (top : ℕ) (numbers : List ℕ) (is : List Inst) → length numbers < top → top < 28 → AllByRecursion (λ n. n < 2 ^ 32) numbers → c.register 0 ≡ 0 → ((j : ℕ) → c.register j < 2 ^ 32) →
+runs_residents : (s : WalkSetting) (private : ℕ) (to : ℕ → Env → Processor → Type 0) {c : Contents} {d : Deed} (top : ℕ) (numbers : List ℕ) (is : List Inst) → length numbers < top → top < 28 → AllByRecursion (λ n. n < 2 ^ 32) numbers → c.register 0 ≡ 0 → ((j : ℕ) → c.register j < 2 ^ 32) →
     ((c' : Contents) → Wrote top numbers c c' → Runs s private to is c' d) → Runs s private to (residents_code top numbers ++ is) c d
 runs_residents s private to {c} top [] is some high small none fits run = run c (record { words = λ i. refl; above = λ j l. refl; below = λ j l. refl; has = λ n r e. absurd (let no : None ≡ Some r = e in cc); fits = fits })
 runs_residents s private to {c} top (x ∷ numbers) is some high small none fits run =
@@ -110,7 +110,7 @@ record Begun (plan : Plan) (first k : ℕ) (p : Processor) : Type 0 where
   pub ten : plan.by_a ≡ true → contents.register 10 ≡ 0
   pub residents : AreResident plan contents
 
-module _ (s : Setting) (plan : Plan) (variables : ℕ → ℕ) (fine : Fits s plan variables) (entries : ℕ → VariableSet) (linked : IsLinked s plan) where
+module _ (s : WalkSetting) (plan : Plan) (variables : ℕ → ℕ) (fine : Fits s plan variables) (entries : ℕ → VariableSet) (linked : IsLinked s plan) where
   abbrev before_main : ℕ → List Inst
   before_main first = number_code 3 first ++ (residents_code 27 plan.residents ++ (if plan.by_a then number_code 4 (plan.memory - 16) else []))
 
@@ -176,7 +176,7 @@ module _ (s : Setting) (plan : Plan) (variables : ℕ → ℕ) (fine : Fits s pl
         agrees = record {
           base = 0;
           variables = (λ u e. absurd (contradicts u e));
-          pointer = opened.registers 2 (omega arith) ∙ (pointer ∙ none (plan.bare main));
+          pointer = opened.registers 2 (omega arith) ∙ (pointer ∙ none (plan.frameless main));
           frame = opened.registers 3 (omega arith) ∙ (l1.registers 3 (omega arith) ∙ b.three);
           depth = (λ e. opened.ten e ∙ ap (λ (n : ℕ). counted_depth plan main (n + 1)) (l1.registers 10 (omega arith) ∙ b.ten e));
           addresses = (λ e. opened.registers 4 (omega arith) ∙ (l1.registers 4 (omega arith) ∙ b.four e));
@@ -195,7 +195,7 @@ module _ (s : Setting) (plan : Plan) (variables : ℕ → ℕ) (fine : Fits s pl
       contradicts : (u : ℕ) → entries main u ≡ true → ⊥
       contradicts u e = let no' = reads u in absurd cc
 
-      none : (bare : Bool) → 0 ≡ 4 * (if bare then 0 - 0 else 0)
+      none : (frameless : Bool) → 0 ≡ 4 * (if frameless then 0 - 0 else 0)
       none true = refl
       none false = refl
 

@@ -12,7 +12,7 @@ use Rattle.dae_ir.specs.Deeds.{Deed}
 use Rattle.dae_ir.specs.declared.stream.Argument.{Argument}
 use Rattle.dae_select_walks.specs.declared.Home.{Home}
 use Rattle.dae_select_walks.specs.declared.Home.TheVariants.{Register, Slot}
-use Rattle.dae_select_walks.specs.Walks.{Setting}
+use Rattle.dae_select_walks.specs.Walks.{WalkSetting}
 use Rattle.dae_select_walks.specs.Live.{in_operand, in_arguments}
 use Rattle.dae_select_walks.specs.Homes.{Contents, held, IsHome, AreApart, is_home_register, kept_at, slot_at, resident_home}
 use Rattle.dae_select_walks.specs.Agrees.{Plan, Moment}
@@ -190,7 +190,7 @@ stored w v u c a b fits small = record {
     two i true = a
     two i false = small i
 
-module _ (s : Setting) (plan : Plan) (variables : ℕ → ℕ) (fine : Fits s plan variables) (to : ℕ → Env → Processor → Type 0) where
+module _ (s : WalkSetting) (plan : Plan) (variables : ℕ → ℕ) (fine : Fits s plan variables) (to : ℕ → Env → Processor → Type 0) where
   pub runs_word : {c : Contents} {d : Deed} (base r i : ℕ) (is : List Inst) → c.register 2 ≡ 4 * base → r ≢ 7 → r < 28 → base + i < plan.private → ((j : ℕ) → c.register j < 2 ^ 32) → ((j : ℕ) → c.word j < 2 ^ 32) →
       ((c' : Contents) → Stored (base + i) (c.register r) c c' → Runs s plan.private to is c' d) → Runs s plan.private to (store_code r i ++ is) c d
   runs_word {c} base r i is pointer apart low inside fits small run =

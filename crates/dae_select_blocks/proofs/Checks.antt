@@ -27,7 +27,7 @@ use Rattle.dae_ir.specs.declared.stream.Action.TheVariants.{Probe}
 use Rattle.dae_ir.specs.declared.stream.Failure.{Failure}
 use Rattle.dae_meaning.specs.declared.Spelling.{Spelling}
 use Rattle.dae_meaning.specs.declared.Spelling.TheVariants.{Byte, Signed, Unsigned, Hexadecimal}
-use Rattle.dae_select_walks.specs.Walks.{Setting}
+use Rattle.dae_select_walks.specs.Walks.{WalkSetting}
 use Rattle.dae_select_walks.specs.Homes.{Contents}
 use Rattle.dae_select_walks.specs.Agrees.{Plan, Moment, depth_of, top_of, counted_depth}
 use Rattle.dae_select_walks.proofs.LawsOfWalks.{put, step_prints, step_ends, step_stops}
@@ -83,7 +83,7 @@ less_is_immediate : (offset : ℕ) → offset < 2048 → is_immediate (minus off
 unfolding is_immediate
 less_is_immediate offset few = grind (arith, nat_tests)
 
-module _ (s : Setting) (plan : Plan) (variables : ℕ → ℕ) (fine : Fits s plan variables) (live live' : VariableSet) (m : Moment) where
+module _ (s : WalkSetting) (plan : Plan) (variables : ℕ → ℕ) (fine : Fits s plan variables) (live live' : VariableSet) (m : Moment) where
   by_side : plan.by_a ≡ false → s.side ≡ E
   by_side e = fine.side ∙ ap side e
 

@@ -26,7 +26,7 @@ use Rattle.dae_ir.specs.declared.form.Value.{Value}
 use Rattle.dae_ir.specs.declared.form.Value.TheVariants.{Same, Extended, Binary, Holds, FrameAddress}
 use Rattle.dae_select_walks.specs.declared.Home.{Home}
 use Rattle.dae_select_walks.specs.declared.Home.TheVariants.{Register, Slot}
-use Rattle.dae_select_walks.specs.Walks.{Setting}
+use Rattle.dae_select_walks.specs.Walks.{WalkSetting}
 use Rattle.dae_select_walks.specs.Live.{in_operand, in_value}
 use Rattle.dae_select_walks.specs.Homes.{Contents, IsHome, number_key, resident_register}
 use Rattle.dae_select_walks.specs.Agrees.{Plan, Moment}
@@ -62,7 +62,7 @@ extended_fits I16 x h = grind (arith, nat_tests)
 extended_fits U16 x h = omega arith
 extended_fits I32 x h = h
 
-module _ (s : Setting) (private : ℕ) (to : ℕ → Env → Processor → Type 0) where
+module _ (s : WalkSetting) (private : ℕ) (to : ℕ → Env → Processor → Type 0) where
   -- so it runs on from an instruction that computes a word into t, whatever t is. Before it only x7 may be another
   abbrev RunsLast : Contents → ℕ → ℕ → List Inst → Deed → Type 0
   RunsLast c t v is d = (c' : Contents) (i : Inst) → Like 7 c c' → Computed i t v c' → Runs s private to (i ∷ is) c' d
@@ -252,7 +252,7 @@ pub record Compares (plan : Plan) (live : VariableSet) (m : Moment) (t : ℕ) (r
   pub left : c.register (source (plan.home m.function) 5 x) ≡ value x m.env
   pub right : immediate_of (plan.home m.function) relation y ≡ None → c.register (source (plan.home m.function) 6 y) ≡ value y m.env
 
-module _ (s : Setting) (plan : Plan) (variables : ℕ → ℕ) (fine : Fits s plan variables) (to : ℕ → Env → Processor → Type 0) where
+module _ (s : WalkSetting) (plan : Plan) (variables : ℕ → ℕ) (fine : Fits s plan variables) (to : ℕ → Env → Processor → Type 0) where
   -- the register of a home, or the scratch register, is none that stands for a queue; and it is not another scratch register
   pub register_plain : (n r : ℕ) (home : Home) → IsHome n home → r < 28 → register_or r home < 28
   register_plain n r home is l = home_plain n r home is l

@@ -9,7 +9,7 @@ use Rattle.dae_encode.specs.declared.Inst.TheVariants.{Add, Sub, Addi}
 use Rattle.dae_encode.specs.Processor.{Processor}
 use Rattle.dae_meaning.specs.Variables.{Env}
 use Rattle.dae_ir.specs.Deeds.{Deed}
-use Rattle.dae_select_walks.specs.Walks.{Setting}
+use Rattle.dae_select_walks.specs.Walks.{WalkSetting}
 use Rattle.dae_select_walks.specs.Homes.{Contents}
 use Rattle.dae_select_walks.specs.Agrees.{Plan}
 use Rattle.dae_select_walks.proofs.LawsOfWalks.{put}
@@ -50,7 +50,7 @@ shifted r x c c' low high small words others fits = record {
   fits = (like_put r x c' small fits).fits;
 }
 
-module _ (s : Setting) (plan : Plan) (to : ℕ → Env → Processor → Type 0) where
+module _ (s : WalkSetting) (plan : Plan) (to : ℕ → Env → Processor → Type 0) where
   runs_more : {c : Contents} {d : Deed} (r n x : ℕ) (is : List Inst) → c.register 0 ≡ 0 → ((j : ℕ) → c.register j < 2 ^ 32) → 0 < r → r < 5 → c.register r ≡ x → n < 2 ^ 32 → x + n < 2 ^ 32 →
       ((c' : Contents) → Shifted r (x + n) c c' → Runs s plan.private to is c' d) → Runs s plan.private to (more_code r n ++ is) c d
   runs_more {c} {d} r n x is zero fits low high found fits_n small run = by (nat_eq n 0) refl (is_immediate n) refl
@@ -112,24 +112,24 @@ module _ (s : Setting) (plan : Plan) (to : ℕ → Env → Processor → Type 0)
           run c (record { words = (λ i. refl); ten = (λ t. absurd cc); others = (λ j ne. refl); fits = fits })
 
   pub runs_deeper : {c : Contents} {d : Deed} (f g base frame : ℕ) (is : List Inst) → c.register 0 ≡ 0 → ((j : ℕ) → c.register j < 2 ^ 32) → c.register 2 ≡ 4 * base → c.register 3 ≡ frame → frame + plan.frame f < 2 ^ 32 → base + plan.words f ≤ 2 ^ 28 →
-      ((c' : Contents) → Moved (if plan.bare g then base else base + plan.words f) (frame + plan.frame f) c c' → Runs s plan.private to is c' d) → Runs s plan.private to (deeper_code plan f g ++ is) c d
+      ((c' : Contents) → Moved (if plan.frameless g then base else base + plan.words f) (frame + plan.frame f) c c' → Runs s plan.private to is c' d) → Runs s plan.private to (deeper_code plan f g ++ is) c d
   runs_deeper {c} {d} f g base frame is zero fits two three top wide run =
       let whole : plan.frame f % 2 ^ 32 ≡ plan.frame f = omega arith in
-      rw (append_assoc, whole) (runs_more 3 (plan.frame f) frame _ zero fits (omega arith) (omega arith) three (omega arith) top (λ c1 one. own c1 one (plan.bare g) run))
+      rw (append_assoc, whole) (runs_more 3 (plan.frame f) frame _ zero fits (omega arith) (omega arith) three (omega arith) top (λ c1 one. own c1 one (plan.frameless g) run))
     where
-      own : (c1 : Contents) → Shifted 3 (frame + plan.frame f) c c1 → (bare : Bool) → ((c' : Contents) → Moved (if bare then base else base + plan.words f) (frame + plan.frame f) c c' → Runs s plan.private to is c' d) → Runs s plan.private to ((if bare then [] else more_code 2 (4 * plan.words f)) ++ is) c1 d
+      own : (c1 : Contents) → Shifted 3 (frame + plan.frame f) c c1 → (frameless : Bool) → ((c' : Contents) → Moved (if frameless then base else base + plan.words f) (frame + plan.frame f) c c' → Runs s plan.private to is c' d) → Runs s plan.private to ((if frameless then [] else more_code 2 (4 * plan.words f)) ++ is) c1 d
       own c1 one true run = run c1 (record { words = (λ i. one.words i); two = one.others 2 (omega arith) (omega arith) ∙ two; three = one.here; others = (λ j n2 n3 n5. one.others j n3 n5); fits = one.fits })
       own c1 one false run =
           runs_more 2 (4 * plan.words f) (4 * base) is (one.others 0 (omega arith) (omega arith) ∙ zero) one.fits (omega arith) (omega arith) (one.others 2 (omega arith) (omega arith) ∙ two) (omega arith) (omega arith) (λ c2 other.
           run c2 (record { words = (λ i. other.words i ∙ one.words i); two = other.here ∙ (omega arith); three = other.others 3 (omega arith) (omega arith) ∙ one.here; others = (λ j n2 n3 n5. other.others j n2 n5 ∙ one.others j n3 n5); fits = other.fits }))
 
-  pub runs_back : {c : Contents} {d : Deed} (f g base frame : ℕ) (is : List Inst) → c.register 0 ≡ 0 → ((j : ℕ) → c.register j < 2 ^ 32) → c.register 2 ≡ 4 * (if plan.bare g then base else base + plan.words f) → c.register 3 ≡ frame + plan.frame f → frame + plan.frame f < 2 ^ 32 → base + plan.words f ≤ 2 ^ 28 →
+  pub runs_back : {c : Contents} {d : Deed} (f g base frame : ℕ) (is : List Inst) → c.register 0 ≡ 0 → ((j : ℕ) → c.register j < 2 ^ 32) → c.register 2 ≡ 4 * (if plan.frameless g then base else base + plan.words f) → c.register 3 ≡ frame + plan.frame f → frame + plan.frame f < 2 ^ 32 → base + plan.words f ≤ 2 ^ 28 →
       ((c' : Contents) → Moved base frame c c' → Runs s plan.private to is c' d) → Runs s plan.private to (back_code plan f g ++ is) c d
   runs_back {c} {d} f g base frame is zero fits two three top wide run =
       let whole : plan.frame f % 2 ^ 32 ≡ plan.frame f = omega arith in
-      rw (append_assoc, whole) (runs_less 3 (plan.frame f) frame _ zero fits (omega arith) (omega arith) three (omega arith) top (λ c1 one. own c1 one (plan.bare g) two))
+      rw (append_assoc, whole) (runs_less 3 (plan.frame f) frame _ zero fits (omega arith) (omega arith) three (omega arith) top (λ c1 one. own c1 one (plan.frameless g) two))
     where
-      own : (c1 : Contents) → Shifted 3 frame c c1 → (bare : Bool) → c.register 2 ≡ 4 * (if bare then base else base + plan.words f) → Runs s plan.private to ((if bare then [] else less_code 2 (4 * plan.words f)) ++ is) c1 d
+      own : (c1 : Contents) → Shifted 3 frame c c1 → (frameless : Bool) → c.register 2 ≡ 4 * (if frameless then base else base + plan.words f) → Runs s plan.private to ((if frameless then [] else less_code 2 (4 * plan.words f)) ++ is) c1 d
       own c1 one true here = run c1 (record { words = (λ i. one.words i); two = one.others 2 (omega arith) (omega arith) ∙ here; three = one.here; others = (λ j n2 n3 n5. one.others j n3 n5); fits = one.fits })
       own c1 one false here =
           runs_less 2 (4 * plan.words f) (4 * base) is (one.others 0 (omega arith) (omega arith) ∙ zero) one.fits (omega arith) (omega arith) (one.others 2 (omega arith) (omega arith) ∙ (here ∙ (omega arith))) (omega arith) (omega arith) (λ c2 other.

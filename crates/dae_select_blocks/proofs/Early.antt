@@ -8,7 +8,7 @@ use Rattle.dae_base.specs.declared.LoadKind.TheVariants.{I8, U8, I16, U16, I32}
 use Rattle.dae_base.specs.declared.Queue.{Queue}
 use Rattle.dae_base.proofs.Laws.{plus_small, or_true, and_true}
 use Rattle.dae_encode.specs.declared.QueueUse.TheVariants.{Take as Takes}
-use Rattle.dae_encode.specs.declared.Form.TheVariants.{Computes}
+use Rattle.dae_encode.specs.declared.InstructionForm.TheVariants.{Computes}
 use Rattle.dae_encode.specs.declared.Inst.{Inst}
 use Rattle.dae_encode.specs.declared.Inst.TheVariants.{Addi, Sub, Slt, Sltu, Slti, Sltiu, Xori, Andi, Slli, Srli, Srai}
 use Rattle.dae_encode.specs.Instructions.{effect, on_two, flag, shift_left, shift_right, shift_signed}
@@ -30,7 +30,7 @@ use Rattle.dae_meaning.specs.declared.Comparison.{Comparison}
 use Rattle.dae_meaning.specs.declared.Comparison.TheVariants.{Equal, NotEqual, LessSigned, AtLeastSigned, LessUnsigned, AtLeastUnsigned}
 use Rattle.dae_select_walks.specs.declared.Home.{Home}
 use Rattle.dae_select_walks.specs.declared.Home.TheVariants.{Register}
-use Rattle.dae_select_walks.specs.Walks.{Setting}
+use Rattle.dae_select_walks.specs.Walks.{WalkSetting}
 use Rattle.dae_select_walks.specs.Live.{in_operand, in_value}
 use Rattle.dae_select_walks.specs.Homes.{Contents, number_key, resident_register}
 use Rattle.dae_select_walks.specs.Agrees.{Plan, Moment, Stands}
@@ -54,7 +54,7 @@ left_one false e = absurd cc
 
 -- ---- extensions and comparisons
 
-module _ (s : Setting) (plan : Plan) (variables : ℕ → ℕ) (fine : Fits s plan variables) (to : ℕ → Env → Processor → Type 0) where
+module _ (s : WalkSetting) (plan : Plan) (variables : ℕ → ℕ) (fine : Fits s plan variables) (to : ℕ → Env → Processor → Type 0) where
   -- this code works on the registers x and y, and only its first instruction reads them
   record Splits (code : List Inst) (x y t : ℕ) (operation : ℕ → ℕ → ℕ) : Type 0 where
     first : Inst
@@ -183,7 +183,7 @@ module _ (s : Setting) (plan : Plan) (variables : ℕ → ℕ) (fine : Fits s pl
       inl (splits_two (Sltiu 7 x (lower n)) (Xori t 7 (pos 1)) x 0 t (λ a b. flag (nat_lt a (word (lower n)))) (λ a b. flag (not (nat_lt a n))) (λ a. bit_xor a (word (pos 1))) refl refl low
       (λ a b sa sb. flag_small (nat_lt a (word (lower n)))) (λ a b sa sb. rw is (opposite_flag (nat_lt a n))) (λ a b sa sb. flag_small (not (nat_lt a n))))
 
-module _ (s : Setting) (plan : Plan) (variables : ℕ → ℕ) (fine : Fits s plan variables) (to : ℕ → Env → Processor → Type 0) (q : ℕ) (queue : Queue) (go : ℕ → Deed) (high : nat_lt q 28 ≡ false)
+module _ (s : WalkSetting) (plan : Plan) (variables : ℕ → ℕ) (fine : Fits s plan variables) (to : ℕ → Env → Processor → Type 0) (q : ℕ) (queue : Queue) (go : ℕ → Deed) (high : nat_lt q 28 ≡ false)
     (left : (t r : ℕ) → t < 28 → r < 28 → queue_use s.copies s.side (Computes t q r) ≡ Some (Takes queue)) (right : (t r : ℕ) → t < 28 → r < 28 → queue_use s.copies s.side (Computes t r q) ≡ Some (Takes queue)) where
   -- with what is computed of the word in t, and whatever in scratch registers, this runs on
   abbrev OnWord : VariableSet → Moment → List Inst → ℕ → (ℕ → ℕ) → Type 0
@@ -378,7 +378,7 @@ module _ (s : Setting) (plan : Plan) (variables : ℕ → ℕ) (fine : Fits s pl
       early_test v t test.comparison test.left test.right is far once low h (λ u e ne. reads u (rw e refl) ne) (λ u e ne. reads u (rw e (or_true (in_operand test.left u))) ne) numbers.0 numbers.1 run
   early_value v t (FrameAddress offset) is far once low h reads numbers run = absurd (let bad : false ≡ true = once in cc)
 
-module _ (s : Setting) (plan : Plan) (variables : ℕ → ℕ) (fine : Fits s plan variables) (live live' : VariableSet) (m : Moment) (v d : ℕ) (y : Value) where
+module _ (s : WalkSetting) (plan : Plan) (variables : ℕ → ℕ) (fine : Fits s plan variables) (live live' : VariableSet) (m : Moment) (v d : ℕ) (y : Value) where
   -- the processor holds what it is to hold behind the next action
   abbrev pub ToNext : ℕ → Env → Processor → Type 0
   ToNext k env p = Stands plan live' (with_env (form.put true d (computed y m.frame env) env) m) k p

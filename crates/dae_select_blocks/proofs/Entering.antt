@@ -14,11 +14,11 @@ use Rattle.dae_ir.specs.Deeds.{Deed, Went}
 use Rattle.dae_ir.specs.declared.stream.Argument.{Argument}
 use Rattle.dae_select_walks.specs.declared.Home.{Home}
 use Rattle.dae_select_walks.specs.declared.Home.TheVariants.{Register, Slot}
-use Rattle.dae_select_walks.specs.Walks.{Setting, Comes}
+use Rattle.dae_select_walks.specs.Walks.{WalkSetting, Comes}
 use Rattle.dae_select_walks.specs.Layout.{CodeAt}
 use Rattle.dae_select_walks.specs.Live.{in_arguments, is}
 use Rattle.dae_select_walks.specs.Homes.{Contents, held, kept, IsHome, is_home_register, kept_at, slot_at, resident_home, resident_register, none_spared}
-use Rattle.dae_select_walks.specs.Agrees.{Plan, Moment, Waiting, Agrees, Shows, Stands, AreIn, AreWaiting, AreResident, IsWithin, depth_of, top_of, return_address, counted_depth}
+use Rattle.dae_select_walks.specs.Agrees.{Plan, Moment, CallFrame, Agrees, Shows, Stands, AreIn, AreWaiting, AreResident, IsWithin, depth_of, top_of, return_address, counted_depth}
 use Rattle.dae_select_walks.specs.Compiled.{given, called, waiting_of}
 use Rattle.dae_select_walks.proofs.LawsOfWalks.{comes_here, comes_more, comes_then}
 use Rattle.dae_select_walks.proofs.LawsOfWalks.{put, store, step}
@@ -38,10 +38,10 @@ use Rattle.dae_select_blocks.proofs.Deeper.{runs_deeper, runs_count}
 use Rattle.dae_select_blocks.proofs.Jumps.{ready}
 
 -- the called function's frame is begun: its parameters have their arguments, and the caller's variables are kept, as is the address that it returns to
-pub record Prepared (plan : Plan) (m : Moment) (w : Waiting) (base g : ℕ) (xs : List Argument) (k : ℕ) (p : Processor) : Type 0 where
+pub record Prepared (plan : Plan) (m : Moment) (w : CallFrame) (base g : ℕ) (xs : List Argument) (k : ℕ) (p : Processor) : Type 0 where
   pub contents : Contents
   pub shows : Shows plan.private contents k p
-  pub two : contents.register 2 ≡ 4 * (if plan.bare g then base else base + plan.words m.function)
+  pub two : contents.register 2 ≡ 4 * (if plan.frameless g then base else base + plan.words m.function)
   pub three : contents.register 3 ≡ top_of plan m
   pub four : plan.by_a ≡ true → contents.register 4 ≡ plan.memory - 16
   pub residents : AreResident plan contents
@@ -50,7 +50,7 @@ pub record Prepared (plan : Plan) (m : Moment) (w : Waiting) (base g : ℕ) (xs 
   pub variables : AreIn (kept (plan.spares g) contents base) (plan.home m.function) w.live m.env
   pub waiting : AreWaiting plan contents none_spared (contents.word base) base m.frame m.waiting
 
-module _ (s : Setting) (plan : Plan) (variables : ℕ → ℕ) (fine : Fits s plan variables) (entries : ℕ → VariableSet) (linked : IsLinked s plan) where
+module _ (s : WalkSetting) (plan : Plan) (variables : ℕ → ℕ) (fine : Fits s plan variables) (entries : ℕ → VariableSet) (linked : IsLinked s plan) where
   -- within the call limit there is room for one frame more
   room_for : {live : VariableSet} {m : Moment} {c : Contents} (h : Ready plan live m c) (g : ℕ) → depth_of m + 1 ≤ plan.limit → h.agrees.base + plan.words m.function + plan.words g ≤ plan.private
   room_for {m = m} h g deep =
@@ -99,7 +99,7 @@ module _ (s : Setting) (plan : Plan) (variables : ℕ → ℕ) (fine : Fits s pl
       by (Register t) good is = register t good is
       by (Slot i) good is = let same : base + b + slot_at i ≡ base + (b + slot_at i) = omega arith in subst (λ (n : ℕ). c.word n ≡ v) (sym same) (slot i is)
 
-  pub prepares : {live : VariableSet} {m : Moment} {k : ℕ} {p : Processor} (v : Option ℕ) (behind : VariableSet) (g : ℕ) (xs : List Argument) (w : Waiting) (h : Stands plan live m k p) → w.live ≡ (λ u. behind u && not (is v u)) →
+  pub prepares : {live : VariableSet} {m : Moment} {k : ℕ} {p : Processor} (v : Option ℕ) (behind : VariableSet) (g : ℕ) (xs : List Argument) (w : CallFrame) (h : Stands plan live m k p) → w.live ≡ (λ u. behind u && not (is v u)) →
       ((u : ℕ) → in_arguments xs u ≡ true → live u ≡ true) → ((u : ℕ) → w.live u ≡ true → live u ≡ true) → ((u : ℕ) → live u ≡ true → u < variables m.function) → AreGiven xs → HaveHomes plan g (gives xs) → plan.leaf m.function ≡ false → IsWithin plan (called plan g xs w m) →
       k + length (arguments_code plan m.function g xs ++ (save_code (registers_in (plan.home m.function) (variables m.function) (unspared plan m.function g w.live)) ++ (parameters_code plan m.function g xs ++ deeper_code plan m.function g))) < 2 ^ 29 →
       CodeAt s.code k (arguments_code plan m.function g xs ++ (save_code (registers_in (plan.home m.function) (variables m.function) (unspared plan m.function g w.live)) ++ (parameters_code plan m.function g xs ++ deeper_code plan m.function g))) →
@@ -178,7 +178,7 @@ module _ (s : Setting) (plan : Plan) (variables : ℕ → ℕ) (fine : Fits s pl
   step_down (suc n) k h = let one : suc n - 1 ≡ n = omega arith in rw one (omega arith)
 
   -- the called function finds the address to return to, and its parameters in their homes
-  record Arrived (m : Moment) (w : Waiting) (base g : ℕ) (before' c : Contents) : Type 0 where
+  record Arrived (m : Moment) (w : CallFrame) (base g : ℕ) (before' c : Contents) : Type 0 where
     pub back : return_address plan g c (base + plan.words m.function) ≡ 4 * w.back
     pub words : (i : ℕ) → i ≢ base + plan.words m.function → c.word i ≡ before'.word i
     pub registers : (r : ℕ) → is_home_register r ≡ true → c.register r ≡ before'.register r
@@ -202,7 +202,7 @@ module _ (s : Setting) (plan : Plan) (variables : ℕ → ℕ) (fine : Fits s pl
       record {
         base = b;
         variables = λ u e. parameter (plan.home g u) (fine.homes g u) ∙ q.given u (wanted u e);
-        pointer = a.two ∙ (q.two ∙ ap (λ n. 4 * n) (entered (plan.bare g)));
+        pointer = a.two ∙ (q.two ∙ ap (λ n. 4 * n) (entered (plan.frameless g)));
         frame = a.three ∙ q.three;
         depth = λ e. a.ten e ∙ (ap (λ (n : ℕ). counted_depth plan g (n + 1)) (q.ten e) ∙ ap (λ (n : ℕ). counted_depth plan g n) next);
         addresses = λ e. a.four ∙ q.four e;
@@ -222,8 +222,8 @@ module _ (s : Setting) (plan : Plan) (variables : ℕ → ℕ) (fine : Fits s pl
         within = within;
       }
     where
-      -- a bare function leaves x2 at the caller's frame
-      entered : (bare : Bool) → (if bare then h.agrees.base else h.agrees.base + plan.words m.function) ≡ (if bare then h.agrees.base + plan.words m.function - plan.words m.function else h.agrees.base + plan.words m.function)
+      -- a frameless function leaves x2 at the caller's frame
+      entered : (frameless : Bool) → (if frameless then h.agrees.base else h.agrees.base + plan.words m.function) ≡ (if frameless then h.agrees.base + plan.words m.function - plan.words m.function else h.agrees.base + plan.words m.function)
       entered true = omega arith
       entered false = refl
 
@@ -288,7 +288,7 @@ module _ (s : Setting) (plan : Plan) (variables : ℕ → ℕ) (fine : Fits s pl
       CodeAt s.code k (enter_code plan.near (plan.entry g)) → Prepared plan m (waiting_of v behind (k + enter_words plan.near) m) h.agrees.base g xs k p →
       Comes s (enter_words plan.near + length (entry_code plan g)) p (Stands plan (entries g) (called plan g xs (waiting_of v behind (k + enter_words plan.near) m) m) (plan.start g))
   enters {live} {m} {k} {p} v behind g xs {c} h there wanted small within at q =
-      let w : Waiting = waiting_of v behind (k + enter_words plan.near) m in
+      let w : CallFrame = waiting_of v behind (k + enter_words plan.near) m in
       let base : ℕ = h.agrees.base in
       let b : ℕ = base + plan.words m.function in
       let long = fine.words g in let wide = fine.private in
@@ -301,7 +301,7 @@ module _ (s : Setting) (plan : Plan) (variables : ℕ → ℕ) (fine : Fits s pl
       let l1 = j.1 in
       let l2 = like_put 1 (4 * (k + enter_words plan.near)) j.0 (omega arith) l1.fits in
       let pointer : plan.leaf g ≡ false → c1.register 2 ≡ 4 * b =
-      λ calls. l1.registers 2 (omega arith) ∙ (q.two ∙ ap (λ (bare : Bool). 4 * (if bare then base else b)) (calls_framed s plan variables fine g calls)) in
+      λ calls. l1.registers 2 (omega arith) ∙ (q.two ∙ ap (λ (frameless : Bool). 4 * (if frameless then base else b)) (calls_framed s plan variables fine g calls)) in
       let lim = fine.limit in
       let low : depth_of m < 2 ^ 20 = omega arith in
       let last : Runs s plan.private to (prologue_code plan.by_a (plan.leaf g) ++ []) c1 (Went m.env) = runs_prologue to g b [] pointer (omega arith) l2.fits (λ i. subst (λ (x : ℕ). x < 2 ^ 32) (sym (l1.words i)) (q.shows.holds i)) (λ e. subst (λ (x : ℕ). x < 2 ^ 20) (sym (l1.registers 10 (omega arith) ∙ q.ten e)) low) (λ c2 opened.

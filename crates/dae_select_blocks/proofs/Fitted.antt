@@ -19,9 +19,9 @@ use Rattle.dae_meaning.specs.declared.Spelling.TheVariants.{Byte, Signed, Unsign
 use Rattle.dae_select_walks.specs.declared.Home.{Home}
 use Rattle.dae_select_walks.specs.declared.Home.TheVariants.{Register, Slot}
 use Rattle.dae_select_walks.specs.Homes.{IsHome, kept_at, slot_at}
-use Rattle.dae_select_walks.specs.declared.Standing.{Standing}
-use Rattle.dae_select_walks.specs.declared.Standing.TheVariants.{Settled, Early, Late}
-use Rattle.dae_select_walks.specs.Live.{Ways, none, live, behind, body_ways, step_ways, nowhere}
+use Rattle.dae_select_walks.specs.declared.VariableStanding.{VariableStanding}
+use Rattle.dae_select_walks.specs.declared.VariableStanding.TheVariants.{Settled, Early, Late}
+use Rattle.dae_select_walks.specs.Live.{LiveWays, none, live, behind, body_ways, step_ways, nowhere}
 use Rattle.dae_select_walks.specs.Facts.{Facts, unknown, facts_behind, facts_in_first, facts_in_second, facts_past_if, facts_at_turn, facts_at_step, facts_past_loop, need_of}
 use Rattle.dae_select_walks.specs.declared.Need.{Need}
 use Rattle.dae_select_walks.specs.declared.Need.TheVariants.{All, Ends, Nothing}
@@ -131,13 +131,13 @@ module _ (plan : Plan) (variables : ℕ → ℕ) (good : (f v : ℕ) → IsHome 
 
   deeper_fits : (f g : ℕ) → AllFit (deeper_code plan f g)
   deeper_fits f g =
-      fit_append (more_code 3 (plan.frame f % 2 ^ 32)) (if plan.bare g then [] else more_code 2 (4 * plan.words f)) (more_fits 3 (plan.frame f % 2 ^ 32) (omega arith))
-      (fit_either (plan.bare g) [] (more_code 2 (4 * plan.words f)) (λ e. tt) (λ e. more_fits 2 (4 * plan.words f) (omega arith)))
+      fit_append (more_code 3 (plan.frame f % 2 ^ 32)) (if plan.frameless g then [] else more_code 2 (4 * plan.words f)) (more_fits 3 (plan.frame f % 2 ^ 32) (omega arith))
+      (fit_either (plan.frameless g) [] (more_code 2 (4 * plan.words f)) (λ e. tt) (λ e. more_fits 2 (4 * plan.words f) (omega arith)))
 
   returning_fits : (f g : ℕ) → AllFit (back_code plan f g)
   returning_fits f g =
-      fit_append (less_code 3 (plan.frame f % 2 ^ 32)) (if plan.bare g then [] else less_code 2 (4 * plan.words f)) (less_fits 3 (plan.frame f % 2 ^ 32) (omega arith))
-      (fit_either (plan.bare g) [] (less_code 2 (4 * plan.words f)) (λ e. tt) (λ e. less_fits 2 (4 * plan.words f) (omega arith)))
+      fit_append (less_code 3 (plan.frame f % 2 ^ 32)) (if plan.frameless g then [] else less_code 2 (4 * plan.words f)) (less_fits 3 (plan.frame f % 2 ^ 32) (omega arith))
+      (fit_either (plan.frameless g) [] (less_code 2 (4 * plan.words f)) (λ e. tt) (λ e. less_fits 2 (4 * plan.words f) (omega arith)))
 
   call_fits : (f : ℕ) (v : Option ℕ) (g : ℕ) (xs : List Argument) (live : VariableSet) → AllFit (call_code plan variables f v g xs live)
   call_fits f v g xs live =
@@ -191,11 +191,11 @@ module _ (plan : Plan) (variables : ℕ → ℕ) (good : (f v : ℕ) → IsHome 
     settled_fits f Ends a live l s = placed_fits (variables f) (plan.home f) (good f) a
     settled_fits f All a live l s = action_fits f a live l s
 
-    block_fits : (f : ℕ) (known : Facts) (standing : Standing) (x : Ways) (l s : ℕ) (a : Action) (k : Actions) → AllFit (block_code plan variables f (need_of plan.memory known a k) standing a (standing_behind a k x) (live k x) (jump_over short l) (jump_over short s))
+    block_fits : (f : ℕ) (known : Facts) (standing : VariableStanding) (x : LiveWays) (l s : ℕ) (a : Action) (k : Actions) → AllFit (block_code plan variables f (need_of plan.memory known a k) standing a (standing_behind a k x) (live k x) (jump_over short l) (jump_over short s))
     block_fits f known (Early v y) x l s a k = tt
     block_fits f known (Late t y) x l s a k = late_fits f t y a
     block_fits f known Settled x l s a k =
-        by_pairs (λ (a : Action) (k : Actions) (standing : Standing). AllFit (block_code plan variables f (need_of plan.memory known a k) Settled a standing (live k x) (jump_over short l) (jump_over short s))) x
+        by_pairs (λ (a : Action) (k : Actions) (standing : VariableStanding). AllFit (block_code plan variables f (need_of plan.memory known a k) Settled a standing (live k x) (jump_over short l) (jump_over short s))) x
         (λ a k. fit_either (is_dead a (live k x)) [] (needed_code plan variables f (need_of plan.memory known a k) a (live k x) (jump_over short l) (jump_over short s)) (λ e. tt) (λ e. settled_fits f (need_of plan.memory known a k) a (live k x) l s)) (λ t y m b k e passes dead. tt) (λ v m d y k e once dead. early_fits f 30 v d y (omega arith)) (λ v m d y k e once dead. early_fits f 28 v d y (omega arith)) a k
 
     past_fits : (none : Bool) (n : ℕ) → AllFit (past_code short none n)
@@ -209,7 +209,7 @@ module _ (plan : Plan) (variables : ℕ → ℕ) (good : (f v : ℕ) → IsHome 
     bottom_fits f (Loop m body step k) n near = tt
 
     mutual
-      pub code_fits : (f : ℕ) (standing : Standing) (known : Facts) (code : Actions) (x : Ways) (leaves skips : ℕ) → AllFit (code_of short plan variables f standing known code x leaves skips)
+      pub code_fits : (f : ℕ) (standing : VariableStanding) (known : Facts) (code : Actions) (x : LiveWays) (leaves skips : ℕ) → AllFit (code_of short plan variables f standing known code x leaves skips)
       code_fits f standing known Done x leaves skips = tt
       code_fits f standing known (Do m a k) x leaves skips = fit_append _ _ (block_fits f known standing x _ _ a k) (code_fits f (standing_behind a k x) (facts_behind plan.memory a known) k x leaves skips)
       code_fits f standing known (If m b p q k) x leaves skips =
@@ -246,7 +246,7 @@ module _ (plan : Plan) (variables : ℕ → ℕ) (good : (f v : ℕ) → IsHome 
           (fit_append again (back ++ rest) (code_fits f Settled (facts_at_step plan.memory body step known) step (step_ways body step after') (jump_words short) 0)
           (fit_append back rest (back_fits short (length turned + length again)) (code_fits f Settled (facts_past_loop body step known) k x leaves skips))))
 
-      pub tail_fits : (f : ℕ) (known : Facts) (code : Actions) (x : Ways) (leaves skips : ℕ) → AllFit (tail_of short plan variables f known code x leaves skips)
+      pub tail_fits : (f : ℕ) (known : Facts) (code : Actions) (x : LiveWays) (leaves skips : ℕ) → AllFit (tail_of short plan variables f known code x leaves skips)
       tail_fits f known (If m b p q k) x leaves skips = code_fits f Settled (facts_past_if b p q known) k x leaves skips
       tail_fits f known Done x leaves skips = tt
       tail_fits f known (Do m a k) x leaves skips = tt

@@ -9,7 +9,7 @@ use Rattle.dae_encode.specs.declared.Inst.TheVariants.{Lui, Addi, Add, Lw, Sw}
 use Rattle.dae_encode.specs.Processor.{Processor}
 use Rattle.dae_meaning.specs.Variables.{Env}
 use Rattle.dae_ir.specs.Deeds.{Deed}
-use Rattle.dae_select_walks.specs.Walks.{Setting}
+use Rattle.dae_select_walks.specs.Walks.{WalkSetting}
 use Rattle.dae_select_walks.specs.Homes.{Contents}
 use Rattle.dae_select_walks.proofs.LawsOfWalks.{put, store}
 use Rattle.dae_select_blocks.specs.Blocks.{upper, lower, is_immediate, number_code, load_code, store_code}
@@ -20,7 +20,7 @@ use Rattle.dae_select_blocks.proofs.Runs.{Runs, runs_quiet}
 pub upper_small : (n : ℕ) → word (upper n) < 2 ^ 32
 upper_small n = rw (word_upper n) (omega arith)
 
-module _ (s : Setting) (private : ℕ) (to : ℕ → Env → Processor → Type 0) where
+module _ (s : WalkSetting) (private : ℕ) (to : ℕ → Env → Processor → Type 0) where
   -- a number goes into a register
   pub runs_number : {c : Contents} {d : Deed} (r n : ℕ) (is : List Inst) → c.register 0 ≡ 0 → 0 < r → r < 28 → n < 2 ^ 32 → Runs s private to is (put r n c) d → Runs s private to (number_code r n ++ is) c d
   runs_number {c} {d} r n is zero low high fits run = by (is_immediate n) refl (nat_eq (n % 2 ^ 12) 0) refl

@@ -8,7 +8,7 @@ use Rattle.dae_ir.specs.declared.form.Operand.{Operand}
 use Rattle.dae_ir.specs.declared.stream.Action.TheVariants.{Return}
 use Rattle.dae_select_walks.specs.Live.{nowhere, none, is}
 use Rattle.dae_select_walks.specs.Facts.{unknown}
-use Rattle.dae_select_walks.specs.declared.Standing.TheVariants.{Settled}
+use Rattle.dae_select_walks.specs.declared.VariableStanding.TheVariants.{Settled}
 use Rattle.dae_select_walks.specs.Compiled.{Exits, exit, exits, ways_of}
 use Rattle.dae_select_walks.proofs.LawsOfWalks.{comes_here}
 use Rattle.dae_select_blocks.specs.Code.{code_of, unspared}

@@ -17,7 +17,7 @@ use Rattle.dae_ir.specs.Deeds.{Plainly, WithStatus, Halts}
 use Rattle.dae_ir.specs.declared.form.Operand.{Operand}
 use Rattle.dae_ir.specs.declared.stream.Argument.{Argument}
 use Rattle.dae_ir.specs.declared.stream.Action.TheVariants.{Call, Return}
-use Rattle.dae_select_walks.specs.Walks.{Setting, Comes}
+use Rattle.dae_select_walks.specs.Walks.{WalkSetting, Comes}
 use Rattle.dae_select_walks.specs.Does.{Does}
 use Rattle.dae_select_walks.specs.Layout.{CodeAt}
 use Rattle.dae_select_walks.specs.Live.{in_option, in_arguments, is, before}
@@ -40,7 +40,7 @@ use Rattle.dae_select_blocks.proofs.Lengths.{enter_long, enter_few}
 use Rattle.dae_select_blocks.proofs.Entering.{prepares, enters}
 use Rattle.dae_select_blocks.proofs.Leaving.{leaves, return_done, resumes, Goes'}
 
-module _ (s : Setting) (plan : Plan) (variables : ℕ → ℕ) (fine : Fits s plan variables) (program : Program) (is_plan : IsPlanOf program plan) (entries : ℕ → VariableSet) (linked : IsLinked s plan) (most widest : ℕ) where
+module _ (s : WalkSetting) (plan : Plan) (variables : ℕ → ℕ) (fine : Fits s plan variables) (program : Program) (is_plan : IsPlanOf program plan) (entries : ℕ → VariableSet) (linked : IsLinked s plan) (most widest : ℕ) where
   -- main returns
   finishes : (m : Moment) (y : Option Operand) (p : Processor) (n : ℕ) → Comes s n p (Goes' s plan variables fine m plan.finish (result_of y m.env) plan.finish) → n + 3 ≤ most → (b : Bool) → plan.by_a ≡ b → CodeAt s.code plan.finish (finish_code b) → MainEnds b y m.env (λ quit. Does s most (Halts quit) (λ env q. ⊥) p)
   finishes m y p n c short true e at =

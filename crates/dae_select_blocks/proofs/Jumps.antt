@@ -9,7 +9,7 @@ use Rattle.dae_encode.specs.declared.QueueUse.{QueueUse}
 use Rattle.dae_encode.specs.declared.QueueUse.TheVariants.{Nothing, Take as Takes}
 use Rattle.dae_encode.specs.declared.Inst.{Inst}
 use Rattle.dae_encode.specs.declared.Inst.TheVariants.{Auipc, Jal, Jalr}
-use Rattle.dae_encode.specs.declared.Form.TheVariants.{Computes}
+use Rattle.dae_encode.specs.declared.InstructionForm.TheVariants.{Computes}
 use Rattle.dae_encode.specs.Instructions.{flag, effect, branch}
 use Rattle.dae_encode.specs.Spelling.{decode}
 use Rattle.dae_encode.specs.Uses.{queue_use}
@@ -24,7 +24,7 @@ use Rattle.dae_ir.specs.Form.{value, holds}
 use Rattle.dae_ir.specs.Deeds.{Went, Push, told_on, heard_on}
 use Rattle.dae_ir.specs.declared.form.Operand.{Operand}
 use Rattle.dae_ir.specs.declared.form.Test.{Test}
-use Rattle.dae_select_walks.specs.Walks.{Setting, Comes, Nears, Acts}
+use Rattle.dae_select_walks.specs.Walks.{WalkSetting, Comes, Nears, Acts}
 use Rattle.dae_select_walks.specs.Does.{Does, event}
 use Rattle.dae_select_walks.specs.Live.{in_test}
 use Rattle.dae_select_walks.specs.Homes.{Contents}
@@ -105,10 +105,10 @@ pub hears_some : (short way : Bool) (n : ℕ) → 1 ≤ length (goes_code short 
 hears_some short way n = goes_some short (one_way way NotEqual) 29 0 n
 
 -- with so many instructions more behind it
-nears_more : (s : Setting) {n : ℕ} {p : Processor} {Q R : ℕ → Processor → Type 0} (k : ℕ) → ((l : ℕ) (q : Processor) → Q l q → R (l + k) q) → Nears s n p Q → Nears s (n + k) p R
+nears_more : (s : WalkSetting) {n : ℕ} {p : Processor} {Q R : ℕ → Processor → Type 0} (k : ℕ) → ((l : ℕ) (q : Processor) → Q l q → R (l + k) q) → Nears s n p Q → Nears s (n + k) p R
 nears_more s k f h = let short = h.short in record { last = h.last; steps = h.steps; quiet = h.quiet; left = h.left + k; short = (omega arith); holds = f h.left h.last h.holds }
 
-module _ (s : Setting) (plan : Plan) (variables : ℕ → ℕ) (fine : Fits s plan variables) where
+module _ (s : WalkSetting) (plan : Plan) (variables : ℕ → ℕ) (fine : Fits s plan variables) where
   abbrev pub ready : {live : VariableSet} {m : Moment} {k : ℕ} {p : Processor} (h : Stands plan live m k p) → Ready plan live m h.contents
   ready h = record { zero = h.shows.zero; fits = h.shows.fits; small = h.shows.holds; agrees = h.agrees }
 

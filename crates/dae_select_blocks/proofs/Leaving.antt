@@ -15,11 +15,11 @@ use Rattle.dae_ir.specs.Deeds.{Deed, Went}
 use Rattle.dae_ir.specs.declared.form.Operand.{Operand}
 use Rattle.dae_select_walks.specs.declared.Home.{Home}
 use Rattle.dae_select_walks.specs.declared.Home.TheVariants.{Register, Slot}
-use Rattle.dae_select_walks.specs.Walks.{Setting, Comes}
+use Rattle.dae_select_walks.specs.Walks.{WalkSetting, Comes}
 use Rattle.dae_select_walks.specs.Layout.{CodeAt}
 use Rattle.dae_select_walks.specs.Live.{in_option, is}
 use Rattle.dae_select_walks.specs.Homes.{Contents, held, kept, is_home_register, kept_at, slot_at, resident_home, none_spared}
-use Rattle.dae_select_walks.specs.Agrees.{Plan, Moment, Waiting, Shows, Stands, AreIn, AreWaiting, AreResident, IsWithin, depth_of, return_address, counted_depth, pointed, words_below}
+use Rattle.dae_select_walks.specs.Agrees.{Plan, Moment, CallFrame, Shows, Stands, AreIn, AreWaiting, AreResident, IsWithin, depth_of, return_address, counted_depth, pointed, words_below}
 use Rattle.dae_select_walks.specs.Compiled.{Lands, IsAnswered, with_result, waiting_of, result_of, with_env}
 use Rattle.dae_select_walks.proofs.LawsOfWalks.{comes_here, comes_map, comes_more, comes_then}
 use Rattle.dae_select_walks.proofs.LawsOfWalks.{put, step}
@@ -37,7 +37,7 @@ use Rattle.dae_select_blocks.proofs.Calls.{kept_register, register_kept, Restore
 use Rattle.dae_select_blocks.proofs.Deeper.{Moved, runs_count, runs_back}
 use Rattle.dae_select_blocks.proofs.Jumps.{ready}
 
-module _ (s : Setting) (plan : Plan) (variables : ℕ → ℕ) (fine : Fits s plan variables) where
+module _ (s : WalkSetting) (plan : Plan) (variables : ℕ → ℕ) (fine : Fits s plan variables) where
   -- the processor has gone back to a word of the code, with the result in x6
   pub record Goes' (m : Moment) (target : ℕ) (result : Option ℕ) (k : ℕ) (p : Processor) : Type 0 where
     pub contents : Contents
@@ -170,7 +170,7 @@ module _ (s : Setting) (plan : Plan) (variables : ℕ → ℕ) (fine : Fits s pl
       comes_then s first (λ q t. lasts target (Some (value x m.env)) t.2 (λ z e. (let same : value x m.env ≡ z = cc in t.3 ∙ same)) t.4 near (omega arith) (code_drop s.code k code rest at) t.1))
 
   -- a return to the call that waits
-  pub return_done : {live : VariableSet} {m : Moment} {k : ℕ} {p : Processor} (y : Option Operand) (w : Waiting) (ws : List Waiting) (h : Stands plan live m k p) → m.waiting ≡ w ∷ ws → IsWantedResult y → ((u : ℕ) → in_option y u ≡ true → live u ≡ true) → k + length (leave_code plan.by_a (plan.leaf m.function) (plan.home m.function) y) < 2 ^ 29 → CodeAt s.code k (leave_code plan.by_a (plan.leaf m.function) (plan.home m.function) y) →
+  pub return_done : {live : VariableSet} {m : Moment} {k : ℕ} {p : Processor} (y : Option Operand) (w : CallFrame) (ws : List CallFrame) (h : Stands plan live m k p) → m.waiting ≡ w ∷ ws → IsWantedResult y → ((u : ℕ) → in_option y u ≡ true → live u ≡ true) → k + length (leave_code plan.by_a (plan.leaf m.function) (plan.home m.function) y) < 2 ^ 29 → CodeAt s.code k (leave_code plan.by_a (plan.leaf m.function) (plan.home m.function) y) →
       Comes s (length (leave_code plan.by_a (plan.leaf m.function) (plan.home m.function) y)) p (Lands plan m.function w ws (result_of y m.env))
   return_done {live} {m} y w ws h is wanted reads small at =
       let waits : AreWaiting plan h.contents (plan.spares m.function) (return_address plan m.function h.contents h.agrees.base) h.agrees.base m.frame (w ∷ ws) = (let a = h.agrees.waiting in rw is at a) in
@@ -194,7 +194,7 @@ module _ (s : Setting) (plan : Plan) (variables : ℕ → ℕ) (fine : Fits s pl
   -- ---- the rest of the call's block
 
   -- the caller's frames are back, and what it kept is in its registers
-  back_again : (m : Moment) (w : Waiting) (g base below : ℕ) (c c1 c2 : Contents) → w.function ≡ m.function → w.env ≡ m.env → w.frame ≡ m.frame → IsWithin plan m → ((u : ℕ) → w.live u ≡ true → u < variables m.function) →
+  back_again : (m : Moment) (w : CallFrame) (g base below : ℕ) (c c1 c2 : Contents) → w.function ≡ m.function → w.env ≡ m.env → w.frame ≡ m.frame → IsWithin plan m → ((u : ℕ) → w.live u ≡ true → u < variables m.function) →
       c.register 0 ≡ 0 → ((i : ℕ) → c.word i < 2 ^ 32) → AreIn (kept (plan.spares g) c below) (plan.home w.function) w.live w.env → plan.leaf m.function ≡ false → AreWaiting plan c none_spared (c.word below) below w.frame m.waiting → below + (plan.limit + 1 - (length m.waiting + 1)) * plan.largest ≤ plan.private →
       (plan.by_a ≡ true → c.register 10 ≡ depth_of m) → (plan.by_a ≡ true → c.register 4 ≡ plan.memory - 16) → AreResident plan c → Moved below m.frame c c1 → Restored (registers_in (plan.home m.function) (variables m.function) (unspared plan m.function g w.live)) below c1 c2 → Ready plan w.live m c2
   back_again m w g base below c c1 c2 is_function is_env is_frame within scope none small variables' calls waiting room ten addresses residents moved restored =
@@ -207,7 +207,7 @@ module _ (s : Setting) (plan : Plan) (variables : ℕ → ℕ) (fine : Fits s pl
           base = below;
           variables = λ u e. one u e (plan.home m.function u) refl;
           pointer = restored.others 2 (among_not (plan.home m.function) (variables m.function) 2 (unspared plan m.function g w.live) refl)
-              ∙ (moved.two ∙ sym (ap (λ (bare : Bool). 4 * (if bare then below - words_below plan m.waiting else below)) (calls_framed s plan variables fine m.function calls)));
+              ∙ (moved.two ∙ sym (ap (λ (frameless : Bool). 4 * (if frameless then below - words_below plan m.waiting else below)) (calls_framed s plan variables fine m.function calls)));
           frame = restored.others 3 (among_not (plan.home m.function) (variables m.function) 3 (unspared plan m.function g w.live) refl) ∙ moved.three;
           depth = λ e. restored.others 10 (among_not (plan.home m.function) (variables m.function) 10 (unspared plan m.function g w.live) refl) ∙ (moved.others 10 (omega arith) (omega arith) (omega arith) ∙ (ten e ∙ sym counted));
           addresses = λ e. restored.others 4 (among_not (plan.home m.function) (variables m.function) 4 (unspared plan m.function g w.live) refl) ∙ (moved.others 4 (omega arith) (omega arith) (omega arith) ∙ addresses e);
@@ -274,7 +274,7 @@ module _ (s : Setting) (plan : Plan) (variables : ℕ → ℕ) (fine : Fits s pl
       let to : ℕ → Env → Processor → Type 0 = To s plan variables fine kept_set behind m in
       let rs : List ℕ = registers_in (plan.home m.function) (variables m.function) (unspared plan m.function g kept_set) in
       let long = fine.words m.function in let deep = within.depth in let lim = fine.limit in let most = fine.common in let wide = fine.private in let large = fine.largest m.function in
-      let two : c.register 2 ≡ 4 * (if plan.bare g then below else below + plan.words m.function) = l.pointer ∙ ap (λ n. 4 * n) (returned (plan.bare g) l.base below (plan.words m.function) waits.1) in
+      let two : c.register 2 ≡ 4 * (if plan.frameless g then below else below + plan.words m.function) = l.pointer ∙ ap (λ n. 4 * n) (returned (plan.frameless g) l.base below (plan.words m.function) waits.1) in
       let three : c.register 3 ≡ m.frame + plan.frame m.function = l.begins ∙ waits.2 in
       let room = waits.4 in let low = l.low in let begins = waits.2 in
       let once = times_least (plan.limit + 1 - (length m.waiting + 1)) plan.largest (omega arith) in
@@ -285,8 +285,8 @@ module _ (s : Setting) (plan : Plan) (variables : ℕ → ℕ) (fine : Fits s pl
       finish m behind v result own answered h2 apart (λ x e. restored.others 6 (among_not (plan.home m.function) (variables m.function) 6 (unspared plan m.function g kept_set) refl) ∙ (moved.others 6 (omega arith) (omega arith) (omega arith) ∙ l.given x e)))) in
       run.from back small at p l.shows
     where
-      -- a bare function has left x2 where it was
-      returned : (bare : Bool) (base below words : ℕ) → base ≡ below + words → (if bare then base - words else base) ≡ (if bare then below else below + words)
+      -- a frameless function has left x2 where it was
+      returned : (frameless : Bool) (base below words : ℕ) → base ≡ below + words → (if frameless then base - words else base) ≡ (if frameless then below else below + words)
       returned true base below words e = omega arith
       returned false base below words e = e
 

@@ -377,17 +377,17 @@ less_short r n =
 
 deeper_short : (plan : Plan) (f g : ℕ) → length (deeper_code plan f g) ≤ 6
 deeper_short plan f g =
-    let own : List Inst = if plan.bare g then [] else more_code 2 (4 * plan.words f) in
+    let own : List Inst = if plan.frameless g then [] else more_code 2 (4 * plan.words f) in
     let l1 = more_short 3 (plan.frame f % 2 ^ 32) in
-    let l2 = either_short (plan.bare g) [] (more_code 2 (4 * plan.words f)) 3 (omega arith) (more_short 2 (4 * plan.words f)) in
+    let l2 = either_short (plan.frameless g) [] (more_code 2 (4 * plan.words f)) 3 (omega arith) (more_short 2 (4 * plan.words f)) in
     let both = length-append (more_code 3 (plan.frame f % 2 ^ 32)) own in
     omega arith
 
 returning_short : (plan : Plan) (f g : ℕ) → length (back_code plan f g) ≤ 6
 returning_short plan f g =
-    let own : List Inst = if plan.bare g then [] else less_code 2 (4 * plan.words f) in
+    let own : List Inst = if plan.frameless g then [] else less_code 2 (4 * plan.words f) in
     let l1 = less_short 3 (plan.frame f % 2 ^ 32) in
-    let l2 = either_short (plan.bare g) [] (less_code 2 (4 * plan.words f)) 3 (omega arith) (less_short 2 (4 * plan.words f)) in
+    let l2 = either_short (plan.frameless g) [] (less_code 2 (4 * plan.words f)) 3 (omega arith) (less_short 2 (4 * plan.words f)) in
     let both = length-append (less_code 3 (plan.frame f % 2 ^ 32)) own in
     omega arith
 

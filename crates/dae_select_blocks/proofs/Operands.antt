@@ -14,7 +14,7 @@ use Rattle.dae_ir.specs.declared.form.Operand.{Operand}
 use Rattle.dae_ir.specs.declared.form.Operand.TheVariants.{Variable, Number}
 use Rattle.dae_select_walks.specs.declared.Home.{Home}
 use Rattle.dae_select_walks.specs.declared.Home.TheVariants.{Register, Slot}
-use Rattle.dae_select_walks.specs.Walks.{Setting}
+use Rattle.dae_select_walks.specs.Walks.{WalkSetting}
 use Rattle.dae_select_walks.specs.Live.{in_operand}
 use Rattle.dae_select_walks.specs.Homes.{Contents, held, IsHome, is_home_register, slot_at, number_key, resident_home, resident_register}
 use Rattle.dae_select_walks.specs.Agrees.{Plan, Moment}
@@ -59,7 +59,7 @@ pub home_plain : (n r : ℕ) (home : Home) → IsHome n home → r < 28 → regi
 home_plain n r (Register h) is l = (home_register h is).1
 home_plain n r (Slot i) is l = l
 
-module _ (s : Setting) (plan : Plan) (variables : ℕ → ℕ) (fine : Fits s plan variables) (to : ℕ → Env → Processor → Type 0) where
+module _ (s : WalkSetting) (plan : Plan) (variables : ℕ → ℕ) (fine : Fits s plan variables) (to : ℕ → Env → Processor → Type 0) where
   -- an operand of the moment, into its home or into a scratch register
   pub runs_fetch : {live : VariableSet} {m : Moment} {c : Contents} {d : Deed} (r : ℕ) (x : Operand) (is : List Inst) → IsWork r → Ready plan live m c → ((u : ℕ) → in_operand x u ≡ true → live u ≡ true) → IsNumber x →
       ((c' : Contents) → Like r c c' → c'.register (source (plan.home m.function) r x) ≡ value x m.env → Runs s plan.private to is c' d) → Runs s plan.private to (fetch (plan.home m.function) r x ++ is) c d
@@ -165,7 +165,7 @@ module _ (s : Setting) (plan : Plan) (variables : ℕ → ℕ) (fine : Fits s pl
       one (Slot j) is other = word_other (base + slot_at j) (λ same. (let e : j ≡ i = omega arith in other (ap Slot e)))
 
   -- a result in its register, or in x5, goes home
-  pub runs_keep : {live : VariableSet} {m : Moment} {c : Contents} {d : Deed} (home : Home) (x : ℕ) (is : List Inst) (h : Ready plan live m c) → IsHome (variables m.function) home → ((i : ℕ) → home ≡ Slot i → plan.bare m.function ≡ false) → x < 2 ^ 32 →
+  pub runs_keep : {live : VariableSet} {m : Moment} {c : Contents} {d : Deed} (home : Home) (x : ℕ) (is : List Inst) (h : Ready plan live m c) → IsHome (variables m.function) home → ((i : ℕ) → home ≡ Slot i → plan.frameless m.function ≡ false) → x < 2 ^ 32 →
       ((c' : Contents) → Gets s plan variables fine (variables m.function) h.agrees.base home x c c' → Runs s plan.private to is c' d) → Runs s plan.private to (keep home ++ is) (put (register_or 5 home) x c) d
   runs_keep {m = m} {c = c} (Register r) x is h good framed fits run = run (put r x c) (gets_register (variables m.function) h.agrees.base r x c good fits h.fits h.small)
   runs_keep {m = m} {c = c} (Slot i) x is h good framed fits run =

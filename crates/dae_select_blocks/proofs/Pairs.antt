@@ -10,7 +10,7 @@ use Rattle.dae_base.specs.declared.Width.{Width}
 use Rattle.dae_base.specs.declared.LoadKind.{LoadKind}
 use Rattle.dae_base.proofs.Laws.{and_not, or_true}
 use Rattle.dae_encode.specs.declared.QueueUse.TheVariants.{Take as Takes}
-use Rattle.dae_encode.specs.declared.Form.TheVariants.{Computes}
+use Rattle.dae_encode.specs.declared.InstructionForm.TheVariants.{Computes}
 use Rattle.dae_encode.specs.Uses.{queue_use}
 use Rattle.dae_encode.specs.declared.Inst.{Inst}
 use Rattle.dae_encode.specs.Processor.{Processor}
@@ -28,16 +28,16 @@ use Rattle.dae_ir.specs.declared.stream.Action.TheVariants.{Set as Compute, Issu
 use Rattle.dae_meaning.specs.Worlds.{World}
 use Rattle.dae_meaning.specs.Variables.{Env, put}
 use Rattle.dae_meaning.specs.declared.Operator.TheVariants.{Add as Plus}
-use Rattle.dae_select_walks.specs.Walks.{Setting, Comes}
+use Rattle.dae_select_walks.specs.Walks.{WalkSetting, Comes}
 use Rattle.dae_select_walks.specs.Does.{Does}
-use Rattle.dae_select_walks.specs.Live.{Ways, with_all, in_value, sets, before, live}
+use Rattle.dae_select_walks.specs.Live.{LiveWays, with_all, in_value, sets, before, live}
 use Rattle.dae_select_walks.specs.declared.Home.{Home}
 use Rattle.dae_select_walks.specs.Homes.{Contents}
 use Rattle.dae_select_walks.specs.Layout.{CodeAt}
 use Rattle.dae_select_walks.specs.Facts.{Facts, Hold}
 use Rattle.dae_select_walks.specs.Agrees.{Plan, Moment, Stands}
-use Rattle.dae_select_walks.specs.declared.Standing.{Standing}
-use Rattle.dae_select_walks.specs.declared.Standing.TheVariants.{Settled, Early, Late}
+use Rattle.dae_select_walks.specs.declared.VariableStanding.{VariableStanding}
+use Rattle.dae_select_walks.specs.declared.VariableStanding.TheVariants.{Settled, Early, Late}
 use Rattle.dae_select_walks.specs.Compiled.{Exit, Exits, exit, with_env, IsWorldOf, At, ActionDone}
 use Rattle.dae_select_walks.proofs.LawsOfWalks.{comes_here, comes_map, does_map}
 use Rattle.dae_select_blocks.specs.Blocks.{is_immediate, take_code, value_code}
@@ -106,7 +106,7 @@ offset_sum P _ e h = absurd cc
 
 -- what holds of an action and the rest of its list where they are settled, and where the next action is in a pair with it,
 -- holds however things stand between them
-module _ (P : Action → Actions → Standing → Type 0) (x : Ways)
+module _ (P : Action → Actions → VariableStanding → Type 0) (x : LiveWays)
     (settled : (a : Action) (k : Actions) → P a k Settled)
     (late : (t : ℕ) (y : Value) (m : Mark) (b : Action) (k : Actions) → standing_behind b k x ≡ Settled → passes_on t y b ≡ true → live k x t ≡ false → P (Compute t y) (Do m b k) (Late t y))
     (loaded : (v : ℕ) (m : Mark) (d : ℕ) (y : Value) (k : Actions) → standing_behind (Compute d y) k x ≡ Settled → reads_once v y ≡ true → (nat_eq v d || not (live k x v)) ≡ true → P (Receive v) (Do m (Compute d y) k) (Early d y))
@@ -157,7 +157,7 @@ module _ (P : Action → Actions → Standing → Type 0) (x : Ways)
   in_pair (Call v f xs) m b k e = settled (Call v f xs) (Do m b k)
   in_pair (Return y) m b k e = settled (Return y) (Do m b k)
 
-  in_turn : (a : Action) (m : Mark) (b : Action) (k : Actions) (standing : Standing) → standing_behind b k x ≡ standing → P a (Do m b k) (if_settled standing (pair_standing a b (live k x)))
+  in_turn : (a : Action) (m : Mark) (b : Action) (k : Actions) (standing : VariableStanding) → standing_behind b k x ≡ standing → P a (Do m b k) (if_settled standing (pair_standing a b (live k x)))
   in_turn a m b k Settled e = in_pair a m b k e
   in_turn a m b k (Early v y) e = settled a (Do m b k)
   in_turn a m b k (Late v y) e = settled a (Do m b k)
@@ -171,28 +171,28 @@ module _ (P : Action → Actions → Standing → Type 0) (x : Ways)
 -- ---- what is live between the two
 
 -- what is live of what the processor holds, before a list
-abbrev pub live_held : Standing → Actions → Ways → VariableSet
+abbrev pub live_held : VariableStanding → Actions → LiveWays → VariableSet
 live_held (Early v y) (Do m a k) x = live k x
 live_held (Late t y) code x = before (Compute t y) (live code x) x
 live_held standing code x = live code x
 
 -- where a list is entered
-abbrev pub entered_at : Standing → Actions → Ways → ℕ → Exit
+abbrev pub entered_at : VariableStanding → Actions → LiveWays → ℕ → Exit
 entered_at standing code x here = record { word = here; live = live_held standing code x; standing = standing }
 
 -- so a list is entered only where it begins with the second action of a pair
-abbrev pub Suits : Standing → Actions → Ways → Type 0
+abbrev pub Suits : VariableStanding → Actions → LiveWays → Type 0
 Suits Settled code x = Unit {0}
 Suits (Late t y) (Do m a k) x = (passes_on t y a ≡ true) × (standing_behind a k x ≡ Settled) × (live k x t ≡ false)
 Suits (Early v y) (Do m a k) x = (a ≡ Compute v y) × (standing_behind a k x ≡ Settled)
 Suits standing code x = ⊥
 
 -- and behind each action they are so
-pub suits_behind : (a : Action) (k : Actions) (x : Ways) → Suits (standing_behind a k x) k x
-suits_behind a k x = by_pairs (λ (a : Action) (k : Actions) (standing : Standing). Suits standing k x) x (λ a k. tt) (λ t y m b k e passes dead. (passes, e, dead)) (λ v m d y k e once dead. (refl, e)) (λ v m d y k e once dead. (refl, e)) a k
+pub suits_behind : (a : Action) (k : Actions) (x : LiveWays) → Suits (standing_behind a k x) k x
+suits_behind a k x = by_pairs (λ (a : Action) (k : Actions) (standing : VariableStanding). Suits standing k x) x (λ a k. tt) (λ t y m b k e passes dead. (passes, e, dead)) (λ v m d y k e once dead. (refl, e)) (λ v m d y k e once dead. (refl, e)) a k
 
 -- numbers in a value that is still to be computed are words
-abbrev pub AreLateNumbers : Standing → Type 0
+abbrev pub AreLateNumbers : VariableStanding → Type 0
 AreLateNumbers Settled = Unit {0}
 AreLateNumbers (Early v y) = Unit {0}
 AreLateNumbers (Late t y) = AreNumbers y
@@ -216,7 +216,7 @@ unset t v u env live' dead l = by (nat_eq u t) refl
     by false e = refl
 
 -- what is live before a variable is computed for nothing
-pub dead_held : (v : ℕ) (y : Value) (live' : VariableSet) (w : Ways) (u : ℕ) → live' v ≡ false → live' u ≡ true → before (Compute v y) live' w u ≡ true
+pub dead_held : (v : ℕ) (y : Value) (live' : VariableSet) (w : LiveWays) (u : ℕ) → live' v ≡ false → live' u ≡ true → before (Compute v y) live' w u ≡ true
 dead_held v y live' w u dead l = by (nat_eq u v) refl
   where
     by : (c : Bool) → nat_eq u v ≡ c → (in_value y u || (live' u && not c)) ≡ true
@@ -224,7 +224,7 @@ dead_held v y live' w u dead l = by (nat_eq u v) refl
     by false e = rw l (or_true (in_value y u))
 
 -- what is live round the block that does both
-late_around : (home : ℕ → Home) (variables t d : ℕ) (y : Value) (live' : VariableSet) (x : Ways) → live' t ≡ false → IsRight home variables (with_all (before (Compute d (Same (Variable t))) live' x) (sets (Compute d (Same (Variable t))))) →
+late_around : (home : ℕ → Home) (variables t d : ℕ) (y : Value) (live' : VariableSet) (x : LiveWays) → live' t ≡ false → IsRight home variables (with_all (before (Compute d (Same (Variable t))) live' x) (sets (Compute d (Same (Variable t))))) →
     Around home variables (Compute d y) (before (Compute t y) (before (Compute d (Same (Variable t))) live' x) x) live'
 late_around home variables t d y live' x dead right =
     let r = around home variables (Compute d (Same (Variable t))) live' x (λ u. refl) right in
@@ -239,7 +239,7 @@ late_around home variables t d y live' x dead right =
     other u l true e = let same : u ≡ t = grind (arith, nat_tests) in absurd (let bad : live' t ≡ true = subst (λ (n : ℕ). live' n ≡ true) same l in cc)
     other u l false e = refl
 
-sent_held : (y : Value) (t : ℕ) (live' : VariableSet) (w : Ways) (u : ℕ) → live' t ≡ false → live' u ≡ true → before (Compute t y) (before (Datum (Variable t)) live' w) w u ≡ true
+sent_held : (y : Value) (t : ℕ) (live' : VariableSet) (w : LiveWays) (u : ℕ) → live' t ≡ false → live' u ≡ true → before (Compute t y) (before (Datum (Variable t)) live' w) w u ≡ true
 sent_held y t live' w u dead l = by (nat_eq u t) refl
   where
     last : (b : Bool) → (b || ((false || (true && true)) && true)) ≡ true
@@ -251,7 +251,7 @@ sent_held y t live' w u dead l = by (nat_eq u t) refl
     by false e = rw l (last (in_value y u))
 
 -- what is live behind a load that goes to d
-own_held : (y : Value) (kind : LoadKind) (t d : ℕ) (live' : VariableSet) (w : Ways) (u : ℕ) → live' t ≡ false → live' u ≡ true → nat_eq u d ≡ false → before (Compute t y) (before (Own d kind (Variable t)) live' w) w u ≡ true
+own_held : (y : Value) (kind : LoadKind) (t d : ℕ) (live' : VariableSet) (w : LiveWays) (u : ℕ) → live' t ≡ false → live' u ≡ true → nat_eq u d ≡ false → before (Compute t y) (before (Own d kind (Variable t)) live' w) w u ≡ true
 own_held y kind t d live' w u dead l far = by (nat_eq u t) refl
   where
     last : (b : Bool) → (b || ((false || (true && true)) && true)) ≡ true
@@ -263,7 +263,7 @@ own_held y kind t d live' w u dead l far = by (nat_eq u t) refl
     by false e = rw (l, far) (last (in_value y u))
 
 -- what is live behind a pair that takes a word
-early_apart : (home : ℕ → Home) (variables v d : ℕ) (y : Value) (live' : VariableSet) (w : Ways) (u : ℕ) → (nat_eq v d || not (live' v)) ≡ true → IsRight home variables (with_all (before (Compute d y) live' w) (sets (Compute d y))) → live' u ≡ true → u ≢ d →
+early_apart : (home : ℕ → Home) (variables v d : ℕ) (y : Value) (live' : VariableSet) (w : LiveWays) (u : ℕ) → (nat_eq v d || not (live' v)) ≡ true → IsRight home variables (with_all (before (Compute d y) live' w) (sets (Compute d y))) → live' u ≡ true → u ≢ d →
     (before (Receive v) (before (Compute d y) live' w) w u ≡ true) × (home u ≢ home d)
 early_apart home variables v d y live' w u dead right l ne =
     let r = around home variables (Compute d y) live' w (λ u. refl) right in
@@ -283,7 +283,7 @@ early_apart home variables v d y live' w u dead right l ne =
         absurd (let bad : (false || not true) ≡ true = rw (far, kept) at dead in cc)
     other false e = refl
 
-module _ (s : Setting) (plan : Plan) (variables : ℕ → ℕ) (fine : Fits s plan variables) (program : Program) (is_plan : IsPlanOf program plan) (entries : ℕ → VariableSet) (most widest : ℕ) where
+module _ (s : WalkSetting) (plan : Plan) (variables : ℕ → ℕ) (fine : Fits s plan variables) (program : Program) (is_plan : IsPlanOf program plan) (entries : ℕ → VariableSet) (most widest : ℕ) where
   -- only the variables that are live matter
   stands_like : {live' : VariableSet} {env env' : Env} (m : Moment) {k : ℕ} {p : Processor} → ((u : ℕ) → live' u ≡ true → env u ≡ env' u) → Stands plan live' (with_env env m) k p → Stands plan live' (with_env env' m) k p
   stands_like m same h =
@@ -316,7 +316,7 @@ module _ (s : Setting) (plan : Plan) (variables : ℕ → ℕ) (fine : Fits s pl
       comes_here s (h.0, (m.env, rw world.frame refl, subst (λ (j : ℕ). Stands plan live' m j p) same h.1))
 
   -- and that of the second does both
-  pub late_second : (f t d : ℕ) (y : Value) (live' : VariableSet) (known : Facts) (w : Ways) (x : Exits) (here : ℕ) → live' t ≡ false → AreNumbers y →
+  pub late_second : (f t d : ℕ) (y : Value) (live' : VariableSet) (known : Facts) (w : LiveWays) (x : Exits) (here : ℕ) → live' t ≡ false → AreNumbers y →
       IsRight (plan.home f) (variables f) (with_all (before (Compute d (Same (Variable t))) live' w) (sets (Compute d (Same (Variable t))))) →
       CodeAt s.code here (late_code (plan.home f) (Compute d (Same (Variable t))) y) → here + length (late_code (plan.home f) (Compute d (Same (Variable t))) y) < 2 ^ 29 → length (late_code (plan.home f) (Compute d (Same (Variable t))) y) ≤ most →
       ActionDone s plan program entries most widest f known (Compute d (Same (Variable t))) (record { word = here; live = before (Compute t y) (before (Compute d (Same (Variable t))) live' w) w; standing = Late t y })
@@ -330,7 +330,7 @@ module _ (s : Setting) (plan : Plan) (variables : ℕ → ℕ) (fine : Fits s pl
       comes_map s most (omega arith) (λ q g. (g.0, stands_like m (λ u l. subst (λ (e : Env). put true d (computed y o.frame env) env u ≡ put true d (e t) e u) (sym is) (rw world.frame (late_same t d (computed y m.frame env) u env live' dead l))) g.1)) walk
 
   -- or sends it
-  pub late_sent : (f t : ℕ) (y : Value) (live' : VariableSet) (known : Facts) (w : Ways) (x : Exits) (here : ℕ) → s.side ≡ E → written_last y ≡ true → live' t ≡ false → AreNumbers y →
+  pub late_sent : (f t : ℕ) (y : Value) (live' : VariableSet) (known : Facts) (w : LiveWays) (x : Exits) (here : ℕ) → s.side ≡ E → written_last y ≡ true → live' t ≡ false → AreNumbers y →
       CodeAt s.code here (late_code (plan.home f) (Datum (Variable t)) y) → here + length (late_code (plan.home f) (Datum (Variable t)) y) < 2 ^ 29 → length (late_code (plan.home f) (Datum (Variable t)) y) ≤ most →
       ActionDone s plan program entries most widest f known (Datum (Variable t)) (record { word = here; live = before (Compute t y) (before (Datum (Variable t)) live' w) w; standing = Late t y })
       (exit (here + length (late_code (plan.home f) (Datum (Variable t)) y)) live') x
@@ -352,7 +352,7 @@ module _ (s : Setting) (plan : Plan) (variables : ℕ → ℕ) (fine : Fits s pl
       at small few
 
   -- or accesses memory at a sum, and adds it up itself
-  module _ (by_a : s.side ≡ A) (f t v n : ℕ) (fits : is_immediate n ≡ true) (number : n < 2 ^ 32) (live' : VariableSet) (dead : live' t ≡ false) (known : Facts) (w : Ways) (x : Exits) (here : ℕ) where
+  module _ (by_a : s.side ≡ A) (f t v n : ℕ) (fits : is_immediate n ≡ true) (number : n < 2 ^ 32) (live' : VariableSet) (dead : live' t ≡ false) (known : Facts) (w : LiveWays) (x : Exits) (here : ℕ) where
     abbrev total : Value
     total = Binary Plus (Variable v) (Number n)
 
@@ -438,7 +438,7 @@ module _ (s : Setting) (plan : Plan) (variables : ℕ → ℕ) (fine : Fits s pl
 
   -- the first action takes a word, and its block does both
   module _ (q : ℕ) (queue : Queue) (high : nat_lt q 28 ≡ false) (left : (t r : ℕ) → t < 28 → r < 28 → queue_use s.copies s.side (Computes t q r) ≡ Some (Takes queue)) (right : (t r : ℕ) → t < 28 → r < 28 → queue_use s.copies s.side (Computes t r q) ≡ Some (Takes queue)) where
-    pub early_first : (f v d : ℕ) (y : Value) (live' : VariableSet) (w : Ways) (here : ℕ) → reads_once v y ≡ true → (nat_eq v d || not (live' v)) ≡ true → AreNumbers y → v < variables f → IsRight (plan.home f) (variables f) (with_all (before (Compute d y) live' w) (sets (Compute d y))) →
+    pub early_first : (f v d : ℕ) (y : Value) (live' : VariableSet) (w : LiveWays) (here : ℕ) → reads_once v y ≡ true → (nat_eq v d || not (live' v)) ≡ true → AreNumbers y → v < variables f → IsRight (plan.home f) (variables f) (with_all (before (Compute d y) live' w) (sets (Compute d y))) →
         CodeAt s.code here (early_code (plan.home f) q v d y) → here + length (early_code (plan.home f) q v d y) < 2 ^ 29 → length (early_code (plan.home f) q v d y) ≤ most →
         (m : Moment) (p : Processor) → At s plan program entries most widest f (exit here (before (Receive v) (before (Compute d y) live' w) w)) m p →
         Does s most (Take queue (λ z. Went (put true v z m.env))) (λ env. At s plan program entries most widest f (record { word = here + length (early_code (plan.home f) q v d y); live = live'; standing = Early d y }) (with_env env m)) p

@@ -17,7 +17,7 @@ use Rattle.dae_ir.specs.declared.form.Operand.TheVariants.{Variable, Number}
 use Rattle.dae_ir.specs.declared.stream.Argument.{Argument}
 use Rattle.dae_select_walks.specs.declared.Home.{Home}
 use Rattle.dae_select_walks.specs.declared.Home.TheVariants.{Register, Slot}
-use Rattle.dae_select_walks.specs.Walks.{Setting}
+use Rattle.dae_select_walks.specs.Walks.{WalkSetting}
 use Rattle.dae_select_walks.specs.Live.{in_operand, in_arguments}
 use Rattle.dae_select_walks.specs.Homes.{Contents, held, is_home_register, kept_at, slot_at, number_key, resident_home, resident_register}
 use Rattle.dae_select_walks.specs.Agrees.{Plan, Moment}
@@ -68,7 +68,7 @@ other_register given t x xs (Register r) b is e = turned (nat_eq r t) refl (not_
     turned true same other = absurd (let told : is_register r (given x.parameter) ≡ nat_eq r t = ap (is_register r) is in let both : true ≡ false = sym same ∙ (sym told ∙ other) in cc)
 other_register given t x xs (Slot i) b is e = refl
 
-module _ (s : Setting) (plan : Plan) (variables : ℕ → ℕ) (fine : Fits s plan variables) (to : ℕ → Env → Processor → Type 0) where
+module _ (s : WalkSetting) (plan : Plan) (variables : ℕ → ℕ) (fine : Fits s plan variables) (to : ℕ → Env → Processor → Type 0) where
   -- an operand in a register that variables may have
   register_holds : {live : VariableSet} {m : Moment} {c : Contents} (x : Operand) → Ready plan live m c → ((u : ℕ) → in_operand x u ≡ true → live u ≡ true) → is_home_register (source (plan.home m.function) 5 x) ≡ true → c.register (source (plan.home m.function) 5 x) ≡ value x m.env
   register_holds {m = m} {c = c} (Variable v) h reads good = by (plan.home m.function v) refl good

@@ -9,7 +9,7 @@ use Rattle.dae_base.specs.declared.LoadKind.TheVariants.{I32}
 use Rattle.dae_base.specs.declared.Width.TheVariants.{B4}
 use Rattle.dae_encode.specs.declared.QueueUse.TheVariants.{Nothing, Take, Push}
 use Rattle.dae_encode.specs.declared.Inst.{Inst}
-use Rattle.dae_encode.specs.declared.Form.TheVariants.{Computes, Loads, Stores}
+use Rattle.dae_encode.specs.declared.InstructionForm.TheVariants.{Computes, Loads, Stores}
 use Rattle.dae_encode.specs.declared.Inst.TheVariants.{Lw, Sw, Addi, Beq}
 use Rattle.std.proofs.Math.Path.{fun_ext}
 use Rattle.dae_encode.specs.Instructions.{effect, on_two, branch}
@@ -17,7 +17,7 @@ use Rattle.dae_encode.specs.Uses.{queue_use}
 use Rattle.dae_encode.specs.Processor.{Processor}
 use Rattle.dae_meaning.specs.Variables.{Env}
 use Rattle.dae_base.specs.declared.Queue.{Queue}
-use Rattle.dae_select_walks.specs.Walks.{Setting, Acts}
+use Rattle.dae_select_walks.specs.Walks.{WalkSetting, Acts}
 use Rattle.dae_select_walks.specs.Does.{event}
 use Rattle.dae_select_walks.specs.Agrees.{Shows}
 use Rattle.dae_select_walks.specs.Homes.{Contents}
@@ -44,7 +44,7 @@ plain_stores copies E base source offset a b = grind (arith, nat_tests)
 pub plain_read : (c : Contents) (w r : ℕ) → r < 28 → read c w r ≡ c.register r
 plain_read c w r h = let e : nat_lt r 28 ≡ true = grind (arith, nat_tests) in rw e refl
 
-module _ (s : Setting) (private : ℕ) (to : ℕ → Env → Processor → Type 0) where
+module _ (s : WalkSetting) (private : ℕ) (to : ℕ → Env → Processor → Type 0) where
   -- an instruction on two plain registers
   pub computes : {c : Contents} (i : Inst) (rd x y : ℕ) (f : ℕ → ℕ → ℕ) → effect i ≡ on_two rd x y f → rd < 28 → x < 28 → y < 28 → f (c.register x) (c.register y) < 2 ^ 32 → Quiet s private to i c (put rd (f (c.register x) (c.register y)) c)
   computes {c} i rd x y f does a b d fits = λ k w small here is p h.
@@ -95,7 +95,7 @@ put_nowhere r v c e = rw e (ap (λ (f : ℕ → ℕ). record c { register = f })
     by j true = refl
     by j false = refl
 
-module _ (s : Setting) (private : ℕ) (to : ℕ → Env → Processor → Type 0) where
+module _ (s : WalkSetting) (private : ℕ) (to : ℕ → Env → Processor → Type 0) where
   -- a branch that is taken, over n words behind it, and one that is not
   pub branch_taken : {c : Contents} (i : Inst) (x y : ℕ) (imm : ℤ) (test : ℕ → ℕ → Bool) (n : ℕ) → effect i ≡ branch x y imm test → x < 28 → y < 28 → test (c.register x) (c.register y) ≡ true → word imm ≡ 4 * (n + 1) → n < 1000 →
       Here s private to i c (λ k p. (v : ℕ) × Acts s p (event Nothing v 0 []) (Shows private c (k + 1 + n)))
@@ -158,7 +158,7 @@ pub record Computed (i : Inst) (t v : ℕ) (c : Contents) : Type 0 where
   pub low' : second < 28
   pub same : function (c.register first) (c.register second) ≡ v
 
-module _ (s : Setting) (private : ℕ) (to : ℕ → Env → Processor → Type 0) where
+module _ (s : WalkSetting) (private : ℕ) (to : ℕ → Env → Processor → Type 0) where
   pub computes_word : {c : Contents} (i : Inst) (t v : ℕ) → Computed i t v c → t < 28 → v < 2 ^ 32 → Quiet s private to i c (put t v c)
   computes_word {c} i t v w high fits =
       subst (λ (n : ℕ). Quiet s private to i c (put t n c)) w.same (computes s private to {c = c} i t w.first w.second w.function w.does high w.low w.low' (rw (w.same) fits))

@@ -8,7 +8,7 @@ use Rattle.dae_base.specs.declared.Width.{Width}
 use Rattle.dae_base.specs.declared.LoadKind.{LoadKind}
 use Rattle.dae_encode.specs.declared.Inst.{Inst}
 use Rattle.dae_encode.specs.declared.QueueUse.TheVariants.{Load, StoreAddress}
-use Rattle.dae_encode.specs.declared.Form.TheVariants.{Loads, Stores}
+use Rattle.dae_encode.specs.declared.InstructionForm.TheVariants.{Loads, Stores}
 use Rattle.dae_encode.specs.Uses.{queue_use}
 use Rattle.dae_encode.specs.Processor.{Processor}
 use Rattle.dae_ir.specs.Classes.{VariableSet}
@@ -18,7 +18,7 @@ use Rattle.dae_ir.specs.declared.form.Value.TheVariants.{Binary}
 use Rattle.dae_meaning.specs.Operations.{combined}
 use Rattle.dae_meaning.specs.Variables.{Env}
 use Rattle.dae_meaning.specs.declared.Operator.TheVariants.{Add as Plus}
-use Rattle.dae_select_walks.specs.Walks.{Setting}
+use Rattle.dae_select_walks.specs.Walks.{WalkSetting}
 use Rattle.dae_select_walks.specs.Homes.{Contents}
 use Rattle.dae_select_walks.specs.Agrees.{Plan, Moment}
 use Rattle.dae_select_walks.proofs.LawsOfWalks.{step_shared, step_address}
@@ -30,7 +30,7 @@ use Rattle.dae_select_blocks.proofs.Agreement.{Ready}
 use Rattle.dae_select_blocks.proofs.Computing.{source_plain, runs_one}
 use Rattle.dae_select_blocks.proofs.Actions.{issue_is, address_is}
 
-module _ (s : Setting) (plan : Plan) (variables : ℕ → ℕ) (fine : Fits s plan variables) (to : ℕ → Env → Processor → Type 0) where
+module _ (s : WalkSetting) (plan : Plan) (variables : ℕ → ℕ) (fine : Fits s plan variables) (to : ℕ → Env → Processor → Type 0) where
   -- the register of the access and its offset add up to the sum
   runs_reach : {live : VariableSet} {m : Moment} {c : Contents} {d : Deed} (v n : ℕ) (access : ℕ → ℤ → Inst) (rest : List Inst) → Ready plan live m c → live v ≡ true → is_immediate n ≡ true → n < 2 ^ 32 →
       ((c' : Contents) (r : ℕ) → Ready plan live m c' → r < 28 → plus (c'.register r) (word (lower n)) ≡ combined Plus (m.env v) n → Runs s plan.private to (access r (lower n) ∷ rest) c' d) →

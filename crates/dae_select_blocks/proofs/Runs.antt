@@ -12,7 +12,7 @@ use Rattle.dae_base.specs.declared.LoadKind.{LoadKind}
 use Rattle.dae_base.specs.declared.Queue.{Queue}
 use Rattle.dae_meaning.specs.Variables.{Env}
 use Rattle.dae_ir.specs.Deeds.{Quit, Deed, Went, Take, Push, Reserve, Send, Say, Halts}
-use Rattle.dae_select_walks.specs.Walks.{Setting, Event, Acts}
+use Rattle.dae_select_walks.specs.Walks.{WalkSetting, QueueEvent, Acts}
 use Rattle.dae_select_walks.specs.Does.{Does, event, halt_of}
 use Rattle.dae_select_walks.specs.Homes.{Contents}
 use Rattle.dae_select_walks.specs.Agrees.{Shows}
@@ -28,7 +28,7 @@ pub code_take : (code : List ℕ) (k : ℕ) (is js : List Inst) → CodeAt code 
 code_take code k [] js h = tt
 code_take code k (i ∷ is) js h = (h.0, h.1, h.2, code_take code (k + 1) is js h.3)
 
-module _ (s : Setting) (private : ℕ) (to : ℕ → Env → Processor → Type 0) where
+module _ (s : WalkSetting) (private : ℕ) (to : ℕ → Env → Processor → Type 0) where
   -- to says what it must be at a word of the code
   pub record Runs (is : List Inst) (c : Contents) (d : Deed) : Type 0 where
     pub from : (k : ℕ) → k + length is < 2 ^ 29 → CodeAt s.code k is → (p : Processor) → Shows private c k p → Does s (length is) d (to (k + length is)) p
@@ -54,7 +54,7 @@ module _ (s : Setting) (private : ℕ) (to : ℕ → Env → Processor → Type 
       does_map s (to (k + 1 + length is)) (to (k + length (i ∷ is))) n (length (i ∷ is)) l (λ env q t. subst (λ (j : ℕ). to j env q) same t) d p h
 
   -- what acts here, and what then runs
-  next_runs : {i : Inst} {is : List Inst} {c : Contents} {d : Deed} {e : Event} (k : ℕ) {p : Processor} → Runs is c d → k + length (i ∷ is) < 2 ^ 29 → CodeAt s.code k (i ∷ is) → Acts s p e (Shows private c (k + 1)) → Acts s p e (Does s (length is) d (to (k + length (i ∷ is))))
+  next_runs : {i : Inst} {is : List Inst} {c : Contents} {d : Deed} {e : QueueEvent} (k : ℕ) {p : Processor} → Runs is c d → k + length (i ∷ is) < 2 ^ 29 → CodeAt s.code k (i ∷ is) → Acts s p e (Shows private c (k + 1)) → Acts s p e (Does s (length is) d (to (k + length (i ∷ is))))
   next_runs {i} {is} {d = d} k r small at a =
       let n : ℕ = length is in
       let same : k + 1 + length is ≡ k + length (i ∷ is) = omega arith in

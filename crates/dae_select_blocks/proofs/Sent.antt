@@ -5,7 +5,7 @@ use Rattle.dae_base.specs.Words.{plus, word}
 use Rattle.dae_base.specs.declared.Queue.{Queue}
 use Rattle.dae_base.proofs.Laws.{plus_small, or_true}
 use Rattle.dae_encode.specs.declared.QueueUse.TheVariants.{Push as Pushes}
-use Rattle.dae_encode.specs.declared.Form.TheVariants.{Computes}
+use Rattle.dae_encode.specs.declared.InstructionForm.TheVariants.{Computes}
 use Rattle.dae_encode.specs.declared.Inst.{Inst}
 use Rattle.dae_encode.specs.declared.Inst.TheVariants.{Addi, Add}
 use Rattle.dae_encode.specs.Instructions.{effect, on_two}
@@ -21,7 +21,7 @@ use Rattle.dae_ir.specs.declared.form.Value.TheVariants.{Same, Extended, Binary,
 use Rattle.dae_meaning.specs.Operations.{combined}
 use Rattle.dae_meaning.specs.Variables.{Env}
 use Rattle.dae_meaning.specs.declared.Operator.{Operator}
-use Rattle.dae_select_walks.specs.Walks.{Setting}
+use Rattle.dae_select_walks.specs.Walks.{WalkSetting}
 use Rattle.dae_select_walks.specs.Live.{in_operand, in_value}
 use Rattle.dae_select_walks.specs.Homes.{Contents}
 use Rattle.dae_select_walks.specs.Agrees.{Plan, Moment}
@@ -39,7 +39,7 @@ use Rattle.dae_select_blocks.proofs.Operands.{like_put, runs_move}
 use Rattle.dae_select_blocks.proofs.Values.{operation_is, operation_fits, DoesWith, immediate_does, exchanged_does}
 use Rattle.dae_select_blocks.proofs.Computing.{is_scratch, source_plain, runs_one, runs_two}
 
-module _ (s : Setting) (plan : Plan) (variables : ℕ → ℕ) (fine : Fits s plan variables) (to : ℕ → Env → Processor → Type 0) (q : ℕ) (queue : Queue) (high : (nat_lt 0 q && nat_lt q 28) ≡ false)
+module _ (s : WalkSetting) (plan : Plan) (variables : ℕ → ℕ) (fine : Fits s plan variables) (to : ℕ → Env → Processor → Type 0) (q : ℕ) (queue : Queue) (high : (nat_lt 0 q && nat_lt q 28) ≡ false)
     (legal : (x y : ℕ) → x < 28 → y < 28 → queue_use s.copies s.side (Computes q x y) ≡ Some (Pushes queue)) where
   -- behind the last instruction nothing in the processor has changed but scratch registers
   abbrev SentOff : VariableSet → Moment → Deed → Type 0

@@ -22,9 +22,9 @@ use Rattle.dae_ir.specs.declared.form.Value.TheVariants.{Same}
 use Rattle.dae_ir.specs.declared.form.Check.TheVariants.{Place, InBounds, Zero, Room, Frame, Abort}
 use Rattle.dae_ir.specs.declared.stream.Action.{Action}
 use Rattle.dae_ir.specs.declared.stream.Action.TheVariants.{Set as Compute, Issue, Own, Receive, Address, Datum, Offer, Accept, Emit, Probe, Tell, Hear, Stop, Break, Continue, Call, Return}
-use Rattle.dae_select_walks.specs.Walks.{Setting, Comes}
+use Rattle.dae_select_walks.specs.Walks.{WalkSetting, Comes}
 use Rattle.dae_select_walks.specs.Does.{Does}
-use Rattle.dae_select_walks.specs.Live.{Ways, with_all, reads, sets, in_option, after, before}
+use Rattle.dae_select_walks.specs.Live.{LiveWays, with_all, reads, sets, in_option, after, before}
 use Rattle.dae_select_walks.specs.Layout.{CodeAt}
 use Rattle.dae_select_walks.specs.declared.Home.{Home}
 use Rattle.dae_select_walks.specs.Homes.{Contents}
@@ -59,7 +59,7 @@ pub record Around (home : ℕ → Home) (variables : ℕ) (a : Action) (live liv
   pub scope : (v : ℕ) → sets a v ≡ true → v < variables
 
 -- what is live round an action of a list
-pub around : (home : ℕ → Home) (variables : ℕ) (a : Action) (k : VariableSet) (x : Ways) → ((u : ℕ) → after a k x u ≡ k u) → IsRight home variables (with_all (before a k x) (sets a)) → Around home variables a (before a k x) k
+pub around : (home : ℕ → Home) (variables : ℕ) (a : Action) (k : VariableSet) (x : LiveWays) → ((u : ℕ) → after a k x u ≡ k u) → IsRight home variables (with_all (before a k x) (sets a)) → Around home variables a (before a k x) k
 around home variables a k x goes_on right = record {
   reads = λ u e. rw e refl;
   stays = λ u l e. (let same = goes_on u in rw (same, l, e) (either (reads a u)));
@@ -76,7 +76,7 @@ around home variables a k x goes_on right = record {
     kept false true = refl
     kept false false = refl
 
-module _ (s : Setting) (plan : Plan) (variables : ℕ → ℕ) (fine : Fits s plan variables) (program : Program) (is_plan : IsPlanOf program plan) (entries : ℕ → VariableSet) where
+module _ (s : WalkSetting) (plan : Plan) (variables : ℕ → ℕ) (fine : Fits s plan variables) (program : Program) (is_plan : IsPlanOf program plan) (entries : ℕ → VariableSet) where
   pub a_side : plan.by_a ≡ true → s.side ≡ A
   a_side e = fine.side ∙ ap side e
 
@@ -133,7 +133,7 @@ module _ (s : Setting) (plan : Plan) (variables : ℕ → ℕ) (fine : Fits s pl
     placed_runs width x wanted round four h =
         rw world.memory (flagged (misplaced width (value x m.env) plan.memory) true wanted.0 (bounds_done s plan variables fine live live' m wanted.0 width x four h round.reads wanted.1 (λ u l. round.stays u l refl)))
 
-module _ (s : Setting) (plan : Plan) (variables : ℕ → ℕ) (fine : Fits s plan variables) (program : Program) (is_plan : IsPlanOf program plan) (entries : ℕ → VariableSet) (most widest : ℕ) where
+module _ (s : WalkSetting) (plan : Plan) (variables : ℕ → ℕ) (fine : Fits s plan variables) (program : Program) (is_plan : IsPlanOf program plan) (entries : ℕ → VariableSet) (most widest : ℕ) where
   -- an action that goes on to the next
   pub simple_done : (f : ℕ) (a : Action) (live live' : VariableSet) (leaves skips : List Inst) (k : ℕ) → IsSimple a → IsWanted plan s.copies entries (plan.leaf f) a → Around (plan.home f) (variables f) a live live' →
       CodeAt s.code k (action_code plan variables f a live' leaves skips) → k + length (action_code plan variables f a live' leaves skips) < 2 ^ 29 → length (action_code plan variables f a live' leaves skips) ≤ most →

@@ -11,9 +11,9 @@ use Rattle.dae_ir.specs.declared.stream.Argument.{Argument}
 use Rattle.dae_ir.specs.declared.stream.Action.{Action}
 use Rattle.dae_ir.specs.declared.form.Check.TheVariants.{Place}
 use Rattle.dae_ir.specs.declared.stream.Action.TheVariants.{Set as Compute, Issue, Own, Receive, Address, Datum, Offer, Accept, Emit, Probe, Tell, Hear, Stop, Break, Continue, Call, Return}
-use Rattle.dae_select_walks.specs.declared.Standing.{Standing}
-use Rattle.dae_select_walks.specs.declared.Standing.TheVariants.{Settled, Early, Late}
-use Rattle.dae_select_walks.specs.Live.{Ways, none, behind, live, is, step_ways, body_ways}
+use Rattle.dae_select_walks.specs.declared.VariableStanding.{VariableStanding}
+use Rattle.dae_select_walks.specs.declared.VariableStanding.TheVariants.{Settled, Early, Late}
+use Rattle.dae_select_walks.specs.Live.{LiveWays, none, behind, live, is, step_ways, body_ways}
 use Rattle.dae_select_walks.specs.Facts.{Facts, facts_behind, facts_in_first, facts_in_second, facts_past_if, facts_at_turn, facts_at_step, facts_past_loop, need_of}
 use Rattle.dae_select_walks.specs.declared.Need.{Need}
 use Rattle.dae_select_walks.specs.declared.Need.TheVariants.{All, Ends, Nothing}
@@ -80,7 +80,7 @@ module _ (short : Bool) (plan : Plan) (variables : ℕ → ℕ) (f : ℕ) where
   action_length (Return x) k l s = let h = leave_short plan.by_a (plan.leaf f) (plan.home f) x in omega arith
 
   -- a pair's block is no longer than one of its actions may be
-  abbrev BlockFits : Facts → Standing → Ways → ℕ → ℕ → Action → Actions → Standing → Type 0
+  abbrev BlockFits : Facts → VariableStanding → LiveWays → ℕ → ℕ → Action → Actions → VariableStanding → Type 0
   BlockFits known standing x l s a k standing' = length (block_code plan variables f (need_of plan.memory known a k) standing a standing' (live k x) (jump_over short l) (jump_over short s)) ≤ 14 * action_weight a + 42 * one_call a
 
   late_length : (t : ℕ) (y : Value) (a : Action) → length (late_code (plan.home f) a y) ≤ 14 * action_weight a + 42 * one_call a
@@ -101,7 +101,7 @@ module _ (short : Bool) (plan : Plan) (variables : ℕ → ℕ) (f : ℕ) where
   settled_length Ends a k l s = placed_length a
   settled_length All a k l s = action_length a k l s
 
-  block_length : (known : Facts) (standing : Standing) (x : Ways) (l s : ℕ) (a : Action) (k : Actions) → BlockFits known standing x l s a k (standing_behind a k x)
+  block_length : (known : Facts) (standing : VariableStanding) (x : LiveWays) (l s : ℕ) (a : Action) (k : Actions) → BlockFits known standing x l s a k (standing_behind a k x)
   block_length known (Early v y) x l s a k = omega arith
   block_length known (Late t y) x l s a k = late_length t y a
   block_length known Settled x l s a k =
@@ -109,7 +109,7 @@ module _ (short : Bool) (plan : Plan) (variables : ℕ → ℕ) (f : ℕ) where
       (λ v m d y k e once dead. (let h = early_short (plan.home f) 30 v d y in omega arith)) (λ v m d y k e once dead. (let h = early_short (plan.home f) 28 v d y in omega arith)) a k
 
   mutual
-    pub code_length : (standing : Standing) (known : Facts) (code : Actions) (x : Ways) (l s : ℕ) → length (code_of short plan variables f standing known code x l s) ≤ most_words_in code
+    pub code_length : (standing : VariableStanding) (known : Facts) (code : Actions) (x : LiveWays) (l s : ℕ) → length (code_of short plan variables f standing known code x l s) ≤ most_words_in code
     code_length standing known Done x l s = omega arith
     code_length standing known (Do m a k) x l s =
         let h : length (code_of short plan variables f standing known (Do m a k) x l s) ≤ (14 * action_weight a + 42 * one_call a) + most_words_in k
@@ -133,7 +133,7 @@ module _ (short : Bool) (plan : Plan) (variables : ℕ → ℕ) (f : ℕ) where
     bottom_short (Do m a k) is n = omega arith
     bottom_short (Loop m body step k) is n = omega arith
 
-    pub tail_length : (known : Facts) (code : Actions) (x : Ways) (l s : ℕ) → length (tail_of short plan variables f known code x l s) ≤ most_words_in code
+    pub tail_length : (known : Facts) (code : Actions) (x : LiveWays) (l s : ℕ) → length (tail_of short plan variables f known code x l s) ≤ most_words_in code
     tail_length known (If m b p q k) x l s = let h = code_length Settled (facts_past_if b p q known) k x l s in omega arith
     tail_length known Done x l s = omega arith
     tail_length known (Do m a k) x l s = omega arith

@@ -7,7 +7,7 @@ use Rattle.dae_base.specs.declared.Queue.TheVariants.{Ld, Al, Sd, Cq}
 use Rattle.dae_base.specs.declared.Width.{Width}
 use Rattle.dae_base.specs.declared.LoadKind.{LoadKind}
 use Rattle.dae_encode.specs.declared.QueueUse.TheVariants.{Take, Push, Load, StoreAddress}
-use Rattle.dae_encode.specs.declared.Form.TheVariants.{Computes, Loads, Stores}
+use Rattle.dae_encode.specs.declared.InstructionForm.TheVariants.{Computes, Loads, Stores}
 use Rattle.dae_encode.specs.Uses.{queue_use}
 use Rattle.dae_ir.specs.Programs.{side}
 use Rattle.dae_ir.specs.Deeds.{told_on, heard_on}

@@ -26,15 +26,15 @@ use Rattle.dae_ir.specs.declared.stream.Action.{Action}
 use Rattle.dae_ir.specs.declared.stream.Action.TheVariants.{Set as Compute, Issue, Own, Receive, Address, Datum, Offer, Accept, Emit, Probe, Tell, Hear, Stop, Break, Continue, Call, Return}
 use Rattle.dae_ir.specs.declared.stream.Branch.{Branch}
 use Rattle.dae_ir.specs.declared.stream.Branch.TheVariants.{Silent, Tells, Hears}
-use Rattle.dae_select_walks.specs.Walks.{Setting, Comes}
+use Rattle.dae_select_walks.specs.Walks.{WalkSetting, Comes}
 use Rattle.dae_select_walks.specs.Does.{Does}
-use Rattle.dae_select_walks.specs.Live.{Ways, in_operand, behind, reads, sets, after, before, decided, live, lives, with_all, none, turn, step_ways, body_ways}
+use Rattle.dae_select_walks.specs.Live.{LiveWays, in_operand, behind, reads, sets, after, before, decided, live, lives, with_all, none, turn, step_ways, body_ways}
 use Rattle.dae_select_walks.specs.Facts.{Facts, Hold, unknown, only_leaves, operand_bounds, is_aligned, is_good, tells_within, facts_behind, facts_in_first, facts_in_second, facts_past_if, facts_at_turn, facts_at_step, facts_past_loop, need_of}
 use Rattle.dae_select_walks.specs.declared.Need.{Need}
 use Rattle.dae_select_walks.specs.declared.Need.TheVariants.{All, Ends, Nothing}
 use Rattle.dae_select_walks.specs.Agrees.{Plan, Moment, Stands}
-use Rattle.dae_select_walks.specs.declared.Standing.{Standing}
-use Rattle.dae_select_walks.specs.declared.Standing.TheVariants.{Settled, Early, Late}
+use Rattle.dae_select_walks.specs.declared.VariableStanding.{VariableStanding}
+use Rattle.dae_select_walks.specs.declared.VariableStanding.TheVariants.{Settled, Early, Late}
 use Rattle.dae_select_walks.specs.Compiled.{Exit, Exits, exit, exits, ways_of, with_env, IsWorldOf, At, Leads, Turns, GoesBack, is_told, begins_told, ActionDone, BranchDone, CodeDone, bit}
 use Rattle.dae_select_walks.proofs.LawsOfWalks.{comes_here, comes_more, nears_here, comes_map, does_map, acts_map, turn_again}
 use Rattle.dae_select_walks.specs.Layout.{CodeAt}
@@ -70,13 +70,13 @@ last true c = refl
 last false true = refl
 last false false = refl
 
-module _ (s : Setting) (plan : Plan) (variables : ℕ → ℕ) (fine : Fits s plan variables) (program : Program) (is_plan : IsPlanOf program plan) (entries : ℕ → VariableSet) (most widest : ℕ) (short : Bool) where
+module _ (s : WalkSetting) (plan : Plan) (variables : ℕ → ℕ) (fine : Fits s plan variables) (program : Program) (is_plan : IsPlanOf program plan) (entries : ℕ → VariableSet) (most widest : ℕ) (short : Bool) where
   -- the block of an action, from whose end it is so many words to where a Break goes, and a Continue
   abbrev pub block_of : ℕ → Action → VariableSet → ℕ → ℕ → List Inst
   block_of f a live leaves skips = action_code plan variables f a live (jump_over short leaves) (jump_over short skips)
 
   -- what every action wants of the place where it stands: its block, short enough, and homes that are apart
-  pub record Stood (f : ℕ) (a : Action) (behind : VariableSet) (x : Ways) (leaves skips k : ℕ) : Type 0 where
+  pub record Stood (f : ℕ) (a : Action) (behind : VariableSet) (x : LiveWays) (leaves skips k : ℕ) : Type 0 where
     pub wanted : IsWanted plan s.copies entries (plan.leaf f) a
     pub right : IsRight (plan.home f) (variables f) (with_all (before a behind x) (sets a))
     pub stands : CodeAt s.code k (block_of f a behind leaves skips)
@@ -155,7 +155,7 @@ module _ (s : Setting) (plan : Plan) (variables : ℕ → ℕ) (fine : Fits s pl
     -- ---- actions in their lists, alone or in pairs
 
     -- this block, where things stand so before an action and so behind it, does the action
-    abbrev BlockDone : ℕ → Facts → List Inst → Standing → Mark → Exits → ℕ → ℕ → ℕ → Action → Actions → Standing → Type 0
+    abbrev BlockDone : ℕ → Facts → List Inst → VariableStanding → Mark → Exits → ℕ → ℕ → ℕ → Action → Actions → VariableStanding → Type 0
     BlockDone f known block standing mark x leaves skips here a k standing' =
         Suits standing (Do mark a k) (ways_of x) → AreLateNumbers standing → AreSettled x → IsWanted plan s.copies entries (plan.leaf f) a → Each (IsWanted plan s.copies entries (plan.leaf f)) IsWantedBranch k →
         IsRight (plan.home f) (variables f) (with_all (before a (live k (ways_of x)) (ways_of x)) (sets a)) → AllByRecursion (IsRight (plan.home f) (variables f)) (lives k (ways_of x)) →
@@ -165,7 +165,7 @@ module _ (s : Setting) (plan : Plan) (variables : ℕ → ℕ) (fine : Fits s pl
         × AreLateNumbers standing'
 
     -- the block of the action does it
-    abbrev StepDone : ℕ → Facts → Need → Standing → Mark → Exits → ℕ → ℕ → ℕ → Action → Actions → Standing → Type 0
+    abbrev StepDone : ℕ → Facts → Need → VariableStanding → Mark → Exits → ℕ → ℕ → ℕ → Action → Actions → VariableStanding → Type 0
     StepDone f known need standing mark x leaves skips here a k standing' =
         BlockDone f known (block_code plan variables f need standing a standing' (live k (ways_of x)) (jump_over short leaves) (jump_over short skips)) standing mark x leaves skips here a k standing'
 
@@ -272,9 +272,9 @@ module _ (s : Setting) (plan : Plan) (variables : ℕ → ℕ) (fine : Fits s pl
         by true e = dead_step f known mark a k x leaves skips here e
         by false e = needed_step f known mark a k x leaves skips here
 
-    step_done : (f : ℕ) (known : Facts) (standing : Standing) (mark : Mark) (a : Action) (k : Actions) (x : Exits) (leaves skips here : ℕ) → StepDone f known (need_of plan.memory known a k) standing mark x leaves skips here a k (standing_behind a k (ways_of x))
+    step_done : (f : ℕ) (known : Facts) (standing : VariableStanding) (mark : Mark) (a : Action) (k : Actions) (x : Exits) (leaves skips here : ℕ) → StepDone f known (need_of plan.memory known a k) standing mark x leaves skips here a k (standing_behind a k (ways_of x))
     step_done f known Settled mark a k x leaves skips here =
-        by_pairs (λ (a : Action) (k : Actions) (standing : Standing). StepDone f known (need_of plan.memory known a k) Settled mark x leaves skips here a k standing) (ways_of x)
+        by_pairs (λ (a : Action) (k : Actions) (standing : VariableStanding). StepDone f known (need_of plan.memory known a k) Settled mark x leaves skips here a k standing) (ways_of x)
         (λ a k. alone_step f known mark a k x leaves skips here)
         (λ t y m b k e passes dead suits numbers settled wanted more right rights at low small to_leave to_skip near close. (
           late_first s plan variables fine program is_plan entries most widest f t y (live (Do mark (Compute t y) (Do m b k)) (ways_of x)) known x here,
@@ -296,11 +296,11 @@ module _ (s : Setting) (plan : Plan) (variables : ℕ → ℕ) (fine : Fits s pl
         ))
         a k
     step_done f known (Late t y) mark a k x leaves skips here = λ suits.
-        subst (λ (standing : Standing). StepDone f known (need_of plan.memory known a k) (Late t y) mark x leaves skips here a k standing) (sym suits.1)
+        subst (λ (standing : VariableStanding). StepDone f known (need_of plan.memory known a k) (Late t y) mark x leaves skips here a k standing) (sym suits.1)
         (passed_on (λ (b : Action). StepDone f known (need_of plan.memory known a k) (Late t y) mark x leaves skips here b k Settled) t y a suits.0 (λ d. late_step f t known (need_of plan.memory known a k) y d mark k x leaves skips here suits.2) (λ last. sent_step f t known (need_of plan.memory known a k) y mark k x leaves skips here suits.2 last)
         (λ adds. reached_step f t known (need_of plan.memory known a k) y mark k x leaves skips here suits.2 adds)) suits
     step_done f known (Early v y) mark a k x leaves skips here = λ suits.
-        subst (λ (standing : Standing). StepDone f known (need_of plan.memory known a k) (Early v y) mark x leaves skips here a k standing) (sym suits.1)
+        subst (λ (standing : VariableStanding). StepDone f known (need_of plan.memory known a k) (Early v y) mark x leaves skips here a k standing) (sym suits.1)
         (subst (λ (b : Action). StepDone f known (need_of plan.memory known a k) (Early v y) mark x leaves skips here b k Settled) (sym suits.0) (early_step f v known (need_of plan.memory known a k) y mark k x leaves skips here)) suits
 
     -- ---- branches
@@ -358,13 +358,13 @@ module _ (s : Setting) (plan : Plan) (variables : ℕ → ℕ) (fine : Fits s pl
     nothing_done f known (If mark b p q k) x here is ends = absurd cc
     nothing_done f known (Loop mark body step k) x here is ends = absurd cc
 
-    nothing_short : (f : ℕ) (known : Facts) (code : Actions) (x : Ways) (leaves skips : ℕ) → does_nothing code ≡ true → length (code_of short plan variables f Settled known code x leaves skips) ≡ 0
+    nothing_short : (f : ℕ) (known : Facts) (code : Actions) (x : LiveWays) (leaves skips : ℕ) → does_nothing code ≡ true → length (code_of short plan variables f Settled known code x leaves skips) ≡ 0
     nothing_short f known Done x leaves skips is = refl
     nothing_short f known (Do mark a k) x leaves skips is = absurd cc
     nothing_short f known (If mark b p q k) x leaves skips is = absurd cc
     nothing_short f known (Loop mark body step k) x leaves skips is = absurd cc
 
-    nothing_long : (f : ℕ) (known : Facts) (p q : Actions) (x : Ways) (leaves skips n : ℕ) → does_nothing p ≡ true → length (code_of short plan variables f Settled known p x leaves skips) + length (past_code short (does_nothing p || does_nothing q) n) ≡ 0
+    nothing_long : (f : ℕ) (known : Facts) (p q : Actions) (x : LiveWays) (leaves skips n : ℕ) → does_nothing p ≡ true → length (code_of short plan variables f Settled known p x leaves skips) + length (past_code short (does_nothing p || does_nothing q) n) ≡ 0
     nothing_long f known p q x leaves skips n is = (let a = nothing_short f known p x leaves skips is in let b : length (past_code short (does_nothing p || does_nothing q) n) ≡ 0 = rw is refl in omega arith)
 
     either_done : (f : ℕ) (known : Facts) (code : Actions) (x : Exits) (none : Bool) (there here : ℕ) → (none ≡ true → CodeDone s plan program entries most widest f known code (exit there (live code (ways_of x))) x) → (none ≡ false → CodeDone s plan program entries most widest f known code (exit here (live code (ways_of x))) x) → CodeDone s plan program entries most widest f known code (exit (if none then there else here) (live code (ways_of x))) x
@@ -471,8 +471,8 @@ module _ (s : Setting) (plan : Plan) (variables : ℕ → ℕ) (fine : Fits s pl
         let body : Actions = If m b p q t in
         let after' : VariableSet = live k (ways_of x) in
         let begins : VariableSet = turn body step after' in
-        let ways' : Ways = body_ways body step after' in
-        let inner : Ways = behind (live t ways') ways' in
+        let ways' : LiveWays = body_ways body step after' in
+        let inner : LiveWays = behind (live t ways') ways' in
         let rest : List Inst = code_of short plan variables f Settled (facts_past_loop (If m b p q t) step known) k (ways_of x) leaves skips in
         let words : ℕ = length (back_branch (plan.home f) b true 0) in
         let again_code : List Inst = code_of short plan variables f Settled (facts_at_step plan.memory (If m b p q t) step known) step (step_ways body step after') words 0 in
@@ -523,7 +523,7 @@ module _ (s : Setting) (plan : Plan) (variables : ℕ → ℕ) (fine : Fits s pl
               (subst (λ (j : ℕ). Leads s plan program entries most widest f (exit j x.next.live) x.next) (sym done) ends),
         )
 
-    pub code_done : (f : ℕ) (standing : Standing) (known : Facts) (code : Actions) (x : Exits) (leaves skips here : ℕ) → Suits standing code (ways_of x) → AreLateNumbers standing → AreSettled x → Each (IsWanted plan s.copies entries (plan.leaf f)) IsWantedBranch code → AllByRecursion (IsRight (plan.home f) (variables f)) (lives code (ways_of x)) →
+    pub code_done : (f : ℕ) (standing : VariableStanding) (known : Facts) (code : Actions) (x : Exits) (leaves skips here : ℕ) → Suits standing code (ways_of x) → AreLateNumbers standing → AreSettled x → Each (IsWanted plan s.copies entries (plan.leaf f)) IsWantedBranch code → AllByRecursion (IsRight (plan.home f) (variables f)) (lives code (ways_of x)) →
         CodeAt s.code here (code_of short plan variables f standing known code (ways_of x) leaves skips) → lo ≤ here → here + length (code_of short plan variables f standing known code (ways_of x) leaves skips) ≤ hi →
         here + length (code_of short plan variables f standing known code (ways_of x) leaves skips) + leaves ≡ x.leaves.word → here + length (code_of short plan variables f standing known code (ways_of x) leaves skips) + skips ≡ x.skips.word → x.leaves.word ≤ hi → x.skips.word ≤ hi →
         Leads s plan program entries most widest f (exit (here + length (code_of short plan variables f standing known code (ways_of x) leaves skips)) x.next.live) x.next → CodeDone s plan program entries most widest f known code (entered_at standing code (ways_of x) here) x
@@ -533,7 +533,7 @@ module _ (s : Setting) (plan : Plan) (variables : ℕ → ℕ) (fine : Fits s pl
     code_done f (Early v y) known Done x leaves skips here suits numbers settled wanted apart at low small to_leave to_skip near close ends = absurd suits
     code_done f (Late t y) known Done x leaves skips here suits numbers settled wanted apart at low small to_leave to_skip near close ends = absurd suits
     code_done f standing known (Do mark a k) x leaves skips here suits numbers settled wanted apart at low small to_leave to_skip near close ends =
-        let standing' : Standing = standing_behind a k (ways_of x) in
+        let standing' : VariableStanding = standing_behind a k (ways_of x) in
         let rest : List Inst = code_of short plan variables f standing' (facts_behind plan.memory a known) k (ways_of x) leaves skips in
         let block : List Inst = block_code plan variables f (need_of plan.memory known a k) standing a standing' (live k (ways_of x)) (jump_over short (length rest + leaves)) (jump_over short (length rest + skips)) in
         let both = length-append block rest in
@@ -545,7 +545,7 @@ module _ (s : Setting) (plan : Plan) (variables : ℕ → ℕ) (fine : Fits s pl
               (subst (λ (j : ℕ). Leads s plan program entries most widest f (exit j x.next.live) x.next) (sym place) ends),
         )
     code_done f Settled known (If mark b p q k) x leaves skips here suits numbers settled wanted apart at low small to_leave to_skip near close ends =
-        let ways' : Ways = behind (live k (ways_of x)) (ways_of x) in
+        let ways' : LiveWays = behind (live k (ways_of x)) (ways_of x) in
         let none : Bool = does_nothing p in
         let rest : List Inst = code_of short plan variables f Settled (facts_past_if b p q known) k (ways_of x) leaves skips in
         let second : List Inst = code_of short plan variables f Settled (facts_in_second b known) q ways' (length rest + leaves) (length rest + skips) in

@@ -1,4 +1,4 @@
--- The block of each action. Registers: x1 the address to return to, x2 where the private frame begins, or, in a bare function, that
+-- The block of each action. Registers: x1 the address to return to, x2 where the private frame begins, or, in a frameless function, that
 -- of its caller, x3 where the frame in common memory does, x5, x6 and x7 for the work of one block, x6 also for a call's result. On A
 -- x4 is how many addresses common memory has, and x10 the depth as it is counted. On E x10 and x17 are for the environment call. A
 -- number that stays in a register is read there.
@@ -531,12 +531,12 @@ abbrev pub less_code : ℕ → ℕ → List Inst
 less_code r n =
     if nat_eq n 0 then [] else (if is_immediate (minus 0 n) then Addi r r (lower (minus 0 n)) ∷ [] else number_code 5 n ++ Sub r r 5 ∷ [])
 
--- the frames of the function g, which is called, follow the caller's. A bare one has no private frame
+-- the frames of the function g, which is called, follow the caller's. A frameless one has no private frame
 abbrev pub deeper_code : Plan → ℕ → ℕ → List Inst
-deeper_code plan f g = more_code 3 (plan.frame f % 2 ^ 32) ++ (if plan.bare g then [] else more_code 2 (4 * plan.words f))
+deeper_code plan f g = more_code 3 (plan.frame f % 2 ^ 32) ++ (if plan.frameless g then [] else more_code 2 (4 * plan.words f))
 
 abbrev pub back_code : Plan → ℕ → ℕ → List Inst
-back_code plan f g = less_code 3 (plan.frame f % 2 ^ 32) ++ (if plan.bare g then [] else less_code 2 (4 * plan.words f))
+back_code plan f g = less_code 3 (plan.frame f % 2 ^ 32) ++ (if plan.frameless g then [] else less_code 2 (4 * plan.words f))
 
 abbrev pub result_code : (ℕ → Home) → Option ℕ → List Inst
 result_code home None = []

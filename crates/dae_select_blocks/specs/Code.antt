@@ -21,14 +21,14 @@ use Rattle.dae_meaning.specs.declared.Comparison.{Comparison}
 use Rattle.dae_meaning.specs.declared.Comparison.TheVariants.{NotEqual}
 use Rattle.dae_select_walks.specs.declared.Home.{Home}
 use Rattle.dae_select_walks.specs.declared.Home.TheVariants.{Register, Slot}
-use Rattle.dae_select_walks.specs.Live.{Ways, in_operand, behind, live, is, nowhere, step_ways, body_ways}
+use Rattle.dae_select_walks.specs.Live.{LiveWays, in_operand, behind, live, is, nowhere, step_ways, body_ways}
 use Rattle.dae_select_walks.specs.Facts.{Facts, unknown, only_leaves, facts_behind, facts_in_first, facts_in_second, facts_past_if, facts_at_turn, facts_at_step, facts_past_loop, need_of}
 use Rattle.dae_select_walks.specs.declared.Need.{Need}
 use Rattle.dae_select_walks.specs.declared.Need.TheVariants.{All, Ends, Nothing}
 use Rattle.dae_select_walks.specs.Agrees.{Plan}
 use Rattle.dae_select_walks.specs.Compiled.{is_told}
-use Rattle.dae_select_walks.specs.declared.Standing.{Standing}
-use Rattle.dae_select_walks.specs.declared.Standing.TheVariants.{Settled, Early, Late}
+use Rattle.dae_select_walks.specs.declared.VariableStanding.{VariableStanding}
+use Rattle.dae_select_walks.specs.declared.VariableStanding.TheVariants.{Settled, Early, Late}
 use Rattle.dae_select_blocks.specs.Blocks.{number_code, register_or, source, fetch, keep, value_code, issue_code, address_code, take_code, own_code, move_code, call_number, system_code, hear_code, stop_code, check_code, bounds_code, residents_code, test_code, jump_over, jump_back, enter_code, goes_back, arguments_code, parameters_code, is_register, save_code, restore_code, deeper_code, back_code, result_code, prologue_code, leave_code, jump_words, one_way, goes_code, tell_number_code, against_zero, immediate_of, is_immediate, reach_code}
 use Rattle.dae_select_blocks.specs.Sizes.{most_words_in, is_short}
 
@@ -156,25 +156,25 @@ reads_once v (Holds test) = either_one (in_operand test.left v) (in_operand test
 reads_once v (FrameAddress offset) = false
 
 -- a word that the next action alone reads, once, is not kept: that action is done with the word from the queue
-abbrev pub taken_standing : ℕ → Action → VariableSet → Standing
+abbrev pub taken_standing : ℕ → Action → VariableSet → VariableStanding
 taken_standing v (Compute d x) live = if reads_once v x && (nat_eq v d || not (live v)) then Early d x else Settled
 taken_standing v action live = Settled
 
 -- how things stand between an action and the next one, behind which these variables are live. A variable that is set only to
 -- be moved on is not set at all: its value is computed where the next action puts it
-abbrev pub pair_standing : Action → Action → VariableSet → Standing
+abbrev pub pair_standing : Action → Action → VariableSet → VariableStanding
 pair_standing (Compute t x) b live = if passes_on t x b && not (live t) then Late t x else Settled
 pair_standing (Receive v) b live = taken_standing v b live
 pair_standing (Accept v) b live = taken_standing v b live
 pair_standing a b live = Settled
 
-abbrev pub if_settled : Standing → Standing → Standing
+abbrev pub if_settled : VariableStanding → VariableStanding → VariableStanding
 if_settled Settled standing = standing
 if_settled other standing = Settled
 
 -- how things stand behind an action, before the rest of its list. Where the next action is in a pair with the one behind it,
 -- this action is in none
-abbrev pub standing_behind : Action → Actions → Ways → Standing
+abbrev pub standing_behind : Action → Actions → LiveWays → VariableStanding
 standing_behind a (Do m b k) x = if_settled (standing_behind b k x) (pair_standing a b (live k x))
 standing_behind a code x = Settled
 
@@ -219,7 +219,7 @@ needed_code plan variables f Nothing a live leaves skips = []
 
 -- the block of an action, where things stand so before it and so behind it, and so much of it is needed. What computes a variable that
 -- isn't live has none
-abbrev pub block_code : Plan → (ℕ → ℕ) → ℕ → Need → Standing → Action → Standing → VariableSet → List Inst → List Inst → List Inst
+abbrev pub block_code : Plan → (ℕ → ℕ) → ℕ → Need → VariableStanding → Action → VariableStanding → VariableSet → List Inst → List Inst → List Inst
 block_code plan variables f need (Late t x) a standing live leaves skips = late_code (plan.home f) a x
 block_code plan variables f need (Early v x) a standing live leaves skips = []
 block_code plan variables f need Settled a (Late t x) live leaves skips = []
@@ -288,7 +288,7 @@ loop_code short body step rest =
 -- short says whether jumps are to be; so things stand before the list, and this is known there. Before a branch or a loop things are
 -- settled
 abbrev mutual
-  pub code_of : Bool → Plan → (ℕ → ℕ) → ℕ → Standing → Facts → Actions → Ways → ℕ → ℕ → List Inst
+  pub code_of : Bool → Plan → (ℕ → ℕ) → ℕ → VariableStanding → Facts → Actions → LiveWays → ℕ → ℕ → List Inst
   code_of short plan variables f standing known Done x leaves skips = []
   code_of short plan variables f standing known (Do m a k) x leaves skips =
       followed short (block_code plan variables f (need_of plan.memory known a k) standing a (standing_behind a k x) (live k x))
@@ -307,7 +307,7 @@ abbrev mutual
       (code_of short plan variables f Settled (facts_past_loop body step known) k x leaves skips)
 
   -- the code behind the test that a list begins with
-  pub tail_of : Bool → Plan → (ℕ → ℕ) → ℕ → Facts → Actions → Ways → ℕ → ℕ → List Inst
+  pub tail_of : Bool → Plan → (ℕ → ℕ) → ℕ → Facts → Actions → LiveWays → ℕ → ℕ → List Inst
   tail_of short plan variables f known (If m b p q k) x leaves skips = code_of short plan variables f Settled (facts_past_if b p q known) k x leaves skips
   tail_of short plan variables f known code x leaves skips = []
 

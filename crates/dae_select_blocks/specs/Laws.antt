@@ -8,12 +8,12 @@ use Rattle.dae_ir.specs.Streams.{Actions}
 use Rattle.dae_encode.specs.Processor.{Processor}
 use Rattle.dae_encode.specs.Spelling.{InRange}
 use Rattle.dae_select_walks.specs.Homes.{IsHome}
-use Rattle.dae_select_walks.specs.Walks.{Setting, Comes}
+use Rattle.dae_select_walks.specs.Walks.{WalkSetting, Comes}
 use Rattle.dae_select_walks.specs.Layout.{CodeAt}
 use Rattle.dae_select_walks.specs.Live.{nowhere, none, live, lives}
 use Rattle.dae_select_walks.specs.Facts.{unknown}
 use Rattle.dae_select_walks.specs.Agrees.{Plan, Stands as Stands'}
-use Rattle.dae_select_walks.specs.declared.Standing.TheVariants.{Settled}
+use Rattle.dae_select_walks.specs.declared.VariableStanding.TheVariants.{Settled}
 use Rattle.dae_select_walks.specs.Compiled.{exit, exits, CodeDone}
 use Rattle.dae_select_blocks.specs.Code.{code_of, function_code, start_code, finish_code}
 use Rattle.dae_select_blocks.specs.Sizes.{is_short}
@@ -21,7 +21,7 @@ use Rattle.dae_select_blocks.specs.Fits.{Fits}
 use Rattle.dae_select_blocks.specs.Wanted.{IsWanted, IsWantedBranch, IsPlanOf, IsLinked, IsRight}
 
 -- the code of a function's actions stands where the function starts
-pub record Stands (s : Setting) (plan : Plan) (variables : ℕ → ℕ) (entries : ℕ → VariableSet) (f : ℕ) (code : Actions) : Type 0 where
+pub record Stands (s : WalkSetting) (plan : Plan) (variables : ℕ → ℕ) (entries : ℕ → VariableSet) (f : ℕ) (code : Actions) : Type 0 where
   pub wanted : Each (IsWanted plan s.copies entries (plan.leaf f)) IsWantedBranch code
   pub right : AllByRecursion (IsRight (plan.home f) (variables f)) (lives code nowhere)
   pub there : CodeAt s.code (plan.start f) (code_of (is_short code) plan variables f Settled unknown code nowhere 0 0)
@@ -30,7 +30,7 @@ pub record Stands (s : Setting) (plan : Plan) (variables : ℕ → ℕ) (entries
 -- then it does them, action by action, in at most 14 instructions an action, 46 a call and 6 more an argument
 abbrev pub CodeDoes : Type 0
 CodeDoes =
-    (s : Setting) (plan : Plan) (variables : ℕ → ℕ) (program : Program) (entries : ℕ → VariableSet) → Fits s plan variables → IsPlanOf program plan → IsLinked s plan
+    (s : WalkSetting) (plan : Plan) (variables : ℕ → ℕ) (program : Program) (entries : ℕ → VariableSet) → Fits s plan variables → IsPlanOf program plan → IsLinked s plan
     → (f : ℕ) (code : Actions) → Stands s plan variables entries f code
     → (end : ℕ) × CodeDone s plan program entries 14 46 f unknown code (exit (plan.start f) (live code nowhere)) (exits (exit end none) (exit end none) (exit end none))
 
@@ -49,7 +49,7 @@ abbrev pub opened_with : ℕ → Processor
 opened_with private = record { registers = replicate 32 0; counter = 0; private = replicate (4 * private) 0; halt = None }
 
 -- the start code stands at word 0, and main returns behind it
-pub record Begins (s : Setting) (plan : Plan) (entries : ℕ → VariableSet) (main frames : ℕ) : Type 0 where
+pub record Begins (s : WalkSetting) (plan : Plan) (entries : ℕ → VariableSet) (main frames : ℕ) : Type 0 where
   pub there : main < plan.functions
   pub reads : (u : ℕ) → entries main u ≡ false
   pub first : frames ≤ plan.memory
@@ -61,5 +61,5 @@ pub record Begins (s : Setting) (plan : Plan) (entries : ℕ → VariableSet) (m
 -- then the opened processor comes to where main's actions begin
 abbrev pub CodeBegins : Type 0
 CodeBegins =
-    (s : Setting) (plan : Plan) (variables : ℕ → ℕ) (entries : ℕ → VariableSet) (main frames : ℕ) → Fits s plan variables → IsLinked s plan → Begins s plan entries main frames
+    (s : WalkSetting) (plan : Plan) (variables : ℕ → ℕ) (entries : ℕ → VariableSet) (main frames : ℕ) → Fits s plan variables → IsLinked s plan → Begins s plan entries main frames
     → Comes s 14 (opened_with plan.private) (Stands' plan (entries main) (record { function = main; env = (λ _. 0); frame = frames; waiting = [] }) (plan.start main))

@@ -16,7 +16,7 @@ use Rattle.dae_ir.specs.declared.stream.Branch.TheVariants.{Silent, Tells, Hears
 use Rattle.dae_select_walks.specs.declared.Home.{Home}
 use Rattle.dae_select_walks.specs.declared.Home.TheVariants.{Register}
 use Rattle.dae_select_walks.specs.Homes.{AreApart, resident_home, resident_register}
-use Rattle.dae_select_walks.specs.Walks.{Setting}
+use Rattle.dae_select_walks.specs.Walks.{WalkSetting}
 use Rattle.dae_select_walks.specs.Agrees.{Plan}
 use Rattle.dae_select_blocks.specs.Code.{entry_code, finish_code}
 use Rattle.dae_select_walks.specs.Layout.{CodeAt}
@@ -99,7 +99,7 @@ pub record IsPlanOf (program : Program) (plan : Plan) : Type 0 where
 
 -- where the functions stand: each is entered at its entry code, below word 512 where one instruction enters it, and its actions
 -- begin behind that
-pub record IsLinked (s : Setting) (plan : Plan) : Type 0 where
+pub record IsLinked (s : WalkSetting) (plan : Plan) : Type 0 where
   pub entry : (g : ℕ) → g < plan.functions → CodeAt s.code (plan.entry g) (entry_code plan g)
   pub start : (g : ℕ) → g < plan.functions → plan.start g ≡ plan.entry g + length (entry_code plan g)
   pub near : (g : ℕ) → g < plan.functions → plan.start g < 2 ^ 29

@@ -34,9 +34,9 @@ abbrev pub leaf_at : Option FunctionLayout → Bool
 leaf_at None = false
 leaf_at (Some layout) = layout.leaf
 
-abbrev pub bare_at : Option FunctionLayout → Bool
-bare_at None = false
-bare_at (Some layout) = layout.bare
+abbrev pub frameless_at : Option FunctionLayout → Bool
+frameless_at None = false
+frameless_at (Some layout) = layout.frameless
 
 -- one of these homes is this register
 abbrev pub has_home : ℕ → List Home → Bool
@@ -61,7 +61,7 @@ plan_of all = record {
   words = λ f. frame_words (variables_at (slice_get all.functions f));
   frame = λ f. frame_at (slice_get all.functions f);
   leaf = λ f. leaf_at (slice_get all.functions f);
-  bare = λ f. bare_at (slice_get all.functions f);
+  frameless = λ f. frameless_at (slice_get all.functions f);
   spares = λ f. spares_at (slice_get all.functions f);
   near = is_jalr all.calls;
   finish = all.finish;

@@ -16,8 +16,8 @@ abbrev pub variables_by : Making → ℕ → ℕ
 variables_by m = variables_of m.layouts.now
 
 -- the registers that a call of a function keeps, behind which these variables are live
-abbrev pub kept_by : Making → ℕ → VariableSet → List ℕ
-kept_by m g live = registers_in ((plan_by m).home m.function) (variables_by m m.function) (unspared (plan_by m) m.function g live)
+abbrev pub registers_kept : Making → ℕ → VariableSet → List ℕ
+registers_kept m g live = registers_in ((plan_by m).home m.function) (variables_by m m.function) (unspared (plan_by m) m.function g live)
 
 -- whether JAL makes each jump
 abbrev pub by_jal : Making → Bool

@@ -5,7 +5,7 @@ ghost use Rattle.dae_encode.specs.declared.Inst.TheVariants.{Jalr};
 ghost use Rattle.dae_select_blocks.specs.Blocks.{is_register, save_code, restore_code, more_code, less_code, deeper_code, back_code, result_code, count_code, prologue_code, epilogue_code, leave_code};
 ghost use Rattle.dae_select_blocks.specs.Code.{some_below, filtered, registers_in, call_code};
 ghost use Rattle.dae_select_calls.specs.Layouts.{plan_of};
-ghost use Rattle.dae_select_calls.specs.Makings.{plan_by, variables_by, kept_by, IsSound};
+ghost use Rattle.dae_select_calls.specs.Makings.{plan_by, variables_by, registers_kept, IsSound};
 ghost use Rattle.dae_select_calls.specs.Passing.{pass_code, resume_code};
 ghost use Rattle.dae_select_walks.specs.Live.{with_all};
 ghost use Rattle.dae_select_values.specs.Sides.{is_a};
@@ -140,7 +140,7 @@ fn changed_among(
 fn call_registers(making: &Making, callee: u32, live: &LiveSet) -> Result<Vec<u8>, AllocError>
     requires { IsSound making.now }
     ensures { IfOk result (λ registers. registers.items
-        ≡ kept_by making.now callee (member live.now)) }
+        ≡ registers_kept making.now callee (member live.now)) }
 {
     let variables = making.layouts.variables(making.function);
     let registers = registers_in(making.alloc, making.homes, variables, live)?;
@@ -176,10 +176,10 @@ fn low_word(frame: u64) -> u32
 fn own_deeper_code(code: &mut Vec<Inst>, making: &Making, callee: u32) -> Result<(), AllocError>
     requires { IsSound making.now }
     ensures { OnOk result (code.new.items ≡ code.old.items
-        ++ (if (plan_by making.now).bare callee then []
+        ++ (if (plan_by making.now).frameless callee then []
         else more_code 2 (4 * (plan_by making.now).words making.now.function))) }
 {
-    if making.layouts.bare(callee) {
+    if making.layouts.frameless(callee) {
         Ok(())
     } else {
         more_code(
@@ -194,10 +194,10 @@ fn own_deeper_code(code: &mut Vec<Inst>, making: &Making, callee: u32) -> Result
 fn own_back_code(code: &mut Vec<Inst>, making: &Making, callee: u32) -> Result<(), AllocError>
     requires { IsSound making.now }
     ensures { OnOk result (code.new.items ≡ code.old.items
-        ++ (if (plan_by making.now).bare callee then []
+        ++ (if (plan_by making.now).frameless callee then []
         else less_code 2 (4 * (plan_by making.now).words making.now.function))) }
 {
-    if making.layouts.bare(callee) {
+    if making.layouts.frameless(callee) {
         Ok(())
     } else {
         less_code(

@@ -11,7 +11,7 @@ use dae_select_values::{CallForm, HomeTable, home_of};
 use dae_select_walks::Home;
 
 /// What is settled of a function: the homes of its variables, how many variables there are, the bytes of its frame in
-/// common memory, whether it is a leaf, which makes no call, whether it is bare, a leaf that needs no word of a private frame, the
+/// common memory, whether it is a leaf, which makes no call, whether it is frameless, a leaf that needs no word of a private frame, the
 /// word at which it is entered, and the word at which its actions begin.
 #[derive(Drop)]
 pub struct FunctionLayout {
@@ -19,7 +19,7 @@ pub struct FunctionLayout {
     pub variables: u32,
     pub frame: u64,
     pub leaf: bool,
-    pub bare: bool,
+    pub frameless: bool,
     pub entry: u32,
     pub start: u32,
 }
@@ -125,12 +125,12 @@ impl Layouts {
         }
     }
 
-    /// Whether a function is bare.
-    pub fn bare(&self, function: u32) -> bool
-        ensures { result ≡ (plan_of self.now).bare function }
+    /// Whether a function is frameless.
+    pub fn frameless(&self, function: u32) -> bool
+        ensures { result ≡ (plan_of self.now).frameless function }
     {
         match self.functions.as_slice().get(function as usize) {
-            Some(layout) => layout.bare,
+            Some(layout) => layout.frameless,
             None => false,
         }
     }

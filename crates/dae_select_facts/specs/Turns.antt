@@ -5,9 +5,9 @@ use Rattle.dae_ir.specs.declared.form.Operand.{Operand}
 use Rattle.dae_select_walks.specs.declared.Fact.{Fact}
 use Rattle.dae_select_walks.specs.Facts.{Facts, behind_straight, bounds_in, grows, counter_in, counters}
 use Rattle.dae_select_facts.specs.Knowns.{facts_by}
-use Rattle.dae_select_facts.specs.declared.known.Known.{Known}
+use Rattle.dae_select_facts.specs.declared.known.KnownFacts.{KnownFacts}
 
-abbrev pub facts_if : Option Known → Option Facts
+abbrev pub facts_if : Option KnownFacts → Option Facts
 facts_if None = None
 facts_if (Some known) = Some (facts_by known)
 

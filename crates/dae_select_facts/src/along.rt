@@ -9,7 +9,7 @@ ghost use Rattle.dae_select_facts.specs.Along.{asks, asks_for, facts_after, need
 ghost use Rattle.dae_ir.specs.declared.stream.Step.{Step};
 
 use crate::bounds::{is_aligned, is_good};
-use crate::known::{Known, facts_behind, operand_bounds, unknown};
+use crate::known::{KnownFacts, facts_behind, operand_bounds, unknown};
 use crate::through::{facts_past_if, facts_past_loop};
 use dae_base::Width;
 use dae_ir::{Action, Check, Operand, Step, Value};
@@ -17,7 +17,12 @@ use dae_select_walks::{Bounds, Fact, Need};
 use std::alloc::{AllocError, Global};
 
 /// What is known behind a step.
-fn facts_after(alloc: Global, memory: u32, known: Known, step: &Step) -> Result<Known, AllocError>
+fn facts_after(
+    alloc: Global,
+    memory: u32,
+    known: KnownFacts,
+    step: &Step,
+) -> Result<KnownFacts, AllocError>
     ensures { IfOk result (λ new. facts_by new ≡ facts_after memory step.now (facts_by known)) }
 {
     match step {
@@ -35,10 +40,10 @@ fn copy_facts(alloc: Global, facts: &[Fact]) -> Result<Vec<Fact>, AllocError>
     Ok(new)
 }
 
-fn copy_known(alloc: Global, known: &Known) -> Result<Known, AllocError>
+fn copy_known(alloc: Global, known: &KnownFacts) -> Result<KnownFacts, AllocError>
     ensures { IfOk result (λ new. facts_by new ≡ facts_by known.now) }
 {
-    Ok(Known {
+    Ok(KnownFacts {
         outer: copy_facts(alloc, known.outer.as_slice())?,
         inner: copy_facts(alloc, known.inner.as_slice())?,
     })
@@ -84,7 +89,7 @@ fn need_of_copy(variable: u32, from: u32) -> Need
 }
 
 /// What is needed of the block of a step, behind which these come.
-pub fn need_of(memory: u32, known: &Known, step: &Step, rest: &[Step]) -> Need
+pub fn need_of(memory: u32, known: &KnownFacts, step: &Step, rest: &[Step]) -> Need
     ensures { result
         ≡ need_of_step memory (facts_by known.now) step.now (actions_of rest.now) }
 {
@@ -104,13 +109,13 @@ pub fn need_of(memory: u32, known: &Known, step: &Step, rest: &[Step]) -> Need
 #[derive(Drop)]
 pub struct Before {
     pub need: Need,
-    pub known: Known,
+    pub known: KnownFacts,
 }
 
 fn told_before(
     alloc: Global,
     memory: u32,
-    known: &Known,
+    known: &KnownFacts,
     step: &Step,
     rest: &[Step],
 ) -> Result<Before, AllocError>
@@ -177,11 +182,11 @@ fn more_ask(next: usize, asked: usize) -> bool
 fn facts_up_to(
     alloc: Global,
     memory: u32,
-    known: Known,
+    known: KnownFacts,
     step: &Step,
     next: usize,
     asked: usize,
-) -> Result<Known, AllocError>
+) -> Result<KnownFacts, AllocError>
     ensures { IfOk result (λ new. next < asked
         → facts_by new ≡ facts_after memory step.now (facts_by known)) }
 {
@@ -196,7 +201,7 @@ fn facts_up_to(
 pub fn all_before(
     alloc: Global,
     memory: u32,
-    known: Known,
+    known: KnownFacts,
     steps: &[Step],
 ) -> Result<Vec<Before>, AllocError>
     ensures { IfOk result (λ all. AreBefore memory (facts_by known) steps.now all.items) }

@@ -23,7 +23,7 @@ use std::alloc::{AllocError, Global};
 /// What is known at a place of a list: what was known where the list begins, of variables that it hasn't set, and what its
 /// latest actions tell.
 #[derive(Drop)]
-pub struct Known {
+pub struct KnownFacts {
     pub outer: Vec<Fact>,
     pub inner: Vec<Fact>,
 }
@@ -58,14 +58,14 @@ fn bounds_among(facts: &[Fact], variable: u32, otherwise: Bounds) -> Bounds
     otherwise
 }
 
-pub fn bounds_in(known: &Known, variable: u32) -> Bounds
+pub fn bounds_in(known: &KnownFacts, variable: u32) -> Bounds
     ensures { result ≡ bounds_in (facts_by known.now) variable }
 {
     let outer = bounds_among(known.outer.as_slice(), variable, any());
     bounds_among(known.inner.as_slice(), variable, outer)
 }
 
-pub fn operand_bounds(known: &Known, operand: Operand) -> Bounds
+pub fn operand_bounds(known: &KnownFacts, operand: Operand) -> Bounds
     ensures { result ≡ operand_bounds (facts_by known.now) operand }
 {
     match operand {
@@ -74,14 +74,14 @@ pub fn operand_bounds(known: &Known, operand: Operand) -> Bounds
     }
 }
 
-fn affine_in(known: &Known, variable: u32) -> Affine
+fn affine_in(known: &KnownFacts, variable: u32) -> Affine
     ensures { result ≡ affine_in (facts_by known.now) variable }
 {
     let outer = affine_among(known.outer.as_slice(), variable, own_word(variable));
     affine_among(known.inner.as_slice(), variable, outer)
 }
 
-fn operand_affine(known: &Known, operand: Operand) -> Affine
+fn operand_affine(known: &KnownFacts, operand: Operand) -> Affine
     ensures { result ≡ operand_affine (facts_by known.now) operand }
 {
     match operand {
@@ -95,7 +95,7 @@ fn operand_affine(known: &Known, operand: Operand) -> Affine
 }
 
 /// The bounds of a word that equals a variable's.
-fn some_bounds(known: &Known, variable: Option<u32>) -> Bounds
+fn some_bounds(known: &KnownFacts, variable: Option<u32>) -> Bounds
     ensures { result ≡ some_bounds (facts_by known.now) variable }
 {
     match variable {
@@ -107,7 +107,7 @@ fn some_bounds(known: &Known, variable: Option<u32>) -> Bounds
     }
 }
 
-fn equal_in(known: &Known, affine: Affine) -> Option<u32>
+fn equal_in(known: &KnownFacts, affine: Affine) -> Option<u32>
     ensures { result ≡ equal_in (facts_by known.now) affine }
 {
     let outer = equal_among(known.outer.as_slice(), affine, None);
@@ -115,7 +115,7 @@ fn equal_in(known: &Known, affine: Affine) -> Option<u32>
 }
 
 /// What is told of variables that equal an affine word.
-fn equal_bounds(known: &Known, affine: Option<Affine>) -> Bounds
+fn equal_bounds(known: &KnownFacts, affine: Option<Affine>) -> Bounds
     ensures { result ≡ equal_bounds (facts_by known.now) affine }
 {
     match affine {
@@ -125,7 +125,12 @@ fn equal_bounds(known: &Known, affine: Option<Affine>) -> Bounds
 }
 
 /// The affine word that an operation computes.
-fn result_affine(known: &Known, operator: Operator, left: Operand, right: Operand) -> Option<Affine>
+fn result_affine(
+    known: &KnownFacts,
+    operator: Operator,
+    left: Operand,
+    right: Operand,
+) -> Option<Affine>
     ensures { result ≡ result_affine (facts_by known.now) operator left right }
 {
     let one = operand_affine(known, left);
@@ -138,7 +143,7 @@ fn result_affine(known: &Known, operator: Operator, left: Operand, right: Operan
 /// The bounds of an operation's result, which is this affine word if one: by those of its operands, and by what is told of
 /// variables that equal it.
 fn result_bounds(
-    known: &Known,
+    known: &KnownFacts,
     operator: Operator,
     left: Operand,
     right: Operand,
@@ -153,7 +158,7 @@ fn result_bounds(
 }
 
 /// The affine word that a value computes.
-fn affine_of(known: &Known, value: Value) -> Option<Affine>
+fn affine_of(known: &KnownFacts, value: Value) -> Option<Affine>
     ensures { result ≡ affine_of (facts_by known.now) value }
 {
     match value {
@@ -164,7 +169,7 @@ fn affine_of(known: &Known, value: Value) -> Option<Affine>
 }
 
 /// The bounds of a value, which is this affine word if one.
-fn value_bounds(known: &Known, value: Value, affine: Option<Affine>) -> Bounds
+fn value_bounds(known: &KnownFacts, value: Value, affine: Option<Affine>) -> Bounds
     requires { affine ≡ affine_of (facts_by known.now) value }
     ensures { result ≡ value_bounds (facts_by known.now) value }
 {
@@ -219,49 +224,57 @@ fn fact_of(variable: u32, bounds: Bounds) -> Option<Fact>
 }
 
 /// A variable gets a word in these bounds.
-fn with_bounds(known: Known, variable: u32, bounds: Bounds) -> Result<Known, AllocError>
+fn with_bounds(known: KnownFacts, variable: u32, bounds: Bounds) -> Result<KnownFacts, AllocError>
     ensures { IfOk result (λ new. facts_by new ≡ with_bounds variable bounds (facts_by known)) }
 {
-    let Known {
+    let KnownFacts {
         mut outer,
         mut inner,
     } = known;
     remove_facts(&mut outer, variable);
     remove_facts(&mut inner, variable);
     push_latest(&mut inner, fact_of(variable, bounds))?;
-    Ok(Known { outer, inner })
+    Ok(KnownFacts { outer, inner })
 }
 
 /// A variable that was set equals an affine word.
-fn with_affine(known: Known, variable: u32, affine: Option<Affine>) -> Result<Known, AllocError>
+fn with_affine(
+    known: KnownFacts,
+    variable: u32,
+    affine: Option<Affine>,
+) -> Result<KnownFacts, AllocError>
     ensures { IfOk result (λ new. facts_by new ≡ with_affine variable affine (facts_by known)) }
 {
-    let Known { outer, mut inner } = known;
+    let KnownFacts { outer, mut inner } = known;
     push_latest(&mut inner, affine_fact(variable, affine))?;
-    Ok(Known { outer, inner })
+    Ok(KnownFacts { outer, inner })
 }
 
 /// More is known of a variable.
-fn refine(known: Known, variable: u32, bounds: Bounds) -> Result<Known, AllocError>
+fn refine(known: KnownFacts, variable: u32, bounds: Bounds) -> Result<KnownFacts, AllocError>
     ensures { IfOk result (λ new. facts_by new ≡ refined variable bounds (facts_by known)) }
 {
-    let Known { outer, mut inner } = known;
+    let KnownFacts { outer, mut inner } = known;
     push_latest(&mut inner, fact_of(variable, bounds))?;
-    Ok(Known { outer, inner })
+    Ok(KnownFacts { outer, inner })
 }
 
 /// Nothing is known.
-pub fn unknown(alloc: Global) -> Known
+pub fn unknown(alloc: Global) -> KnownFacts
     ensures { facts_by result ≡ unknown }
 {
-    Known {
+    KnownFacts {
         outer: Vec::new(alloc),
         inner: Vec::new(alloc),
     }
 }
 
 /// What is known behind an action.
-pub fn facts_behind(memory: u32, known: Known, action: &Action) -> Result<Known, AllocError>
+pub fn facts_behind(
+    memory: u32,
+    known: KnownFacts,
+    action: &Action,
+) -> Result<KnownFacts, AllocError>
     ensures { IfOk result (λ new. facts_by new
         ≡ facts_behind memory action.now (facts_by known)) }
 {

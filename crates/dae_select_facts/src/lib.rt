@@ -4,7 +4,7 @@
 
 pub use along::{Before, all_before};
 pub use bounds::{is_aligned, is_good};
-pub use known::{Known, bounds_in, facts_behind, unknown};
+pub use known::{KnownFacts, bounds_in, facts_behind, unknown};
 pub use through::{
     facts_at_turn, facts_behind_turn, facts_in_list, facts_past_if, facts_past_loop,
 };

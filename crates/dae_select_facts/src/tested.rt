@@ -5,7 +5,7 @@ ghost use Rattle.dae_select_walks.specs.Edges.{is_then};
 ghost use Rattle.dae_select_walks.specs.Facts.{is_bounded, at_most, test_facts, branch_facts};
 ghost use Rattle.dae_select_facts.specs.Knowns.{facts_by, listed};
 
-use crate::known::{Known, operand_bounds};
+use crate::known::{KnownFacts, operand_bounds};
 use dae_ir::{Branch, Operand, Test};
 use dae_meaning::Comparison;
 use dae_select_bounds::is_bounded;
@@ -92,7 +92,7 @@ fn most_signed(operand: Operand, one: Bounds, other: Bounds) -> Option<Fact>
 }
 
 /// What a test tells along an edge.
-fn test_fact(test: Test, edge: Edge, known: &Known) -> Option<Fact>
+fn test_fact(test: Test, edge: Edge, known: &KnownFacts) -> Option<Fact>
     ensures { listed result ≡ test_facts test (is_then edge) (facts_by known.now) }
 {
     let left = operand_bounds(known, test.left);
@@ -111,7 +111,7 @@ fn test_fact(test: Test, edge: Edge, known: &Known) -> Option<Fact>
 }
 
 /// What a branch tells along an edge.
-pub fn branch_fact(branch: Branch, edge: Edge, known: &Known) -> Option<Fact>
+pub fn branch_fact(branch: Branch, edge: Edge, known: &KnownFacts) -> Option<Fact>
     ensures { listed result ≡ branch_facts branch (is_then edge) (facts_by known.now) }
 {
     match branch {

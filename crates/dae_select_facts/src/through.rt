@@ -13,7 +13,7 @@ ghost use Rattle.dae_select_facts.specs.Knowns.{facts_by, listed};
 ghost use Rattle.dae_select_facts.specs.Turns.{facts_if, straight_on, IsCounterIn};
 
 use crate::bounds::is_inside;
-use crate::known::{Known, bounds_in, facts_behind};
+use crate::known::{KnownFacts, bounds_in, facts_behind};
 use crate::sets::{list_sets, push_unset, push_unset_by_both};
 use crate::tested::{HALF, branch_fact};
 use dae_base::Width;
@@ -23,10 +23,10 @@ use dae_select_walks::{Bounds, Edge, Fact};
 use std::alloc::{AllocError, Global};
 
 /// What is known where a list begins.
-fn at_begin(alloc: Global, outer: Vec<Fact>) -> Known
+fn at_begin(alloc: Global, outer: Vec<Fact>) -> KnownFacts
     ensures { facts_by result ≡ at_begin outer.items }
 {
-    Known {
+    KnownFacts {
         outer,
         inner: Vec::new(alloc),
     }
@@ -46,8 +46,8 @@ pub fn facts_in_list(
     alloc: Global,
     branch: Branch,
     edge: Edge,
-    known: &Known,
-) -> Result<Known, AllocError>
+    known: &KnownFacts,
+) -> Result<KnownFacts, AllocError>
     ensures { IfOk result (λ new. facts_by new ≡ at_begin (branch_facts branch (is_then edge)
         (facts_by known.now) ++ all_of (facts_by known.now))) }
 {
@@ -59,7 +59,12 @@ pub fn facts_in_list(
 }
 
 /// Behind a list that a test led into, where the other one only leaves: what the test tells, and what was known.
-fn past_first(alloc: Global, branch: Branch, p: &[Step], known: &Known) -> Result<Known, AllocError>
+fn past_first(
+    alloc: Global,
+    branch: Branch,
+    p: &[Step],
+    known: &KnownFacts,
+) -> Result<KnownFacts, AllocError>
     ensures { IfOk result (λ new. facts_by new ≡ kept (is_set (actions_of p.now))
         (record (facts_by known.now) {
           outer = branch_facts branch true (facts_by known.now)
@@ -73,7 +78,7 @@ fn past_first(alloc: Global, branch: Branch, p: &[Step], known: &Known) -> Resul
     push_unset(alloc, &mut outer, told.as_slice(), p)?;
     let mut inner = Vec::new(alloc);
     push_unset(alloc, &mut inner, known.inner.as_slice(), p)?;
-    Ok(Known { outer, inner })
+    Ok(KnownFacts { outer, inner })
 }
 
 /// Behind two lists: what neither of them sets.
@@ -81,8 +86,8 @@ fn past_both(
     alloc: Global,
     one: &[Step],
     other: &[Step],
-    known: &Known,
-) -> Result<Known, AllocError>
+    known: &KnownFacts,
+) -> Result<KnownFacts, AllocError>
     ensures { IfOk result (λ new. facts_by new ≡ kept
         (in_either (is_set (actions_of one.now)) (is_set (actions_of other.now)))
         (facts_by known.now)) }
@@ -91,7 +96,7 @@ fn past_both(
     push_unset_by_both(alloc, &mut outer, known.outer.as_slice(), one, other)?;
     let mut inner = Vec::new(alloc);
     push_unset_by_both(alloc, &mut inner, known.inner.as_slice(), one, other)?;
-    Ok(Known { outer, inner })
+    Ok(KnownFacts { outer, inner })
 }
 
 /// Behind an If.
@@ -100,8 +105,8 @@ pub fn facts_past_if(
     branch: Branch,
     p: &[Step],
     q: &[Step],
-    known: &Known,
-) -> Result<Known, AllocError>
+    known: &KnownFacts,
+) -> Result<KnownFacts, AllocError>
     ensures { IfOk result (λ new. facts_by new
         ≡ facts_past_if branch (actions_of p.now) (actions_of q.now) (facts_by known.now)) }
 {
@@ -117,8 +122,8 @@ pub fn facts_past_loop(
     alloc: Global,
     body: &[Step],
     step: &[Step],
-    known: &Known,
-) -> Result<Known, AllocError>
+    known: &KnownFacts,
+) -> Result<KnownFacts, AllocError>
     ensures { IfOk result (λ new. facts_by new
         ≡ facts_past_loop (actions_of body.now) (actions_of step.now) (facts_by known.now)) }
 {
@@ -126,7 +131,7 @@ pub fn facts_past_loop(
 }
 
 /// Behind a list of facts alone, of what it doesn't set.
-fn begin_unset(alloc: Global, facts: &[Fact], steps: &[Step]) -> Result<Known, AllocError>
+fn begin_unset(alloc: Global, facts: &[Fact], steps: &[Step]) -> Result<KnownFacts, AllocError>
     ensures { IfOk result (λ new. facts_by new
         ≡ at_begin (less (is_set (actions_of steps.now)) facts.now)) }
 {
@@ -136,7 +141,11 @@ fn begin_unset(alloc: Global, facts: &[Fact], steps: &[Step]) -> Result<Known, A
 }
 
 /// Where a loop's step begins, where this is known where a turn begins.
-pub fn facts_behind_turn(alloc: Global, body: &[Step], turn: &Known) -> Result<Known, AllocError>
+pub fn facts_behind_turn(
+    alloc: Global,
+    body: &[Step],
+    turn: &KnownFacts,
+) -> Result<KnownFacts, AllocError>
     ensures { IfOk result (λ new. facts_by new
         ≡ facts_behind_turn (actions_of body.now) (facts_by turn.now)) }
 {
@@ -174,7 +183,7 @@ fn counter_in(operand: Operand, body: &[Step], step: &[Step]) -> Option<u32>
 }
 
 /// A variable that only grows.
-fn growing_fact(variable: u32, known: &Known) -> Option<Fact>
+fn growing_fact(variable: u32, known: &KnownFacts) -> Option<Fact>
     ensures { listed result ≡ grows variable (bounds_in (facts_by known.now) variable) }
 {
     let bounds = bounds_in(known, variable);
@@ -193,7 +202,7 @@ fn growing_fact(variable: u32, known: &Known) -> Option<Fact>
 }
 
 /// What a loop's counter may be, by its test.
-fn guess_of(test: Test, body: &[Step], step: &[Step], known: &Known) -> Option<Fact>
+fn guess_of(test: Test, body: &[Step], step: &[Step], known: &KnownFacts) -> Option<Fact>
     ensures { listed result ≡ counters (counter_of test) (actions_of body.now)
         (actions_of step.now) (facts_by known.now) }
 {
@@ -207,7 +216,7 @@ fn guess_of(test: Test, body: &[Step], step: &[Step], known: &Known) -> Option<F
 }
 
 /// What a loop's counter may be.
-fn counter_guess(body: &[Step], step: &[Step], known: &Known) -> Option<Fact>
+fn counter_guess(body: &[Step], step: &[Step], known: &KnownFacts) -> Option<Fact>
     ensures { listed result
         ≡ guessed (actions_of body.now) (actions_of step.now) (facts_by known.now) }
 {
@@ -226,7 +235,11 @@ fn counter_guess(body: &[Step], step: &[Step], known: &Known) -> Option<Fact>
 }
 
 /// What is known behind a step, where that is an action behind which the list goes on.
-fn behind_step(memory: u32, known: Known, step: &Step) -> Result<Option<Known>, AllocError>
+fn behind_step(
+    memory: u32,
+    known: KnownFacts,
+    step: &Step,
+) -> Result<Option<KnownFacts>, AllocError>
     ensures { IfOk result (λ new. (k : Actions)
         → behind_straight memory (step_onto step.now k) (facts_by known)
         ≡ straight_on memory k (facts_if new)) }
@@ -242,7 +255,11 @@ fn behind_step(memory: u32, known: Known, step: &Step) -> Result<Option<Known>, 
 }
 
 /// What is known behind actions alone.
-fn behind_straight(memory: u32, known: Known, steps: &[Step]) -> Result<Option<Known>, AllocError>
+fn behind_straight(
+    memory: u32,
+    known: KnownFacts,
+    steps: &[Step],
+) -> Result<Option<KnownFacts>, AllocError>
     ensures { IfOk result (λ new. facts_if new
         ≡ behind_straight memory (actions_of steps.now) (facts_by known)) }
 {
@@ -262,8 +279,8 @@ fn turn_with(
     guess: Option<Fact>,
     body: &[Step],
     step: &[Step],
-    known: &Known,
-) -> Result<Known, AllocError>
+    known: &KnownFacts,
+) -> Result<KnownFacts, AllocError>
     ensures { IfOk result (λ new. facts_by new ≡ at_begin (listed guess ++ less
         (in_either (is_set (actions_of body.now)) (is_set (actions_of step.now)))
         (all_of (facts_by known.now)))) }
@@ -277,7 +294,7 @@ fn turn_with(
     Ok(at_begin(alloc, outer))
 }
 
-fn is_said(known: &Known, fact: Fact) -> bool
+fn is_said(known: &KnownFacts, fact: Fact) -> bool
     ensures { result ≡ is_said (facts_by known.now) fact }
 {
     match fact {
@@ -292,7 +309,7 @@ fn stays(
     memory: u32,
     body: &[Step],
     step: &[Step],
-    turn: &Known,
+    turn: &KnownFacts,
     guess: Fact,
 ) -> Result<bool, AllocError>
     ensures { IfOk result (λ holds. holds ≡ say (behind_straight memory (actions_of step.now)
@@ -311,8 +328,8 @@ pub fn facts_at_turn(
     memory: u32,
     body: &[Step],
     step: &[Step],
-    known: &Known,
-) -> Result<Known, AllocError>
+    known: &KnownFacts,
+) -> Result<KnownFacts, AllocError>
     ensures { IfOk result (λ new. facts_by new ≡ facts_at_turn memory (actions_of body.now)
         (actions_of step.now) (facts_by known.now)) }
 {

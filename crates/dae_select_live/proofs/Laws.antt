@@ -10,7 +10,7 @@ use Rattle.dae_ir.specs.declared.stream.Action.{Action}
 use Rattle.dae_ir.specs.declared.stream.Branch.{Branch}
 use Rattle.dae_ir.specs.declared.stream.Step.{Step, If', Loop', Row_of-Step, end_of-Step, more_of-Step, items-the_row-Step, items_hidden-the_row-Step-0}
 use Rattle.dae_ir.specs.declared.stream.Step.TheVariants as step
-use Rattle.dae_select_walks.specs.Live.{Ways, ways, live, before, none, with_all, decided}
+use Rattle.dae_select_walks.specs.Live.{LiveWays, ways, live, before, none, with_all, decided}
 use Rattle.dae_select_live.specs.Members.{member}
 pub use Rattle.dae_select_live.proofs.Several.{drop_get}
 use mathlib.Core.Former.{Count}
@@ -48,7 +48,7 @@ onto_loop m p q k =
 
 -- ---- one step
 
-pub live_acted : (s : Step) (m : Mark) (a : Action) (k : Actions) (x : Ways) (next set : VariableSet) → s ≡ step.Act m a → live k x ≡ next → set ≡ before a next x → set ≡ live (step_onto s k) x
+pub live_acted : (s : Step) (m : Mark) (a : Action) (k : Actions) (x : LiveWays) (next set : VariableSet) → s ≡ step.Act m a → live k x ≡ next → set ≡ before a next x → set ≡ live (step_onto s k) x
 live_acted s m a k x next set is e h = h ∙ (ap (λ (n : VariableSet). before a n x) (sym e) ∙ sym (ap (λ (z : Step). live (step_onto z k) x) is))
 
 pub live_branched : (s : Step) (m : Mark) (b : Branch) (p q : Vec Step Global) (k : Actions) (n leaves skips next one other set : VariableSet) → s ≡ step.If m b p q → live k (ways n leaves skips) ≡ next
@@ -69,10 +69,10 @@ live_looped s m p q k n leaves skips next again set is e h g =
 -- ---- a list
 
 -- so much is live before the steps from the j-th on
-abbrev pub LiveFrom : List Step → ℕ → Ways → VariableSet → Type 0
+abbrev pub LiveFrom : List Step → ℕ → LiveWays → VariableSet → Type 0
 LiveFrom steps j x set = live (actions_of (drop j steps)) x ≡ set
 
-pub live_one_more : (steps : List Step) (j : ℕ) (s : Step) (x : Ways) (set new : VariableSet) → 0 < j → j ≤ length steps → s ≡ get_or steps (j - 1) s → LiveFrom steps j x set
+pub live_one_more : (steps : List Step) (j : ℕ) (s : Step) (x : LiveWays) (set new : VariableSet) → 0 < j → j ≤ length steps → s ≡ get_or steps (j - 1) s → LiveFrom steps j x set
     → ((k : Actions) → live k x ≡ set → new ≡ live (step_onto s k) x) → LiveFrom steps (j - 1) x new
 live_one_more steps j s x set new some le is so_far h =
     let back : j - 1 + 1 ≡ j = omega arith in

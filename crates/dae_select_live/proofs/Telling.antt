@@ -15,16 +15,16 @@ use Rattle.dae_ir.specs.declared.stream.Action.TheVariants.{Break}
 use Rattle.dae_ir.specs.declared.stream.Branch.{Branch}
 use Rattle.dae_ir.specs.declared.stream.Step.{Step, Act, If', Loop'}
 use Rattle.dae_ir.specs.declared.stream.Step.TheVariants as step
-use Rattle.dae_select_walks.specs.Live.{Ways, ways, behind, live, turn, none, with_all, decided}
+use Rattle.dae_select_walks.specs.Live.{LiveWays, ways, behind, live, turn, none, with_all, decided}
 use Rattle.dae_select_walks.specs.Facts.{only_leaves}
 use Rattle.dae_select_walks.proofs.LawsOfWalks.{turn_adds}
 use Rattle.dae_select_live.specs.Members.{member}
-use Rattle.dae_select_live.specs.Turns.{key_of, IsTurn, IsTold, Told, TellsTurns, IsLater, AreLater, leaves_at_once}
+use Rattle.dae_select_live.specs.Turns.{key_of, IsTurn, IsTurnTold, Told, TellsTurns, IsLater, AreToldLater, leaves_at_once}
 use Rattle.dae_select_live.proofs.Laws.{onto_if, onto_loop}
 
 -- ---- turns that leave at once
 
-break_is_live : (q : Actions) (x : Ways) (u : ℕ) → only_leaves q ≡ true → x.leaves u ≡ true → live q x u ≡ true
+break_is_live : (q : Actions) (x : LiveWays) (u : ℕ) → only_leaves q ≡ true → x.leaves u ≡ true → live q x u ≡ true
 break_is_live (Do m Break Done) x u only h = ap (λ (b : Bool). b && not false) h
 break_is_live q x u only h = absurd cc
 
@@ -33,8 +33,8 @@ stays_live : (body step : Actions) → leaves_at_once body ≡ true → (n : Var
 stays_live Done step' at_once n u h = absurd cc
 stays_live (Do m a k) step' at_once n u h = absurd cc
 stays_live (If m b p q k) step' at_once n u h =
-    let x : Ways = ways (live step' (ways none n none)) n (live step' (ways none n none)) in
-    let inner : Ways = behind (live k x) x in
+    let x : LiveWays = ways (live step' (ways none n none)) n (live step' (ways none n none)) in
+    let inner : LiveWays = behind (live k x) x in
     or_right (decided b u) (live p inner u || live q inner u) (or_right (live p inner u) (live q inner u) (break_is_live q inner u at_once h))
 stays_live (Loop m body again k) step' at_once n u h = absurd cc
 
@@ -73,19 +73,19 @@ later_then (Some row) (Some other) (Some None) first second = tt
 later_then (Some row) (Some None) (Some (Some set)) first second = absurd cc
 later_then (Some row) (Some (Some other)) (Some (Some set)) first second = first ∙ second
 
-pub all_same : (told : Told) → AreLater told told
+pub all_same : (told : Told) → AreToldLater told told
 all_same told = λ k. same_later (told k)
 
-pub all_later : (one two three : Told) → AreLater one two → AreLater two three → AreLater one three
+pub all_later : (one two three : Told) → AreToldLater one two → AreToldLater two three → AreToldLater one three
 all_later one two three first second = λ k. later_then (one k) (two k) (three k) (first k) (second k)
 
-told_on : (body step' : Actions) (x y : Option (Option (List ℕ))) → IsLater x y → IsTold body step' x → IsTold body step' y
+told_on : (body step' : Actions) (x y : Option (Option (List ℕ))) → IsLater x y → IsTurnTold body step' x → IsTurnTold body step' y
 told_on body step' None y later told = absurd told
 told_on body step' (Some row) None later told = absurd later
 told_on body step' (Some row) (Some None) later told = tt
 told_on body step' (Some row) (Some (Some set)) later told = subst (IsTurn body step') later told
 
-pub tells_on : (old new : Told) → AreLater old new → (code : Actions) → TellsTurns old code → TellsTurns new code
+pub tells_on : (old new : Told) → AreToldLater old new → (code : Actions) → TellsTurns old code → TellsTurns new code
 tells_on old new later Done h = tt
 tells_on old new later (Do m a k) h = tells_on old new later k h
 tells_on old new later (If m b p q k) h =
@@ -96,17 +96,17 @@ tells_on old new later (Loop m body step' k) h =
 -- ---- one row is set
 
 module _ (old new : Told) (key : ℕ) (row : Option (List ℕ)) (set : (k : ℕ) → new k ≡ cond (nat_eq key k) (Some row) (old k)) where
-  pub put_later : ((k : ℕ) → nat_eq key k ≡ true → IsLater (old k) (Some row)) → AreLater old new
+  pub put_later : ((k : ℕ) → nat_eq key k ≡ true → IsLater (old k) (Some row)) → AreToldLater old new
   put_later here k = by (nat_eq key k) refl (set k)
     where
       by : (b : Bool) → nat_eq key k ≡ b → new k ≡ cond b (Some row) (old k) → IsLater (old k) (new k)
       by true is e = subst (λ (y : Option (Option (List ℕ))). IsLater (old k) y) (sym e) (here k is)
       by false is e = subst (λ (y : Option (Option (List ℕ))). IsLater (old k) y) (sym e) (same_later (old k))
 
-  pub put_told : (at : ℕ) → key ≡ at → (body step' : Actions) → IsTurn body step' row → IsTold body step' (new at)
+  pub put_told : (at : ℕ) → key ≡ at → (body step' : Actions) → IsTurn body step' row → IsTurnTold body step' (new at)
   put_told at is body step' told =
       let same : nat_eq key at ≡ true = eq-eqb key at is in
-      subst (λ (y : Option (Option (List ℕ))). IsTold body step' y) (sym (set at ∙ ap (λ (b : Bool). cond b (Some row) (old at)) same)) told
+      subst (λ (y : Option (Option (List ℕ))). IsTurnTold body step' y) (sym (set at ∙ ap (λ (b : Bool). cond b (Some row) (old at)) same)) told
 
   pub absent_later : is_some (old key) ≡ false → (k : ℕ) → nat_eq key k ≡ true → IsLater (old k) (Some row)
   absent_later absent k is = by (old k) (ap (λ (i : ℕ). is_some (old i)) (sym (eqb-true key k is)) ∙ absent)
@@ -125,7 +125,7 @@ module _ (told : Told) where
   tells_branched s m b p q k is first second rest =
       subst (TellsTurns told) (sym (ap (λ (z : Step). step_onto z k) is ∙ onto_if m b p q k)) (first, second, rest)
 
-  pub tells_looped : (s : Step) (m : Mark) (p q : Vec Step Global) (k : Actions) → s ≡ step.Loop m p q → IsTold (actions_of p.items) (actions_of q.items) (told (key_of m)) → TellsTurns told (actions_of p.items) → TellsTurns told (actions_of q.items) → TellsTurns told k → TellsTurns told (step_onto s k)
+  pub tells_looped : (s : Step) (m : Mark) (p q : Vec Step Global) (k : Actions) → s ≡ step.Loop m p q → IsTurnTold (actions_of p.items) (actions_of q.items) (told (key_of m)) → TellsTurns told (actions_of p.items) → TellsTurns told (actions_of q.items) → TellsTurns told k → TellsTurns told (step_onto s k)
   tells_looped s m p q k is here first second rest =
       subst (TellsTurns told) (sym (ap (λ (z : Step). step_onto z k) is ∙ onto_loop m p q k)) (here, first, second, rest)
 
@@ -135,7 +135,7 @@ module _ (told : Told) where
       let parts = subst (TellsTurns told) (ap (λ (z : Step). step_onto z Done) is ∙ onto_if m b p q Done) h in
       (parts.0, parts.1)
 
-  pub told_in_loop : (s : Step) (m : Mark) (p q : Vec Step Global) → s ≡ step.Loop m p q → TellsTurns told (step_onto s Done) → IsTold (actions_of p.items) (actions_of q.items) (told (key_of m)) × (TellsTurns told (actions_of p.items) × TellsTurns told (actions_of q.items))
+  pub told_in_loop : (s : Step) (m : Mark) (p q : Vec Step Global) → s ≡ step.Loop m p q → TellsTurns told (step_onto s Done) → IsTurnTold (actions_of p.items) (actions_of q.items) (told (key_of m)) × (TellsTurns told (actions_of p.items) × TellsTurns told (actions_of q.items))
   told_in_loop s m p q is h =
       let parts = subst (TellsTurns told) (ap (λ (z : Step). step_onto z Done) is ∙ onto_loop m p q Done) h in
       (parts.0, (parts.1, parts.2))
@@ -161,7 +161,7 @@ module _ (told : Told) where
   tells_none steps = (let none : drop (length steps) steps ≡ [] = drop_all (length steps) steps (omega arith) in rw none tt)
 
 -- one more step is walked over, the list's last one first
-pub tells_one_more : (old new : Told) (steps : List Step) (j : ℕ) (s : Step) → 0 < j → j ≤ length steps → s ≡ get_or steps (j - 1) s → TellsTurns old (actions_of (drop j steps)) → AreLater old new
+pub tells_one_more : (old new : Told) (steps : List Step) (j : ℕ) (s : Step) → 0 < j → j ≤ length steps → s ≡ get_or steps (j - 1) s → TellsTurns old (actions_of (drop j steps)) → AreToldLater old new
     → ((k : Actions) → TellsTurns new k → TellsTurns new (step_onto s k)) → TellsTurns new (actions_of (drop (j - 1) steps))
 tells_one_more old new steps j s some le is so_far later one =
     let back : j - 1 + 1 ≡ j = omega arith in
@@ -169,7 +169,7 @@ tells_one_more old new steps j s some le is so_far later one =
     subst (λ (l : List Step). TellsTurns new (actions_of l)) (sym here) (one (actions_of (drop j steps)) (tells_on old new later (actions_of (drop j steps)) so_far))
 
 -- with no step nothing more is live
-pub live_none : (steps : List Step) (x : Ways) → live (actions_of (drop (length steps) steps)) x ≡ x.next
+pub live_none : (steps : List Step) (x : LiveWays) → live (actions_of (drop (length steps) steps)) x ≡ x.next
 live_none steps x = (let none : drop (length steps) steps ≡ [] = drop_all (length steps) steps (omega arith) in rw none refl)
 
 -- ---- the test whether a turn leaves at once

@@ -22,9 +22,9 @@ IsTurn body step None = Unit {0}
 IsTurn body step (Some set) = (n : VariableSet) → turn body step n ≡ with_all (member set) n
 
 -- something is told, and it is so
-abbrev pub IsTold : Actions → Actions → Option (Option (List ℕ)) → Type 0
-IsTold body step None = ⊥
-IsTold body step (Some row) = IsTurn body step row
+abbrev pub IsTurnTold : Actions → Actions → Option (Option (List ℕ)) → Type 0
+IsTurnTold body step None = ⊥
+IsTurnTold body step (Some row) = IsTurn body step row
 
 -- a turn may leave the loop at its begin
 abbrev pub leaves_at_once : Actions → Bool
@@ -37,8 +37,8 @@ leaves_at_once code = false
 abbrev pub Told : Type 0
 Told = ℕ → Option (Option (List ℕ))
 
-abbrev pub told_by : Turns → Told
-told_by turns k = get nat_eq turns.rows k
+abbrev pub turns_told : Turns → Told
+turns_told turns k = get nat_eq turns.rows k
 
 -- each loop is told of
 abbrev pub TellsTurns : Told → Actions → Type 0
@@ -46,7 +46,7 @@ TellsTurns told Done = Unit {0}
 TellsTurns told (Do m a k) = TellsTurns told k
 TellsTurns told (If m b p q k) = TellsTurns told p × TellsTurns told q × TellsTurns told k
 TellsTurns told (Loop m body step k) =
-    IsTold body step (told (key_of m)) × TellsTurns told body × TellsTurns told step × TellsTurns told k
+    IsTurnTold body step (told (key_of m)) × TellsTurns told body × TellsTurns told step × TellsTurns told k
 
 -- what was told of a place is told later, or nothing is
 abbrev pub IsLater : Option (Option (List ℕ)) → Option (Option (List ℕ)) → Type 0
@@ -55,5 +55,5 @@ IsLater (Some row) None = ⊥
 IsLater (Some row) (Some None) = Unit {0}
 IsLater (Some row) (Some (Some set)) = row ≡ Some set
 
-abbrev pub AreLater : Told → Told → Type 0
-AreLater old new = (k : ℕ) → IsLater (old k) (new k)
+abbrev pub AreToldLater : Told → Told → Type 0
+AreToldLater old new = (k : ℕ) → IsLater (old k) (new k)

@@ -6,8 +6,8 @@ ghost use Rattle.dae_ir.specs.Streams.{Actions, actions_of, step_onto};
 ghost use Rattle.dae_select_walks.specs.Live.{ways, live, turn, none, with_all};
 ghost use Rattle.dae_select_live.specs.Members.{member};
 ghost use Rattle.dae_select_live.specs.Before.{IsLiveBefore};
-ghost use Rattle.dae_select_live.specs.Turns.{key_of, IsTurn, IsTold, told_by, TellsTurns};
-ghost use Rattle.dae_select_live.specs.Turns.{AreLater, leaves_at_once};
+ghost use Rattle.dae_select_live.specs.Turns.{key_of, IsTurn, IsTurnTold, turns_told, TellsTurns};
+ghost use Rattle.dae_select_live.specs.Turns.{AreToldLater, leaves_at_once};
 
 use crate::LiveSet;
 use crate::leaving::only_leaves;
@@ -39,7 +39,7 @@ fn key_of(mark: Mark) -> u64
 }
 
 fn has_row(turns: &Turns, key: u64) -> bool
-    ensures { result ≡ is_some (told_by turns.now key) }
+    ensures { result ≡ is_some (turns_told turns.now key) }
 {
     match turns.rows.get(&key) {
         Some(_) => true,
@@ -49,7 +49,7 @@ fn has_row(turns: &Turns, key: u64) -> bool
 
 fn set_row(turns: &mut Turns, key: u64, row: Option<LiveSet>) -> Result<(), AllocError>
     ensures { OnOk result ((k : ℕ)
-        → told_by turns.new k ≡ cond (nat_eq key k) (Some row) (told_by turns.old k)) }
+        → turns_told turns.new k ≡ cond (nat_eq key k) (Some row) (turns_told turns.old k)) }
 {
     turns.rows.insert(key, row)?;
     Ok(())
@@ -57,9 +57,9 @@ fn set_row(turns: &mut Turns, key: u64, row: Option<LiveSet>) -> Result<(), Allo
 
 /// A loop is told of; but where another one at its place was, nothing is told of them.
 fn tell_turn(turns: &mut Turns, mark: Mark, row: Option<LiveSet>) -> Result<(), AllocError>
-    ensures later { OnOk result (AreLater (told_by turns.old) (told_by turns.new)) }
+    ensures later { OnOk result (AreToldLater (turns_told turns.old) (turns_told turns.new)) }
     ensures told { OnOk result ((body step : Actions) → IsTurn body step row
-        → IsTold body step (told_by turns.new (key_of mark))) }
+        → IsTurnTold body step (turns_told turns.new (key_of mark))) }
 {
     let key = key_of(mark);
     if has_row(turns, key) {
@@ -140,9 +140,9 @@ fn tell_in_step(
     skips: &LiveSet,
 ) -> Result<LiveSet, AllocError>
     ensures live { IfOk result (λ set. IsLiveBefore step.now next leaves.now skips.now set) }
-    ensures told { OnOk result ((k : Actions) → TellsTurns (told_by turns.new) k
-        → TellsTurns (told_by turns.new) (step_onto step.now k)) }
-    ensures later { OnOk result (AreLater (told_by turns.old) (told_by turns.new)) }
+    ensures told { OnOk result ((k : Actions) → TellsTurns (turns_told turns.new) k
+        → TellsTurns (turns_told turns.new) (step_onto step.now k)) }
+    ensures later { OnOk result (AreToldLater (turns_told turns.old) (turns_told turns.new)) }
 {
     let alloc = turns.alloc;
     match step {
@@ -180,8 +180,8 @@ fn tell_in_list(
 ) -> Result<LiveSet, AllocError>
     ensures live { IfOk result (λ set. member set
         ≡ live (actions_of steps.now) (ways (member next) (member leaves.now) (member skips.now))) }
-    ensures told { OnOk result (TellsTurns (told_by turns.new) (actions_of steps.now)) }
-    ensures later { OnOk result (AreLater (told_by turns.old) (told_by turns.new)) }
+    ensures told { OnOk result (TellsTurns (turns_told turns.new) (actions_of steps.now)) }
+    ensures later { OnOk result (AreToldLater (turns_told turns.old) (turns_told turns.new)) }
 {
     let mut set = next;
     for index in (0..steps.len()).rev() {
@@ -192,7 +192,7 @@ fn tell_in_list(
 
 /// What is told of the loops of a function with this body.
 pub fn tell_turns(alloc: Global, body: &[Step]) -> Result<Turns, AllocError>
-    ensures { IfOk result (λ turns. TellsTurns (told_by turns) (actions_of body.now)) }
+    ensures { IfOk result (λ turns. TellsTurns (turns_told turns) (actions_of body.now)) }
 {
     let mut turns = Turns {
         alloc,
@@ -244,8 +244,8 @@ pub fn live_at_turn(
     step: &[Step],
     next: &LiveSet,
 ) -> Result<LiveSet, AllocError>
-    requires { IsTold (actions_of body.now) (actions_of step.now)
-        (told_by turns.now (key_of mark)) }
+    requires { IsTurnTold (actions_of body.now) (actions_of step.now)
+        (turns_told turns.now (key_of mark)) }
     ensures { IfOk result (λ set. member set
         ≡ turn (actions_of body.now) (actions_of step.now) (member next.now)) }
 {

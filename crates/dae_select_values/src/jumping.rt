@@ -187,19 +187,19 @@ fn goes_code(
 
 /// How two registers are to compare.
 #[derive(Clone, Copy)]
-struct Compared {
+struct ComparedRegisters {
     relation: Comparison,
     first: u8,
     second: u8,
 }
 
 /// The operands of a test, which are in their registers, as they compare along an edge.
-fn compared_operands(homes: HomeTable, test: Test, edge: Edge) -> Compared
+fn compared_operands(homes: HomeTable, test: Test, edge: Edge) -> ComparedRegisters
     ensures relation { result.relation ≡ one_way (is_then edge) test.comparison }
     ensures first { result.first ≡ source (home_by homes.entry) 5 test.left }
     ensures second { result.second ≡ source (home_by homes.entry) 6 test.right }
 {
-    Compared {
+    ComparedRegisters {
         relation: one_way(edge, test.comparison),
         first: source(homes, 5, test.left),
         second: source(homes, 6, test.right),
@@ -243,7 +243,7 @@ fn told_front(
     homes: HomeTable,
     test: Test,
     edge: Edge,
-) -> Result<Compared, AllocError>
+) -> Result<ComparedRegisters, AllocError>
     requires { AreNear homes }
     ensures { IfOk result (λ c. IsFront (told_by
         (immediate_of (home_by homes.entry) test.comparison test.right) (home_by homes.entry)) test
@@ -257,7 +257,7 @@ fn told_front(
         Some(number) => {
             fetch(code, homes, 5, test.left)?;
             tell_number(code, test.comparison, source(homes, 5, test.left), number)?;
-            Ok(Compared {
+            Ok(ComparedRegisters {
                 relation: one_way(edge, against_zero(test.comparison)),
                 first: 7,
                 second: 0,
@@ -272,7 +272,7 @@ fn branch_front(
     homes: HomeTable,
     branch: Branch,
     edge: Edge,
-) -> Result<Compared, AllocError>
+) -> Result<ComparedRegisters, AllocError>
     requires { AreNear homes }
     ensures { IfOk result (λ c. IsFront (branch_by (home_by homes.entry)) branch
         (is_then edge) code.old.items code.new.items c.relation c.first c.second) }
@@ -285,7 +285,7 @@ fn branch_front(
         }
         Branch::Tells(test) => told_front(code, homes, test, edge),
         Branch::Hears => {
-            Ok(Compared {
+            Ok(ComparedRegisters {
                 relation: one_way(edge, Comparison::NotEqual),
                 first: 29,
                 second: 0,
@@ -308,7 +308,7 @@ pub fn branch_code(
         ++ branch_code (home_by homes.entry) (is_jal form) branch (is_then edge) words) }
 {
     let compared = branch_front(code, homes, branch, edge)?;
-    let Compared {
+    let ComparedRegisters {
         relation,
         first,
         second,
@@ -339,7 +339,7 @@ pub fn back_branch(
     let mut block = Vec::new(alloc);
     let compared = branch_front(&mut block, homes, branch, Edge::Then)?;
     let distance = words + block.len() as u64;
-    let Compared {
+    let ComparedRegisters {
         relation,
         first,
         second,

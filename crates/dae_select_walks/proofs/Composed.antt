@@ -4,10 +4,10 @@ use Rattle.dae_encode.specs.declared.QueueUse.TheVariants.{Nothing}
 use Rattle.dae_encode.specs.Processor.{Processor}
 use Rattle.dae_meaning.specs.Variables.{Env}
 use Rattle.dae_ir.specs.Deeds.{Deed, Went, Take, Push, Reserve, Send, Say, Halts}
-use Rattle.dae_select_walks.specs.Walks.{Setting, Event, Happens, Quietly, Stays, Moves, Comes, Nears, Acts}
+use Rattle.dae_select_walks.specs.Walks.{WalkSetting, QueueEvent, Happens, Quietly, Stays, Moves, Comes, Nears, Acts}
 use Rattle.dae_select_walks.specs.Does.{Does, event}
 
-module _ (s : Setting) where
+module _ (s : WalkSetting) where
   counted : {m n : ℕ} {p q : Processor} → m ≡ n → Quietly s m p q → Quietly s n p q
   counted {p = p} {q = q} e w = subst (λ (k : ℕ). Quietly s k p q) e w
 
@@ -38,7 +38,7 @@ module _ (s : Setting) where
       let short = c.short in
       record { last = c.last; steps = suc c.steps; quiet = Moves g c.quiet; short = omega arith; holds = c.holds }
 
-  pub acts_map : {p : Processor} {e : Event} {Q R : Processor → Type 0} → ((q : Processor) → Q q → R q) → Acts s p e Q → Acts s p e R
+  pub acts_map : {p : Processor} {e : QueueEvent} {Q R : Processor → Type 0} → ((q : Processor) → Q q → R q) → Acts s p e Q → Acts s p e R
   acts_map f a = record { next = a.next; goes = a.goes; holds = f a.next a.holds }
 
   pub nears_here : {n : ℕ} {p : Processor} {Q : ℕ → Processor → Type 0} (l : ℕ) → l + 1 ≤ n → Q l p → Nears s n p Q

@@ -8,7 +8,7 @@ use Rattle.dae_ir.specs.Classes.{VariableSet}
 use Rattle.dae_ir.specs.Streams.{Actions}
 use Rattle.dae_ir.specs.declared.stream.Action.{Action}
 use Rattle.dae_ir.specs.declared.stream.Action.TheVariants.{Stop, Break, Continue, Return}
-use Rattle.dae_select_walks.specs.Live.{none, reads, sets, decided, Ways, ways, behind, after, live, turn, step_ways, body_ways, with_all}
+use Rattle.dae_select_walks.specs.Live.{none, reads, sets, decided, LiveWays, ways, behind, after, live, turn, step_ways, body_ways, with_all}
 
 or_map : (a b c d : Bool) → (a ≡ true → c ≡ true) → (b ≡ true → d ≡ true) → (a || b) ≡ true → (c || d) ≡ true
 or_map true b c d f g h = or_left c d (f refl)
@@ -19,12 +19,12 @@ and_map true b c f h = (let e = f refl in cc)
 and_map false b c f h = absurd cc
 
 -- at one variable: what is live behind by the one is so by the other
-pub record Within (u : ℕ) (x y : Ways) : Type 0 where
+pub record Within (u : ℕ) (x y : LiveWays) : Type 0 where
   pub next : x.next u ≡ true → y.next u ≡ true
   pub leaves : x.leaves u ≡ true → y.leaves u ≡ true
   pub skips : x.skips u ≡ true → y.skips u ≡ true
 
-after_grows : (a : Action) (u : ℕ) (k k' : VariableSet) (x y : Ways) → (k u ≡ true → k' u ≡ true) → Within u x y → after a k x u ≡ true → after a k' y u ≡ true
+after_grows : (a : Action) (u : ℕ) (k k' : VariableSet) (x y : LiveWays) → (k u ≡ true → k' u ≡ true) → Within u x y → after a k x u ≡ true → after a k' y u ≡ true
 after_grows Break u k k' x y f w h = w.leaves h
 after_grows Continue u k k' x y f w h = w.skips h
 after_grows (Stop z) u k k' x y f w h = h
@@ -32,7 +32,7 @@ after_grows (Return z) u k k' x y f w h = h
 after_grows a u k k' x y f w h = f h
 
 -- the same of what is live before
-pub live_grows : (code : Actions) (u : ℕ) (x y : Ways) → Within u x y → live code x u ≡ true → live code y u ≡ true
+pub live_grows : (code : Actions) (u : ℕ) (x y : LiveWays) → Within u x y → live code x u ≡ true → live code y u ≡ true
 live_grows Done u x y w h = w.next h
 live_grows (Do m a k) u x y w h =
     or_map (reads a u) (after a (live k x) x u && not (sets a u)) (reads a u) (after a (live k y) y u && not (sets a u)) (λ e. e)

@@ -10,23 +10,23 @@ use Rattle.dae_ir.specs.declared.stream.Mark.{Mark}
 use Rattle.dae_ir.specs.declared.stream.Branch.{Branch}
 use Rattle.dae_ir.specs.declared.stream.Action.{Action}
 use Rattle.dae_ir.specs.declared.stream.Action.TheVariants.{Stop, Break, Continue, Return}
-use Rattle.dae_select_walks.specs.Live.{Ways, ways, behind, none, reads, sets, decided, after, live, turn}
+use Rattle.dae_select_walks.specs.Live.{LiveWays, ways, behind, none, reads, sets, decided, after, live, turn}
 use Rattle.dae_select_walks.specs.Paths.{way_of, IsInner, IsOut, Passes, Ends, Goes, Jumps, First, Second, OutFirst, OutSecond, Turns, Rounds, OutOfBody, OutOfStep, Again, Reads, Here, Later, Decides, InFirst, InSecond, BehindFirst, BehindSecond, InBody, InStep, NextTurn, BehindLoop, at_way, IsLive, Inside, Outside}
 
 -- what is live behind an action that goes on, and where one jumps
-next_after : (a : Action) (k : VariableSet) (x : Ways) (u : ℕ) → way_of a ≡ Next → after a k x u ≡ k u
+next_after : (a : Action) (k : VariableSet) (x : LiveWays) (u : ℕ) → way_of a ≡ Next → after a k x u ≡ k u
 next_after Break k x u e = absurd cc
 next_after Continue k x u e = absurd cc
 next_after (Stop y) k x u e = absurd cc
 next_after (Return y) k x u e = absurd cc
 next_after a k x u e = refl
 
-jump_after : (a : Action) (k : VariableSet) (x : Ways) (u : ℕ) (way : Way) → way_of a ≡ way → IsOut way → (after a k x u ≡ at_way x way u) × (sets a u ≡ false)
+jump_after : (a : Action) (k : VariableSet) (x : LiveWays) (u : ℕ) (way : Way) → way_of a ≡ way → IsOut way → (after a k x u ≡ at_way x way u) × (sets a u ≡ false)
 jump_after Break k x u way e out = rw (← e) (refl, refl)
 jump_after Continue k x u way e out = rw (← e) (refl, refl)
 jump_after a k x u way e out = absurd (rw (← e) at out)
 
-at_out : (x : Ways) (k : VariableSet) (way : Way) (u : ℕ) → IsOut way → at_way x way u ≡ true → at_way (behind k x) way u ≡ true
+at_out : (x : LiveWays) (k : VariableSet) (way : Way) (u : ℕ) → IsOut way → at_way x way u ≡ true → at_way (behind k x) way u ≡ true
 at_out x k Leaves u out h = h
 at_out x k Skips u out h = h
 at_out x k Next u out h = absurd out
@@ -41,7 +41,7 @@ at_inner s k Returns u i h = absurd i
 -- ---- a path shows what is live
 
 mutual
-  passes_live : {u : ℕ} {code : Actions} {way : Way} (x : Ways) → Passes u code way → at_way x way u ≡ true → live code x u ≡ true
+  passes_live : {u : ℕ} {code : Actions} {way : Way} (x : LiveWays) → Passes u code way → at_way x way u ≡ true → live code x u ≡ true
   passes_live x Ends h = h
   passes_live {u} x (Goes {a = a} {k = k} e n p) h = rw (next_after a (live k x) x u e, passes_live x p h, n) (or_right (reads a u) true refl)
   passes_live {u} x (Jumps {a = a} {k = k} {way = way} e out) h = (let j = jump_after a (live k x) x u way e out in rw (j.0, j.1, h) (or_right (reads a u) true refl))
@@ -57,7 +57,7 @@ mutual
       passes_live (ways (live step (ways none k none)) k (live step (ways none k none))) p (at_inner (live step (ways none k none)) k way u i (passes_live (ways none k none) q h))
   rounds_live k (Again i j p q r) h = rounds_live k r h
 
-reads_live : {u : ℕ} {code : Actions} (x : Ways) → Reads u code → live code x u ≡ true
+reads_live : {u : ℕ} {code : Actions} (x : LiveWays) → Reads u code → live code x u ≡ true
 reads_live x (Here {a = a} {k = k} e) = rw e refl
 reads_live {u} x (Later {a = a} {k = k} e n r) = rw (next_after a (live k x) x u e, reads_live x r, n) (or_right (reads a u) true refl)
 reads_live x (Decides e) = rw e refl
@@ -71,65 +71,65 @@ reads_live {u} x (InStep {step = step} {k = k} {way = way} i f r) =
 reads_live x (NextTurn i j f g r) = reads_live x r
 reads_live x (BehindLoop {k = k} r s) = rounds_live (live k x) r (reads_live x s)
 
-pub path_live : {u : ℕ} {code : Actions} (x : Ways) → IsLive u code x → live code x u ≡ true
+pub path_live : {u : ℕ} {code : Actions} (x : LiveWays) → IsLive u code x → live code x u ≡ true
 path_live x (Inside r) = reads_live x r
 path_live x (Outside way p h) = passes_live x p h
 
 -- ---- what is live has a path
 
 -- behind an action that goes on
-goes_on : {u : ℕ} {k : Actions} {x : Ways} (m : Mark) (a : Action) → way_of a ≡ Next → sets a u ≡ false → IsLive u k x → IsLive u (Do m a k) x
+goes_on : {u : ℕ} {k : Actions} {x : LiveWays} (m : Mark) (a : Action) → way_of a ≡ Next → sets a u ≡ false → IsLive u k x → IsLive u (Do m a k) x
 goes_on m a e n (Inside r) = Inside (Later e n r)
 goes_on m a e n (Outside way p h) = Outside way (Goes e n p) h
 
-acted : {u : ℕ} {k : Actions} {x : Ways} (m : Mark) (a : Action) → sets a u ≡ false → after a (live k x) x u ≡ true → (live k x u ≡ true → IsLive u k x) → IsLive u (Do m a k) x
+acted : {u : ℕ} {k : Actions} {x : LiveWays} (m : Mark) (a : Action) → sets a u ≡ false → after a (live k x) x u ≡ true → (live k x u ≡ true → IsLive u k x) → IsLive u (Do m a k) x
 acted m Break n h later = Outside Leaves (Jumps refl tt) h
 acted m Continue n h later = Outside Skips (Jumps refl tt) h
 acted m (Stop y) n h later = absurd cc
 acted m (Return y) n h later = absurd cc
 acted m a n h later = goes_on m a refl n (later h)
 
-behind_first : {u : ℕ} {p q k : Actions} {x : Ways} (m : Mark) (b : Branch) → Passes u p Next → IsLive u k x → IsLive u (If m b p q k) x
+behind_first : {u : ℕ} {p q k : Actions} {x : LiveWays} (m : Mark) (b : Branch) → Passes u p Next → IsLive u k x → IsLive u (If m b p q k) x
 behind_first m b f (Inside r) = Inside (BehindFirst f r)
 behind_first m b f (Outside way g h) = Outside way (First f g) h
 
-behind_second : {u : ℕ} {p q k : Actions} {x : Ways} (m : Mark) (b : Branch) → Passes u q Next → IsLive u k x → IsLive u (If m b p q k) x
+behind_second : {u : ℕ} {p q k : Actions} {x : LiveWays} (m : Mark) (b : Branch) → Passes u q Next → IsLive u k x → IsLive u (If m b p q k) x
 behind_second m b f (Inside r) = Inside (BehindSecond f r)
 behind_second m b f (Outside way g h) = Outside way (Second f g) h
 
-in_first : {u : ℕ} {p q k : Actions} {x : Ways} (m : Mark) (b : Branch) → IsLive u p (behind (live k x) x) → (live k x u ≡ true → IsLive u k x) → IsLive u (If m b p q k) x
+in_first : {u : ℕ} {p q k : Actions} {x : LiveWays} (m : Mark) (b : Branch) → IsLive u p (behind (live k x) x) → (live k x u ≡ true → IsLive u k x) → IsLive u (If m b p q k) x
 in_first m b (Inside r) later = Inside (InFirst r)
 in_first m b (Outside Next f h) later = behind_first m b f (later h)
 in_first m b (Outside Leaves f h) later = Outside Leaves (OutFirst tt f) h
 in_first m b (Outside Skips f h) later = Outside Skips (OutFirst tt f) h
 in_first m b (Outside Returns f h) later = absurd cc
 
-in_second : {u : ℕ} {p q k : Actions} {x : Ways} (m : Mark) (b : Branch) → IsLive u q (behind (live k x) x) → (live k x u ≡ true → IsLive u k x) → IsLive u (If m b p q k) x
+in_second : {u : ℕ} {p q k : Actions} {x : LiveWays} (m : Mark) (b : Branch) → IsLive u q (behind (live k x) x) → (live k x u ≡ true → IsLive u k x) → IsLive u (If m b p q k) x
 in_second m b (Inside r) later = Inside (InSecond r)
 in_second m b (Outside Next f h) later = behind_second m b f (later h)
 in_second m b (Outside Leaves f h) later = Outside Leaves (OutSecond tt f) h
 in_second m b (Outside Skips f h) later = Outside Skips (OutSecond tt f) h
 in_second m b (Outside Returns f h) later = absurd cc
 
-behind_loop : {u : ℕ} {body step k : Actions} {x : Ways} (m : Mark) → Rounds u body step → IsLive u k x → IsLive u (Loop m body step k) x
+behind_loop : {u : ℕ} {body step k : Actions} {x : LiveWays} (m : Mark) → Rounds u body step → IsLive u k x → IsLive u (Loop m body step k) x
 behind_loop m r (Inside s) = Inside (BehindLoop r s)
 behind_loop m r (Outside way g h) = Outside way (Turns r g) h
 
-in_step : {u : ℕ} {body step k : Actions} {x : Ways} (m : Mark) (way : Way) → IsInner way → Passes u body way → IsLive u step (ways none (live k x) none) → (live k x u ≡ true → IsLive u k x) → IsLive u (Loop m body step k) x
+in_step : {u : ℕ} {body step k : Actions} {x : LiveWays} (m : Mark) (way : Way) → IsInner way → Passes u body way → IsLive u step (ways none (live k x) none) → (live k x u ≡ true → IsLive u k x) → IsLive u (Loop m body step k) x
 in_step m way i f (Inside r) later = Inside (InStep i f r)
 in_step m way i f (Outside Next g h) later = absurd cc
 in_step m way i f (Outside Skips g h) later = absurd cc
 in_step m way i f (Outside Leaves g h) later = behind_loop m (OutOfStep i f g) (later h)
 in_step m way i f (Outside Returns g h) later = absurd cc
 
-in_body : {u : ℕ} {body step k : Actions} {x : Ways} (m : Mark) → IsLive u body (ways (live step (ways none (live k x) none)) (live k x) (live step (ways none (live k x) none))) → (live step (ways none (live k x) none) u ≡ true → IsLive u step (ways none (live k x) none)) → (live k x u ≡ true → IsLive u k x) → IsLive u (Loop m body step k) x
+in_body : {u : ℕ} {body step k : Actions} {x : LiveWays} (m : Mark) → IsLive u body (ways (live step (ways none (live k x) none)) (live k x) (live step (ways none (live k x) none))) → (live step (ways none (live k x) none) u ≡ true → IsLive u step (ways none (live k x) none)) → (live k x u ≡ true → IsLive u k x) → IsLive u (Loop m body step k) x
 in_body m (Inside r) again later = Inside (InBody r)
 in_body m (Outside Next f h) again later = in_step m Next tt f (again h) later
 in_body m (Outside Skips f h) again later = in_step m Skips tt f (again h) later
 in_body m (Outside Leaves f h) again later = behind_loop m (OutOfBody f) (later h)
 in_body m (Outside Returns f h) again later = absurd cc
 
-pub live_path : (code : Actions) (x : Ways) (u : ℕ) → live code x u ≡ true → IsLive u code x
+pub live_path : (code : Actions) (x : LiveWays) (u : ℕ) → live code x u ≡ true → IsLive u code x
 live_path Done x u h = Outside Next Ends h
 live_path (Do m a k) x u h = elim (or_cases (reads a u) (after a (live k x) x u && not (sets a u)) h) [
   | inl e ↦ Inside (Here e)

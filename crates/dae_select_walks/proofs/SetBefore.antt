@@ -19,7 +19,7 @@ use Rattle.dae_ir.specs.declared.stream.Action.{Action}
 use Rattle.dae_ir.specs.declared.stream.Action.TheVariants.{Set as Compute, Issue, Own, Receive, Address, Datum, Offer, Accept, Emit, Probe, Tell, Hear, Stop, Break, Continue, Call, Return}
 use Rattle.dae_ir.specs.declared.stream.Branch.{Branch}
 use Rattle.dae_ir.specs.declared.stream.Branch.TheVariants.{Silent, Tells, Hears}
-use Rattle.dae_select_walks.specs.Live.{none, in_operand, in_option, in_value, in_check, in_arguments, reads, sets, decided, Ways, ways, behind, after, live}
+use Rattle.dae_select_walks.specs.Live.{none, in_operand, in_option, in_value, in_check, in_arguments, reads, sets, decided, LiveWays, ways, behind, after, live}
 
 -- ---- what is read was set
 
@@ -128,7 +128,7 @@ split' false true true h = inr (refl, refl)
 split' false true false h = absurd cc
 split' false false c h = absurd cc
 
-behind_set : (d : VariableSet) (a : Action) (k : VariableSet) (x : Ways) (u : ℕ) → (k u ≡ true → after_action d a u ≡ true) → (x.leaves u ≡ true → d u ≡ true) → (x.skips u ≡ true → d u ≡ true) → after a k x u ≡ true → not (sets a u) ≡ true → d u ≡ true
+behind_set : (d : VariableSet) (a : Action) (k : VariableSet) (x : LiveWays) (u : ℕ) → (k u ≡ true → after_action d a u ≡ true) → (x.leaves u ≡ true → d u ≡ true) → (x.skips u ≡ true → d u ≡ true) → after a k x u ≡ true → not (sets a u) ≡ true → d u ≡ true
 behind_set d (Compute v y) k x u f l s h n = unset v u (d u) (f h) n
 behind_set d (Own v kind y) k x u f l s h n = unset v u (d u) (f h) n
 behind_set d (Receive v) k x u f l s h n = unset v u (d u) (f h) n
@@ -141,7 +141,7 @@ behind_set d (Stop y) k x u f l s h n = absurd cc
 behind_set d (Return y) k x u f l s h n = absurd cc
 behind_set d a k x u f l s h n = f h
 
-pub live_set : (code : Actions) (d : VariableSet) (x : Ways) → IsSetFirst stream_flow d code → ((u : ℕ) → x.next u ≡ true → assured stream_flow d code u ≡ true) → ((u : ℕ) → x.leaves u ≡ true → d u ≡ true) → ((u : ℕ) → x.skips u ≡ true → d u ≡ true) → (u : ℕ) → live code x u ≡ true → d u ≡ true
+pub live_set : (code : Actions) (d : VariableSet) (x : LiveWays) → IsSetFirst stream_flow d code → ((u : ℕ) → x.next u ≡ true → assured stream_flow d code u ≡ true) → ((u : ℕ) → x.leaves u ≡ true → d u ≡ true) → ((u : ℕ) → x.skips u ≡ true → d u ≡ true) → (u : ℕ) → live code x u ≡ true → d u ≡ true
 live_set Done d x first next leaves skips u h = next u h
 live_set (Do m a k) d x first next leaves skips u h =
     elim (split' (reads a u) (after a (live k x) x u) (not (sets a u)) h) [

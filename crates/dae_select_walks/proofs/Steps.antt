@@ -15,14 +15,14 @@ use Rattle.dae_encode.specs.declared.Fault.TheVariants.{Private}
 use Rattle.dae_encode.specs.declared.Request.TheVariants.{Asks}
 use Rattle.dae_encode.specs.declared.Inst.{Inst}
 use Rattle.dae_encode.specs.declared.Inst.TheVariants.{Lw, Sw, Ecall}
-use Rattle.dae_encode.specs.declared.Form.TheVariants.{Computes, Loads, Stores}
+use Rattle.dae_encode.specs.declared.InstructionForm.TheVariants.{Computes, Loads, Stores}
 use Rattle.dae_encode.specs.declared.Halt.{Halt}
 use Rattle.dae_encode.specs.declared.Halt.TheVariants.{Plain}
 use Rattle.dae_encode.specs.Instructions.{Effect, DoesCompute, DoesLoad, DoesStore, effect, form_of, form, value_of, value, next_of, next}
 use Rattle.dae_encode.specs.Spelling.{decode}
 use Rattle.dae_encode.specs.Uses.{queue_use}
 use Rattle.dae_encode.specs.Processor.{Processor, held, operand, address, with_result, early_fault, put_word, decoded, if_no_fault, request, finish, is_within, is_good_private, called, prints, halts}
-use Rattle.dae_select_walks.specs.Walks.{Setting, Acts}
+use Rattle.dae_select_walks.specs.Walks.{WalkSetting, Acts}
 use Rattle.dae_select_walks.specs.Does.{event}
 use Rattle.dae_select_walks.specs.Homes.{Contents}
 use Rattle.dae_select_walks.specs.Agrees.{Shows}
@@ -57,7 +57,7 @@ next_is : (i : Inst) (e : Effect) (pc x y : ℕ) → effect i ≡ e → next i p
 unfolding next
 next_is i e pc x y h = ap (λ f. next_of f pc x y) h
 
-module _ (s : Setting) (private : ℕ) where
+module _ (s : WalkSetting) (private : ℕ) where
   -- a processor that goes on asks what the instruction at its counter asks
   pub request_at : {c : Contents} {k : ℕ} {p : Processor} (w : ℕ) (i : Inst) → Shows private c k p → slice_get s.code k ≡ Some w → decode w ≡ Some i → request s.copies s.side s.code s.memory p ≡ decoded s.copies s.side s.memory p (Some i)
   unfolding request
@@ -267,7 +267,7 @@ module _ (s : Setting) (private : ℕ) where
 
 -- ---- the environment call
 
-module _ (s : Setting) (private : ℕ) (by_e : s.side ≡ E) where
+module _ (s : WalkSetting) (private : ℕ) (by_e : s.side ≡ E) where
   spoken : {c : Contents} {k : ℕ} {p : Processor} (w what : ℕ) → Shows private c k p → slice_get s.code k ≡ Some w → decode w ≡ Some Ecall → c.register 17 ≡ what → what ≤ 5 → request s.copies s.side s.code s.memory p ≡ Asks Nothing 0 Ecall
   unfolding form queue_use early_fault put_word
   spoken {c} {k} {p} w what h here is selects known =
@@ -306,7 +306,7 @@ module _ (s : Setting) (private : ℕ) (by_e : s.side ≡ E) where
       }
 
 -- A halts
-pub step_stops : (s : Setting) (private : ℕ) → s.side ≡ A → {c : Contents} {k : ℕ} {p : Processor} (w : ℕ) → Shows private c k p → slice_get s.code k ≡ Some w → decode w ≡ Some Ecall → Acts s p (event Nothing 0 0 []) (λ q. q.halt ≡ Some Plain)
+pub step_stops : (s : WalkSetting) (private : ℕ) → s.side ≡ A → {c : Contents} {k : ℕ} {p : Processor} (w : ℕ) → Shows private c k p → slice_get s.code k ≡ Some w → decode w ≡ Some Ecall → Acts s p (event Nothing 0 0 []) (λ q. q.halt ≡ Some Plain)
 unfolding form queue_use early_fault put_word finish
 step_stops s private by_a {c} {k} {p} w h here is = record {
   next = record p { counter = plus p.counter 4; halt = Some Plain };

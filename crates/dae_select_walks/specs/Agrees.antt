@@ -12,7 +12,7 @@ use Rattle.dae_select_walks.specs.declared.Home.{Home}
 
 -- what is settled before the code runs: the side, the number of functions and their homes; of each function the words at which it is entered and at which its actions
 -- begin, the words of its private frame, the bytes of its frame in common memory, whether it is a leaf, which makes no
--- call, whether it is bare, a leaf that needs no word of its private frame, and which registers it spares, a leaf that leaves them as
+-- call, whether it is frameless, a leaf that needs no word of its private frame, and which registers it spares, a leaf that leaves them as
 -- they are; whether one instruction enters them all; the word that main returns to; the most words of a private frame and the words of private memory; the call limit; the size of common memory; and
 -- the numbers that stay in registers
 pub record Plan : Type 0 where
@@ -24,7 +24,7 @@ pub record Plan : Type 0 where
   pub words : ℕ → ℕ
   pub frame : ℕ → ℕ
   pub leaf : ℕ → Bool
-  pub bare : ℕ → Bool
+  pub frameless : ℕ → Bool
   pub spares : ℕ → ℕ → Bool
   pub near : Bool
   pub finish : ℕ
@@ -36,7 +36,7 @@ pub record Plan : Type 0 where
 
 -- a call that waits: its function, its variables and which of them are live behind it, the result aside, where its frame
 -- begins in common memory, and the word of the code that it is returned to
-pub record Waiting : Type 0 where
+pub record CallFrame : Type 0 where
   pub function : ℕ
   pub env : Env
   pub live : VariableSet
@@ -48,7 +48,7 @@ pub record Moment : Type 0 where
   pub function : ℕ
   pub env : Env
   pub frame : ℕ
-  pub waiting : List Waiting
+  pub waiting : List CallFrame
 
 -- main stands at depth 1
 abbrev pub depth_of : Moment → ℕ
@@ -75,14 +75,14 @@ abbrev pub return_address : Plan → ℕ → Contents → ℕ → ℕ
 return_address plan f c base = if plan.leaf f then c.register 1 else c.word base
 
 -- the words of the private frame of the call that waits first
-abbrev pub words_below : Plan → List Waiting → ℕ
+abbrev pub words_below : Plan → List CallFrame → ℕ
 words_below plan [] = 0
 words_below plan (w ∷ ws) = plan.words w.function
 
--- where x2 points in a function whose frame would begin at a word, above these calls: a bare one leaves it where the frame of the first
+-- where x2 points in a function whose frame would begin at a word, above these calls: a frameless one leaves it where the frame of the first
 -- of them begins
-abbrev pub pointed : Plan → ℕ → List Waiting → ℕ → ℕ
-pointed plan f ws base = if plan.bare f then base - words_below plan ws else base
+abbrev pub pointed : Plan → ℕ → List CallFrame → ℕ → ℕ
+pointed plan f ws base = if plan.frameless f then base - words_below plan ws else base
 
 -- what A has counted in a function at a depth: a leaf isn't counted
 abbrev pub counted_depth : Plan → ℕ → ℕ → ℕ
@@ -91,7 +91,7 @@ counted_depth plan f depth = if plan.leaf f then depth - 1 else depth
 -- the calls that wait below a frame that begins at a word of private memory and at an address of common memory, and that is
 -- left to this address, where its function spares these registers. A function that waits has made a call, so its own address is in its
 -- frame, and it spares none
-abbrev pub AreWaiting : Plan → Contents → (ℕ → Bool) → ℕ → ℕ → ℕ → List Waiting → Type 0
+abbrev pub AreWaiting : Plan → Contents → (ℕ → Bool) → ℕ → ℕ → ℕ → List CallFrame → Type 0
 AreWaiting plan c spared address base frame [] = (base ≡ 0) × (plan.finish < 2 ^ 29) × (address ≡ 4 * plan.finish)
 AreWaiting plan c spared address base frame (w ∷ ws) =
     (below : ℕ) × (base ≡ below + plan.words w.function) × (frame ≡ w.frame + plan.frame w.function) × (w.frame ≤ plan.memory)

@@ -15,20 +15,20 @@ use Rattle.dae_ir.specs.declared.stream.Action.{Action}
 use Rattle.dae_ir.specs.declared.stream.Action.TheVariants.{Break, Continue, Call, Return}
 use Rattle.dae_ir.specs.declared.stream.Branch.{Branch}
 use Rattle.dae_ir.specs.declared.stream.Branch.TheVariants.{Silent, Tells, Hears}
-use Rattle.dae_select_walks.specs.declared.Standing.{Standing}
-use Rattle.dae_select_walks.specs.declared.Standing.TheVariants.{Settled, Early, Late}
-use Rattle.dae_select_walks.specs.Walks.{Setting, Comes, Nears, Acts}
+use Rattle.dae_select_walks.specs.declared.VariableStanding.{VariableStanding}
+use Rattle.dae_select_walks.specs.declared.VariableStanding.TheVariants.{Settled, Early, Late}
+use Rattle.dae_select_walks.specs.Walks.{WalkSetting, Comes, Nears, Acts}
 use Rattle.dae_select_walks.specs.Does.{Does, event}
-use Rattle.dae_select_walks.specs.Live.{Ways, ways, live, is}
+use Rattle.dae_select_walks.specs.Live.{LiveWays, ways, live, is}
 use Rattle.dae_select_walks.specs.Facts.{Facts, Hold, facts_behind, facts_in_first, facts_in_second, facts_past_if, facts_at_turn, facts_at_step, facts_past_loop}
 use Rattle.dae_select_walks.specs.Homes.{Contents}
-use Rattle.dae_select_walks.specs.Agrees.{Plan, Moment, Waiting, depth_of, top_of, pointed, IsWithin, AreWaiting, AreResident, Shows, Stands}
+use Rattle.dae_select_walks.specs.Agrees.{Plan, Moment, CallFrame, depth_of, top_of, pointed, IsWithin, AreWaiting, AreResident, Shows, Stands}
 
 -- where code goes on, as a word of the code; what is live there of what the processor holds; and how that stands to the moment
 pub record Exit : Type 0 where
   pub word : ℕ
   pub live : VariableSet
-  pub standing : Standing
+  pub standing : VariableStanding
 
 pub record Exits : Type 0 where
   pub next : Exit
@@ -41,7 +41,7 @@ exit word live = record { word = word; live = live; standing = Settled }
 abbrev pub exits : Exit → Exit → Exit → Exits
 exits next leaves skips = record { next = next; leaves = leaves; skips = skips }
 
-abbrev pub ways_of : Exits → Ways
+abbrev pub ways_of : Exits → LiveWays
 ways_of x = ways x.next.live x.leaves.live x.skips.live
 
 -- ---- moments
@@ -50,7 +50,7 @@ abbrev pub with_env : Env → Moment → Moment
 with_env env m = record m { env = env }
 
 -- the processor goes on at a word, where what it holds stands so to the moment
-abbrev pub HoldsAt : Plan → Standing → VariableSet → Moment → ℕ → Processor → Type 0
+abbrev pub HoldsAt : Plan → VariableStanding → VariableSet → Moment → ℕ → Processor → Type 0
 HoldsAt plan Settled live m word p = Stands plan live m word p
 HoldsAt plan (Early v x) live m word p = Stands plan live (with_env (put true v (computed x m.frame m.env) m.env) m) word p
 HoldsAt plan (Late v x) live m word p = (env : Env) × (m.env ≡ put true v (computed x m.frame env) env) × Stands plan live (with_env env m) word p
@@ -74,7 +74,7 @@ MainEnds false (Some x) env D = D (WithStatus (value x env))
 MainEnds false None env D = Unit {0}
 
 -- a call of a function has returned to the one that waits, with its result in x6: the processor stands just behind the jump
-pub record Lands (plan : Plan) (f : ℕ) (w : Waiting) (ws : List Waiting) (result : Option ℕ) (p : Processor) : Type 0 where
+pub record Lands (plan : Plan) (f : ℕ) (w : CallFrame) (ws : List CallFrame) (result : Option ℕ) (p : Processor) : Type 0 where
   pub contents : Contents
   pub shows : Shows plan.private contents w.back p
   pub base : ℕ
@@ -103,12 +103,12 @@ with_result (Some v) (Some x) env = put true v x env
 with_result (Some v) None env = env
 with_result None x env = env
 
-abbrev pub waiting_of : Option ℕ → VariableSet → ℕ → Moment → Waiting
+abbrev pub waiting_of : Option ℕ → VariableSet → ℕ → Moment → CallFrame
 waiting_of v live back m =
     record { function = m.function; env = m.env; live = (λ u. live u && not (is v u)); frame = m.frame; back = back }
 
 -- the moment at the entry of a call, from its arguments
-abbrev pub called : Plan → ℕ → List Argument → Waiting → Moment → Moment
+abbrev pub called : Plan → ℕ → List Argument → CallFrame → Moment → Moment
 called plan f xs w m = record { function = f; env = given xs m.env; frame = top_of plan m; waiting = w ∷ m.waiting }
 
 -- the other side hears of this test, or has told of it: such a branch has an access
@@ -126,7 +126,7 @@ bit b = if b then 1 else 0
 
 -- entries: what is live where a function's code begins; most: so many instructions at most of an action, a branch or a
 -- return, and three times as many of what is behind a call; widest: so many of a call, to which each argument adds 6
-module _ (s : Setting) (plan : Plan) (program : Program) (entries : ℕ → VariableSet) (most widest : ℕ) where
+module _ (s : WalkSetting) (plan : Plan) (program : Program) (entries : ℕ → VariableSet) (most widest : ℕ) where
   -- the function f runs, and the processor agrees with the moment at this word
   abbrev pub At : ℕ → Exit → Moment → Processor → Type 0
   At f x m p = (m.function ≡ f) × HoldsAt plan x.standing x.live m x.word p
@@ -158,7 +158,7 @@ module _ (s : Setting) (plan : Plan) (program : Program) (entries : ℕ → Vari
   ActionDone f known (Return y) here next x =
       (m : Moment) (p : Processor) → At f here m p
       → ((m.waiting ≡ []) → MainEnds plan.by_a y m.env (λ quit. Does s most (Halts quit) (λ env q. ⊥) p))
-      × ((w : Waiting) (ws : List Waiting) → m.waiting ≡ w ∷ ws → Comes s most p (Lands plan f w ws (result_of y m.env)))
+      × ((w : CallFrame) (ws : List CallFrame) → m.waiting ≡ w ∷ ws → Comes s most p (Lands plan f w ws (result_of y m.env)))
   ActionDone f known a here next x =
       (m : Moment) (w : World) (p : Processor) → At f here m p → IsWorldOf plan m w → Hold known m.env
       → Does s most (deed program plan.by_a a w m.env) (λ env. At f next (with_env env m)) p

@@ -8,9 +8,9 @@ use Rattle.dae_encode.specs.declared.Halt.TheVariants.{Plain, Status, Trap}
 use Rattle.dae_encode.specs.Processor.{Processor, is_within}
 use Rattle.dae_meaning.specs.Variables.{Env}
 use Rattle.dae_ir.specs.Deeds.{Quit, Plainly, WithStatus, WithTrap, Deed, Went, Take, Push, Reserve, Send, Say, Halts}
-use Rattle.dae_select_walks.specs.Walks.{Setting, Event, Comes, Nears, Acts}
+use Rattle.dae_select_walks.specs.Walks.{WalkSetting, QueueEvent, Comes, Nears, Acts}
 
-abbrev pub event : QueueUse → ℕ → ℕ → List ℕ → Event
+abbrev pub event : QueueUse → ℕ → ℕ → List ℕ → QueueEvent
 event access put given piece = record { access = access; put = put; given = given; piece = piece }
 
 abbrev pub halt_of : Quit → Halt
@@ -20,7 +20,7 @@ halt_of (WithTrap code) = Trap code
 
 -- with at most n instructions in all, behind which `to` says what it must be with these variables. An address of common
 -- memory is one that is good there
-abbrev pub Does : Setting → ℕ → Deed → (Env → Processor → Type 0) → Processor → Type 0
+abbrev pub Does : WalkSetting → ℕ → Deed → (Env → Processor → Type 0) → Processor → Type 0
 Does s n (Went env) to p = Comes s n p (to env)
 Does s n (Take queue go) to p =
     Nears s n p (λ l q. (x : ℕ) → x < 2 ^ 32 → (put : ℕ) × Acts s q (event (Takes queue) put x []) (Does s l (go x) to))

@@ -3,15 +3,15 @@ use Rattle.std.specs.Prelude.{◌≡◌, ℕ, true}
 use Rattle.dae_ir.specs.Classes.{VariableSet}
 use Rattle.dae_ir.specs.SetFirst.{IsSetFirst, stream_flow}
 use Rattle.dae_ir.specs.Streams.{Actions}
-use Rattle.dae_select_walks.specs.Live.{Ways, live, nowhere, turn, body_ways}
+use Rattle.dae_select_walks.specs.Live.{LiveWays, live, nowhere, turn, body_ways}
 use Rattle.dae_select_walks.specs.Paths.{IsLive}
 
 -- a variable is live exactly where some path reads it before it sets it, in the code or where it goes on
 abbrev pub LiveHasPath : Type 0
-LiveHasPath = (code : Actions) (x : Ways) (u : ℕ) → live code x u ≡ true → IsLive u code x
+LiveHasPath = (code : Actions) (x : LiveWays) (u : ℕ) → live code x u ≡ true → IsLive u code x
 
 abbrev pub PathIsLive : Type 0
-PathIsLive = (code : Actions) (x : Ways) (u : ℕ) → IsLive u code x → live code x u ≡ true
+PathIsLive = (code : Actions) (x : LiveWays) (u : ℕ) → IsLive u code x → live code x u ≡ true
 
 -- round a loop nothing more comes in
 abbrev pub TurnsAgain : Type 0

@@ -97,30 +97,30 @@ decided Hears u = false
 -- ---- paths
 
 -- what is live where code goes on: behind it, behind the loop, at the loop's step
-pub record Ways : Type 0 where
+pub record LiveWays : Type 0 where
   pub next : VariableSet
   pub leaves : VariableSet
   pub skips : VariableSet
 
-abbrev pub ways : VariableSet → VariableSet → VariableSet → Ways
+abbrev pub ways : VariableSet → VariableSet → VariableSet → LiveWays
 ways next leaves skips = record { next = next; leaves = leaves; skips = skips }
 
-abbrev pub behind : VariableSet → Ways → Ways
+abbrev pub behind : VariableSet → LiveWays → LiveWays
 behind k x = record x { next = k }
 
 -- what is live behind an action, where k is live behind it in its list
-abbrev pub after : Action → VariableSet → Ways → VariableSet
+abbrev pub after : Action → VariableSet → LiveWays → VariableSet
 after Break k x u = x.leaves u
 after Continue k x u = x.skips u
 after (Stop y) k x u = false
 after (Return y) k x u = false
 after a k x u = k u
 
-abbrev pub before : Action → VariableSet → Ways → VariableSet
+abbrev pub before : Action → VariableSet → LiveWays → VariableSet
 before a k x u = reads a u || (after a k x u && not (sets a u))
 
 -- what is live before code. Round a loop nothing more comes in than one pass finds, so the pass begins with nothing
-abbrev pub live : Actions → Ways → VariableSet
+abbrev pub live : Actions → LiveWays → VariableSet
 live Done x u = x.next u
 live (Do m a k) x u = before a (live k x) x u
 live (If m b p q k) x u = decided b u || (live p (behind (live k x) x) u || live q (behind (live k x) x) u)
@@ -131,16 +131,16 @@ live (Loop m body step k) x u =
 abbrev pub turn : Actions → Actions → VariableSet → VariableSet
 turn body step k = live body (ways (live step (ways none k none)) k (live step (ways none k none)))
 
-abbrev pub step_ways : Actions → Actions → VariableSet → Ways
+abbrev pub step_ways : Actions → Actions → VariableSet → LiveWays
 step_ways body step k = ways (turn body step k) k (turn body step k)
 
-abbrev pub body_ways : Actions → Actions → VariableSet → Ways
+abbrev pub body_ways : Actions → Actions → VariableSet → LiveWays
 body_ways body step k = ways (live step (step_ways body step k)) k (live step (step_ways body step k))
 
 -- ---- places
 
 -- the places of code in their order, each with what is live there: what is live before it, and what is set there
-abbrev pub lives : Actions → Ways → List VariableSet
+abbrev pub lives : Actions → LiveWays → List VariableSet
 lives Done x = []
 lives (Do m a k) x = with_all (live (Do m a k) x) (sets a) ∷ lives k x
 lives (If m b p q k) x =
@@ -149,7 +149,7 @@ lives (Loop m body step k) x =
     live (Loop m body step k) x ∷ (lives body (body_ways body step (live k x)) ++ (lives step (step_ways body step (live k x)) ++ lives k x))
 
 -- behind a function's code nothing is live
-abbrev pub nowhere : Ways
+abbrev pub nowhere : LiveWays
 nowhere = ways none none none
 
 abbrev pub parameters_of : ℕ → VariableSet

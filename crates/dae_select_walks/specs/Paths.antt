@@ -8,7 +8,7 @@ use Rattle.dae_ir.specs.declared.stream.Mark.{Mark}
 use Rattle.dae_ir.specs.declared.stream.Action.{Action}
 use Rattle.dae_ir.specs.declared.stream.Action.TheVariants.{Stop, Break, Continue, Return}
 use Rattle.dae_ir.specs.declared.stream.Branch.{Branch}
-use Rattle.dae_select_walks.specs.Live.{Ways, reads, sets, decided}
+use Rattle.dae_select_walks.specs.Live.{LiveWays, reads, sets, decided}
 
 -- where an action goes on
 abbrev pub way_of : Action → Way
@@ -64,13 +64,13 @@ pub data Reads (u : ℕ) : Actions → Type 0 where
   BehindLoop : {m : Mark} {body step k : Actions} → Rounds u body step → Reads u k → Reads u (Loop m body step k)
 
 -- what is live at a way out
-abbrev pub at_way : Ways → Way → ℕ → Bool
+abbrev pub at_way : LiveWays → Way → ℕ → Bool
 at_way x Next u = x.next u
 at_way x Leaves u = x.leaves u
 at_way x Skips u = x.skips u
 at_way x Returns u = false
 
 -- a path reads it in the code, or leads to where it is live
-pub data IsLive (u : ℕ) (code : Actions) (x : Ways) : Type 0 where
+pub data IsLive (u : ℕ) (code : Actions) (x : LiveWays) : Type 0 where
   Inside : Reads u code → IsLive u code x
   Outside : (way : Way) → Passes u code way → at_way x way u ≡ true → IsLive u code x

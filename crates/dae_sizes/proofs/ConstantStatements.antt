@@ -4,7 +4,7 @@ use Rattle.std.proofs.Common.{◌≡◌, ℕ, ◌+◌, ◌≤◌, Bool, true, fa
 use Rattle.std.specs.Prelude.{slice_get, is_some}
 use Rattle.dae_base.specs.declared.Place.{Place}
 use Rattle.dae_tree.specs.Trees as tree
-use Rattle.dae_tree.specs.Trees.{Expression, Expressions, Initialiser, Item, Declaration, Statement, Statements}
+use Rattle.dae_tree.specs.Trees.{Expression, Expressions, Initialiser, BlockItem, Declaration, Statement, Statements}
 use Rattle.dae_tree.specs.Depth.{place_of, place_of_specifiers}
 use Rattle.dae_tree.specs.Names.{declared_name, has_typedef}
 use Rattle.dae_program.specs.Trees as program
@@ -12,7 +12,7 @@ use Rattle.dae_types_kinds.specs.declared.tables.Context.TheVariants as context
 use Rattle.dae_types_kinds.specs.Tables.{Tables}
 use Rattle.dae_types_kinds.specs.Types.{shape_of, is_scalar}
 use Rattle.dae_types_kinds.specs.Values.{Typed, converted}
-use Rattle.dae_types_rules.specs.Plan.{Plan}
+use Rattle.dae_types_rules.specs.Plan.{CheckPlan}
 use Rattle.dae_types_plans.specs.Steps.{declared_place}
 use Rattle.dae_types_file_plans.specs.declared.surroundings.Surrounding.{Surrounding}
 use Rattle.dae_types_file_plans.specs.Initialisers.{Content}
@@ -121,10 +121,10 @@ module _ (ls : List (List ℕ)) where
   low = omega arith
 
   -- statements that give no item but constants
-  abbrev Constant : ℕ → Plan program.Statements → Type 0
+  abbrev Constant : ℕ → CheckPlan program.Statements → Type 0
   Constant n m = Within ls others_in n 0 m
 
-  appended_constant : {n : ℕ} {m : Plan program.Statements} (done : program.Statements) → others_in done ≤ 0 → Constant n m → Constant n (appended done m)
+  appended_constant : {n : ℕ} {m : CheckPlan program.Statements} (done : program.Statements) → others_in done ≤ 0 → Constant n m → Constant n (appended done m)
   appended_constant done z h = maps_reads h (λ s x e l. let g = others-behind done x in omega (arith, l, g, z))
 
   -- ---- local declarations
@@ -133,7 +133,7 @@ module _ (ls : List (List ℕ)) where
   own_constant true p s k e = omega arith
   own_constant false p s k e = omega arith
 
-  scalar_value_constant : {n w : ℕ} {m : Plan Typed} (p q : Place) (k : ℕ) → Within ls (cost 0 2) n w m → Constant n (scalar_value_at p q k m)
+  scalar_value_constant : {n w : ℕ} {m : CheckPlan Typed} (p q : Place) (k : ℕ) → Within ls (cost 0 2) n w m → Constant n (scalar_value_at p q k m)
   scalar_value_constant p q k h = node_stays h (λ s x e l. record {
     grown = stays 0;
     small = own_constant (names_stored (slice_get s.storages k) (converted q s x (type_of_local s k)).tree) p s k (converted q s x (type_of_local s k)).tree;
@@ -148,7 +148,7 @@ module _ (ls : List (List ℕ)) where
     first_scalar_constant p k tree.no_initialisers = pure_within program.Done (omega arith)
     first_scalar_constant p k (tree.initialiser_then x xs) = fewer (omega arith) (scalar_constant p k x)
 
-  initialised_constant : {n : ℕ} {m : Plan Content} (p : Place) (k : ℕ) → Within ls held n 0 m → Constant n (initialised_at p k m)
+  initialised_constant : {n : ℕ} {m : CheckPlan Content} (p : Place) (k : ℕ) → Within ls held n 0 m → Constant n (initialised_at p k m)
   initialised_constant p k h = maps_stays h (λ s x e l. record { grown = type_grown k x.type_id s; small = omega (arith, l) })
 
   begun_constant : (b : Bool) (p : Place) (s : Tables) (k : ℕ) → others_in (if b then set_to p s k (program.Number 0) else program.Done) ≤ 0
@@ -167,7 +167,7 @@ module _ (ls : List (List ℕ)) where
   local_constant p (Some x) None = maps_reads (unused_initialiser_within 0 low ls x.1) (λ s f e l. omega arith)
   local_constant p (Some x) (Some k) = fewer (omega arith) (chain_within (looks_within {μ = none} {w = 0} (λ s. is_scalar (shape_of s (type_of_local s k))) (λ s e. omega arith)) (λ b l. given_constant p k x.1 b))
 
-  item_constant : (is_typedef : Bool) (p : Place) (b : ℕ) (i : Item) → Constant (declares_in i.declarator + declares_in_value i.initialiser) (plan_item_at is_typedef p b i)
+  item_constant : (is_typedef : Bool) (p : Place) (b : ℕ) (i : BlockItem) → Constant (declares_in i.declarator + declares_in_value i.initialiser) (plan_item_at is_typedef p b i)
   item_constant true p b i =
       let h = own_and_inner i.declarator in
       fewer (omega (arith, h)) (maps_reads (typedef_within 0 low ls p true (is_some i.initialiser) (declared_name i.declarator) (declarator_within 0 low ls p false b i.declarator)) (λ s x e l. omega arith))
@@ -176,7 +176,7 @@ module _ (ls : List (List ℕ)) where
       let g = own_is i.declarator in
       fewer (omega (arith, h, g)) (chain_within (local_within 0 low ls p (is_some i.initialiser) (declared_name i.declarator) (declarator_within 0 low ls p false b i.declarator)) (λ k l. local_constant p i.initialiser k))
 
-  items_constant : (q : Place) (is_typedef : Bool) (b : ℕ) (done : program.Statements) (items : List Item) → others_in done ≤ 0 → Constant (declares_in_items items) (plan_items q is_typedef b done items)
+  items_constant : (q : Place) (is_typedef : Bool) (b : ℕ) (done : program.Statements) (items : List BlockItem) → others_in done ≤ 0 → Constant (declares_in_items items) (plan_items q is_typedef b done items)
   items_constant q is_typedef b done [] z = pure_within done z
   items_constant q is_typedef b done (i ∷ items) z =
       fewer (omega arith) (chain_within (appended_constant done z (item_constant is_typedef (declared_place i.declarator q) b i)) (λ more l. items_constant q is_typedef b more items l))
@@ -254,7 +254,7 @@ module _ (ls : List (List ℕ)) where
     statements_at k done tree.no_statements z X = pure_within done z
     statements_at k done (tree.statement_then t ts) z X = chain_within (appended_constant done z (statement_at k t X)) (λ more l. statements_at k more ts l X)
 
-    body_at : (k : Surrounding) (t : Statement) (m : Plan program.Statements) → Constant (declares_in_statement t) m → Within ls armed (declares_in_statement t) 0 (plan_body k t m)
+    body_at : (k : Surrounding) (t : Statement) (m : CheckPlan program.Statements) → Constant (declares_in_statement t) m → Within ls armed (declares_in_statement t) 0 (plan_body k t m)
     body_at k (tree.Block p ds ss) m h =
         scoped_within (fewer (omega arith) (chain_within (node_keeps nothing_within (λ s x. stays 0)) (λ x l. chain_within (declarations_constant program.Done ds (omega arith)) (λ y l. arms_at k (record { seen = []; arms = [] }) ss (omega arith) (Unit {0})))))
     body_at k t m h = fewer (omega arith) (chain_within (asks_within nothing_within) (λ x l. maps_reads h (λ s y q l. omega arith)))
@@ -263,7 +263,7 @@ module _ (ls : List (List ℕ)) where
     arms_at k a tree.no_statements z X = pure_within a.arms z
     arms_at k a (tree.statement_then t ts) z X = chain_within (labelled_at k a t (plan_statement k t) z (statement_at k t X)) (λ b l. arms_at k b ts l X)
 
-    labelled_at : (k : Surrounding) (a : Arming) (t : Statement) (m : Plan program.Statements) → arming a ≤ 0 → Constant (declares_in_statement t) m → Within ls arming (declares_in_statement t) 0 (plan_labelled k a t m)
+    labelled_at : (k : Surrounding) (a : Arming) (t : Statement) (m : CheckPlan program.Statements) → arming a ≤ 0 → Constant (declares_in_statement t) m → Within ls arming (declares_in_statement t) 0 (plan_labelled k a t m)
     labelled_at k a (tree.Case p e t) m z h = chain_within (case_constant p a e) (λ b l. labelled_at k b t (plan_statement k t) (omega (arith, z, l)) (statement_at k t (Unit {0})))
     labelled_at k a (tree.Default p t) m z h = fewer (omega arith) (chain_within (default_constant p a) (λ b l. labelled_at k b t (plan_statement k t) (omega (arith, z, l)) (statement_at k t (Unit {0}))))
     labelled_at k a t m z h = maps_reads h (λ s x q l. let g = statement_adds x a.arms in omega (arith, z, l, g))

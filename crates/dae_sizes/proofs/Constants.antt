@@ -15,9 +15,9 @@ use Rattle.dae_types_kinds.specs.declared.values.Known.TheVariants as known
 use Rattle.dae_types_kinds.specs.Tables.{Tables, with_shape}
 use Rattle.dae_types_kinds.specs.Types.{shape_of, int_id, is_scalar}
 use Rattle.dae_types_kinds.specs.Values.{Typed, number, load_kind, known_as, constant_tree}
-use Rattle.dae_types_rules.specs.Plan.{Plan}
+use Rattle.dae_types_rules.specs.Plan.{CheckPlan}
 use Rattle.dae_types_plans.specs.Expressions.{plan_value}
-use Rattle.dae_types_file_plans.specs.Initialisers.{Once, Slot, Filling, Landing, Opening, Content, over, literal_in, has_literal, landed_in, lowered, next_slot, literal_bytes, constant_settings, byte_settings, behind_bytes, item_by, item_in, item_at, value_item, is_one_literal, is_text_array, parts_of, open_with, opens, list_at, plan_initialiser, plan_initialisers, empty_filling, whole_by, is_value_for, filled_type, plan_content}
+use Rattle.dae_types_file_plans.specs.Initialisers.{Once, FillSlot, Filling, Landing, Opening, Content, over, literal_in, has_literal, landed_in, lowered, next_slot, literal_bytes, constant_settings, byte_settings, behind_bytes, item_by, item_in, item_at, value_item, is_one_literal, is_text_array, parts_of, open_with, opens, list_at, plan_initialiser, plan_initialisers, empty_filling, whole_by, is_value_for, filled_type, plan_content}
 use Rattle.dae_sizes.specs.Worth.{declares, declares_in_initialiser, declares_in_initialisers}
 use Rattle.dae_sizes.proofs.Within.{Grown, Within, none, same, stays, fewer, lighter, pure_within, node_reads, maps_reads, maps_stays, asks_within, chain_within, nothing_within, looks_within}
 use Rattle.dae_sizes.proofs.Steps.{pardons_within}
@@ -60,7 +60,7 @@ opened_to o = filled o.inside
 abbrev pub held : Content → ℕ
 held x = others x.items
 
-landed_few : (f : Filling) (z : Option Slot) → landed (landed_in f z) ≤ filled f
+landed_few : (f : Filling) (z : Option FillSlot) → landed (landed_in f z) ≤ filled f
 landed_few f None = omega arith
 landed_few f (Some z) = omega arith
 
@@ -68,25 +68,25 @@ opens_if : (b : Bool) (w : ℕ) (x y : Opening) → opened_to x ≤ w → opened
 opens_if true w x y h k = h
 opens_if false w x y h k = k
 
-opens_few : (s : Tables) (f : Filling) (js : Initialisers) (z : Option Slot) → opened_to (opens s f js z) ≤ filled f
+opens_few : (s : Tables) (f : Filling) (js : Initialisers) (z : Option FillSlot) → opened_to (opens s f js z) ≤ filled f
 opens_few s f js None = omega arith
 opens_few s f js (Some z) =
     let t = shape_of s z.type_id in
     opens_if (is_scalar t || (is_text_array s t && is_one_literal js)) (filled f) (open_with f (Once z.offset z.type_id ∷ []) true z.rest) (open_with f (parts_of z.offset z.type_id t ∷ []) false z.rest) (omega arith) (omega arith)
 
-scalar_few : (f : Filling) (z : Slot) (t u : Shape) (x : Typed) → others (f.items ++ constant_settings z.offset t (constant_tree (known_as u t x.known))) ≤ filled f
+scalar_few : (f : Filling) (z : FillSlot) (t u : Shape) (x : Typed) → others (f.items ++ constant_settings z.offset t (constant_tree (known_as u t x.known))) ≤ filled f
 scalar_few f z t u x =
     let h = others-append f.items (constant_settings z.offset t (constant_tree (known_as u t x.known))) in
     let k = constant_is_none z.offset t (known_as u t x.known) in omega (arith, h, k)
 
-item_few : (s : Tables) (n : Option ℕ) (x : Typed) (z : Slot) (t : Shape) (f : Filling) → filled (item_by s n x z t f) ≤ filled f
+item_few : (s : Tables) (n : Option ℕ) (x : Typed) (z : FillSlot) (t : Shape) (f : Filling) → filled (item_by s n x z t f) ≤ filled f
 item_few s n x z (shape.Array u count) f =
     let g = others-append f.items (byte_settings z.offset (load_kind (shape_of s u)) (literal_bytes s n)) in
     let k = bytes_are_none z.offset (load_kind (shape_of s u)) (literal_bytes s n) in omega (arith, g, k)
 item_few s n x z (shape.Struct k) f = omega arith
 item_few s n x z t f = let g = scalar_few f z t (shape_of s x.type_id) x in omega (arith, g)
 
-item_in_few : (s : Tables) (n : Option ℕ) (x : Typed) (z : Option Slot) (f : Filling) → filled (item_in s n x z f) ≤ filled f
+item_in_few : (s : Tables) (n : Option ℕ) (x : Typed) (z : Option FillSlot) (f : Filling) → filled (item_in s n x z f) ≤ filled f
 item_in_few s n x None f = omega arith
 item_in_few s n x (Some z) f = item_few s n x z (shape_of s z.type_id) f
 
@@ -100,7 +100,7 @@ module _ (ls : List (List ℕ)) where
       (λ x l. pardons_within (over f) (fewer {k = 0} (omega arith) (chain_within {μ = landed} {w = filled f} (node_reads nothing_within (λ s y q g. landed_few f (lowered s (has_literal (literal_in e)) x (next_slot s f.rest))))
       (λ y k. lighter (omega (arith, k)) (item_within (place_of e) (literal_in e) x y))))))
 
-  list_within : {n w : ℕ} (p : Place) (f : Filling) (js : Initialisers) (fill : Filling → Plan Filling) → ((g : Filling) → filled g ≤ filled f → Within ls filled n w (fill g)) → Within ls filled n w (list_at p f js fill)
+  list_within : {n w : ℕ} (p : Place) (f : Filling) (js : Initialisers) (fill : Filling → CheckPlan Filling) → ((g : Filling) → filled g ≤ filled f → Within ls filled n w (fill g)) → Within ls filled n w (list_at p f js fill)
   list_within p f js fill h =
       pardons_within (over f) (fewer (omega arith) (chain_within {μ = opened_to} {w = filled f} (node_reads nothing_within (λ s y e g. opens_few s f js (next_slot s f.rest)))
       (λ o k. maps_reads (h o.inside k) (λ s g e l. l))))

@@ -7,7 +7,7 @@ use Rattle.dae_base.specs.declared.Place.{Place}
 use Rattle.dae_tree.specs.declared.words.Keyword.{Keyword}
 use Rattle.dae_tree.specs.declared.expressions.Name.{Name}
 use Rattle.dae_tree.specs.Trees as tree
-use Rattle.dae_tree.specs.Trees.{Specifiers, Declarator, Parameters, Initialiser, Item, Declaration, Statements, External}
+use Rattle.dae_tree.specs.Trees.{Specifiers, Declarator, Parameters, Initialiser, BlockItem, Declaration, Statements, External}
 use Rattle.dae_tree.specs.Depth.{place_of_specifiers}
 use Rattle.dae_tree.specs.Names.{declared_name, has_typedef, function_part, is_bare}
 use Rattle.dae_program.specs.Trees as program
@@ -17,7 +17,7 @@ use Rattle.dae_types_kinds.specs.declared.tables.Entity.{Entity}
 use Rattle.dae_types_kinds.specs.declared.tables.Entity.TheVariants as entity
 use Rattle.dae_types_kinds.specs.declared.tables.Local.{Local}
 use Rattle.dae_types_kinds.specs.declared.tables.NamedType.{NamedType}
-use Rattle.dae_types_kinds.specs.declared.tables.Object.{Object}
+use Rattle.dae_types_kinds.specs.declared.tables.StaticObject.{StaticObject}
 use Rattle.dae_types_kinds.specs.declared.tables.Routine.{Routine}
 use Rattle.dae_types_kinds.specs.declared.tables.Storage.{Storage}
 use Rattle.dae_types_kinds.specs.declared.tables.Storage.TheVariants as storage
@@ -25,7 +25,7 @@ use Rattle.dae_types_kinds.specs.Tables.{Tables, closed, reopened}
 use Rattle.dae_types_kinds.specs.Types.{shape_of, is_function, layout_at, rounded, composite, word_for}
 use Rattle.dae_types_rules.specs.Sites.{Site}
 use Rattle.dae_types_rules.specs.Table.{is_extern, is_static}
-use Rattle.dae_types_rules.specs.Plan.{Plan, pure, ask_all}
+use Rattle.dae_types_rules.specs.Plan.{CheckPlan, pure, ask_all}
 use Rattle.dae_types_plans.specs.Steps.{declared_place}
 use Rattle.dae_types_file_plans.specs.declared.declarations.Role.{Role}
 use Rattle.dae_types_file_plans.specs.declared.declarations.Role.TheVariants.{Reference, Definition}
@@ -69,7 +69,7 @@ declared_function_grown : (n : Option Name) (own' : Bool) (t : ℕ) (e : Option 
 declared_function_grown n o t (Some (entity.Function f)) s = retyped_grown f t s (slice_get s.routines f)
 declared_function_grown n o t e s = same 0 s (new_routine n o t s).0 refl refl refl
 
-replaced_grown : (p : Place) (k : Option Keyword) (given : Bool) (o t : ℕ) (s : Tables) (r : Option Object) → Grown 0 s (replaced p k given o t s r)
+replaced_grown : (p : Place) (k : Option Keyword) (given : Bool) (o t : ℕ) (s : Tables) (r : Option StaticObject) → Grown 0 s (replaced p k given o t s r)
 replaced_grown p k given o t s None = stays 0
 replaced_grown p k given o t s (Some r) = grown_more (omega arith) (grows (composite_grown s r.type_id t) (same 0 (composite s r.type_id t).0 (replaced p k given o t s (Some r)) refl refl refl))
 
@@ -77,7 +77,7 @@ declared_object_grown : (p : Place) (n : Option Name) (k : Option Keyword) (give
 declared_object_grown p n k given t (Some (entity.Object o)) s = replaced_grown p k given o t s (slice_get s.objects o)
 declared_object_grown p n k given t e s = same 0 s (new_object p n k given t s).0 refl refl refl
 
-pub object_type_grown : (o t : ℕ) (s : Tables) (r : Option Object) → Grown 0 s (with_object_type o t s r)
+pub object_type_grown : (o t : ℕ) (s : Tables) (r : Option StaticObject) → Grown 0 s (with_object_type o t s r)
 object_type_grown o t s None = stays 0
 object_type_grown o t s (Some r) = same 0 s (with_object_type o t s (Some r)) refl refl refl
 
@@ -162,7 +162,7 @@ module _ (c : ℕ) (low : c ≤ 1) (ls : List (List ℕ)) where
       fewer (omega arith) (chain_within (looks_within {μ = none} {w = 0} (λ s. type_of_object s o) (λ s e. omega arith))
       (λ t l. maps_stays (content_within c low ls p 0 t x.1) (λ s y e l. record { grown = object_type_grown o y.type_id s (slice_get s.objects o); small = omega arith })))
 
-  either_within : (p : Place) (k : Option Keyword) (i : Item) (t : ℕ) (b : Bool) → Within ls bodies (declares_in_value i.initialiser) 0 (plan_either p k i t b)
+  either_within : (p : Place) (k : Option Keyword) (i : BlockItem) (t : ℕ) (b : Bool) → Within ls bodies (declares_in_value i.initialiser) 0 (plan_either p k i t b)
   either_within p k i t true = fewer (omega arith) (maps_reads (function_at_within p _ _ (declared_name i.declarator) t) (λ s f e l. let h = ap length (declares_no_function p Reference f) in omega (arith, h)))
   either_within p k i t false =
       fewer (omega arith) (chain_within (object_at_within p k (is_some i.initialiser) (declared_name i.declarator) t) (λ o l. maps_reads (data_within p i.initialiser o) (λ s xs e l.
@@ -171,11 +171,11 @@ module _ (c : ℕ) (low : c ≤ 1) (ls : List (List ℕ)) where
       let j = length-append (bodies_in (declares_object p r o)) (bodies_in xs) in
       let h = declares_no_object p r o in omega (arith, l, g, j, h))))
 
-  typed_within : (p : Place) (k : Option Keyword) (i : Item) (t : Option ℕ) → Within ls bodies (declares_in_value i.initialiser) 0 (plan_typed p k i t)
+  typed_within : (p : Place) (k : Option Keyword) (i : BlockItem) (t : Option ℕ) → Within ls bodies (declares_in_value i.initialiser) 0 (plan_typed p k i t)
   typed_within p k i None = data_within p i.initialiser None
   typed_within p k i (Some t) = fewer (omega arith) (chain_within (looks_within {μ = none} {w = 0} (λ s. is_function (shape_of s t)) (λ s e. omega arith)) (λ b l. either_within p k i t b))
 
-  item_within : (is_typedef : Bool) (p : Place) (k : Option Keyword) (b : ℕ) (i : Item) → Within ls bodies (inner i.declarator + declares_in_value i.initialiser) 0 (plan_item_at is_typedef p k b i)
+  item_within : (is_typedef : Bool) (p : Place) (k : Option Keyword) (b : ℕ) (i : BlockItem) → Within ls bodies (inner i.declarator + declares_in_value i.initialiser) 0 (plan_item_at is_typedef p k b i)
   item_within true p k b i = fewer (omega arith) (maps_reads (typedef_within c low ls p false (is_some i.initialiser) (declared_name i.declarator) (declarator_within c low ls p false b i.declarator)) (λ s x e l. omega arith))
   item_within false p k b i =
       chain_within (settles_within (declared_name i.declarator) (maps_keeps (unmeasured (declarator_within c low ls p false b i.declarator)) (λ s x. stays 0))) (λ t l. typed_within p k i t)
@@ -187,7 +187,7 @@ module _ (c : ℕ) (low : c ≤ 1) (ls : List (List ℕ)) where
   abbrev Same : List Product → Tables → List Product → Type 0
   Same done s xs = bodies_in xs ≡ bodies_in done
 
-  items_lead : (is_typedef : Bool) (q : Place) (k : Option Keyword) (b : ℕ) (done : List Product) (items : List Item) → Leads ls Any (Same done) (plan_items is_typedef q k b done items)
+  items_lead : (is_typedef : Bool) (q : Place) (k : Option Keyword) (b : ℕ) (done : List Product) (items : List BlockItem) → Leads ls Any (Same done) (plan_items is_typedef q k b done items)
   items_lead is_typedef q k b done [] = leads_pure done (λ s h. refl)
   items_lead is_typedef q k b done (i ∷ items) =
       leads_chain {Between = Same done}
@@ -214,12 +214,12 @@ module _ (c : ℕ) (low : c ≤ 1) (ls : List (List ℕ)) where
   named_leads : (k : ℕ) (p : Place) (ps : Parameters) → Leads ls (Few k) (λ s x. Few k s × (count_parameters ps ≤ declares_in_parameters ps)) (named_at p ps)
   named_leads k p ps = record { leads = λ s e b. named_asked p ps s (Come ls (λ s x. Few k s × (count_parameters ps ≤ declares_in_parameters ps))) (λ h. record { literals = e; so = (b, h) }) }
 
-  pub first_within : {n w : ℕ} {μ : program.Statements → ℕ} {m : Plan program.Statements} (k : ℕ) → Within ls μ n w m → Within ls none n 0 (first_time k m)
+  pub first_within : {n w : ℕ} {μ : program.Statements → ℕ} {m : CheckPlan program.Statements} (k : ℕ) → Within ls μ n w m → Within ls none n 0 (first_time k m)
   first_within k h =
       fewer (omega arith) (chain_within {μ = none} {w = 0} (maps_keeps nothing_within (λ s x. same 0 s (reopened s) refl refl refl))
       (λ outer l. maps_reads (ends_within (closed outer) (λ s. same 0 s (closed outer s) refl refl refl) h) (λ s x e l. omega arith)))
 
-  pub in_body_within : {n w : ℕ} {μ : program.Statements → ℕ} {m : Plan program.Statements} → Within ls μ n w m → Within ls μ n w (in_body m)
+  pub in_body_within : {n w : ℕ} {μ : program.Statements → ℕ} {m : CheckPlan program.Statements} → Within ls μ n w m → Within ls μ n w (in_body m)
   in_body_within h =
       fewer (omega arith) (chain_within {μ = none} {w = 0} (maps_keeps nothing_within (λ s x. same 0 s (reopened s) refl refl refl))
       (λ outer l. ends_within (closed outer) (λ s. same 0 s (closed outer s) refl refl refl) h))
@@ -234,7 +234,7 @@ module _ (c : ℕ) (low : c ≤ 1) (ls : List (List ℕ)) where
   made_part x is None s y l k w z = tt
   made_part x is (Some g) s y l k w z = record { definition = is; locals = l; storages = k; weight = w; constants = initialises y z }
 
-  module _ {b w : ℕ} {m : Plan program.Statements} (x : External) (is : IsDefinition x) (f : Option ℕ) (block : Within ls (weight_in c) b w m) (constant : Within ls others_in b 0 m) (enough : 8 + w ≤ worth_of_external (price c ls) x) (n k most : ℕ) (first : k + b ≤ declares_in_external x) (again : most + b ≤ declares_in_external x) where
+  module _ {b w : ℕ} {m : CheckPlan program.Statements} (x : External) (is : IsDefinition x) (f : Option ℕ) (block : Within ls (weight_in c) b w m) (constant : Within ls others_in b 0 m) (enough : 8 + w ≤ worth_of_external (price c ls) x) (n k most : ℕ) (first : k + b ≤ declares_in_external x) (again : most + b ≤ declares_in_external x) where
     second_leads : Leads ls (λ s. Few most s × (length s.storages ≤ k + b)) (λ s r. Part c ls x (bodies_in r)) (second_time f m)
     second_leads =
         leads_maps {Between = λ s y. (Few (most + b) s × (length s.storages ≤ k + b) × (weight_in c y ≤ w)) × (others_in y ≤ 0)}
@@ -259,7 +259,7 @@ module _ (c : ℕ) (low : c ≤ 1) (ls : List (List ℕ)) where
       (λ u. leads_chain {Between = λ s u. Few k s × (count_parameters ps ≤ declares_in_parameters ps)} (leads_maps {Between = λ s u. Few k s × (count_parameters ps ≤ declares_in_parameters ps)} (leads_pure (tt {0}) (λ s h. h)) (λ s u e h. record { literals = e; so = h }))
       (λ round. twice_leads x is f (block_within c low ls round ds ss) (block_constant ls round ds ss) enough (count_parameters ps) k (declares_in_parameters ps) first again))
 
-  pub second_at_within : (p : Place) {m : Plan (Option ℕ)} → Within ls none 0 0 m → Within ls none 0 0 (second_at p m)
+  pub second_at_within : (p : Place) {m : CheckPlan (Option ℕ)} → Within ls none 0 0 m → Within ls none 0 0 (second_at p m)
   second_at_within p h = node_keeps h (λ s f. define_grown f s)
 
   behind_declared : (x : External) (p : Place) (f : Option ℕ) (xs : List Product) → Part c ls x (bodies_in xs) → Part c ls x (bodies_in (declares_function p Definition f ++ xs))
@@ -276,7 +276,7 @@ module _ (c : ℕ) (low : c ≤ 1) (ls : List (List ℕ)) where
 
   -- ---- files
 
-  pub definition_at_within : {n w : ℕ} {μ : NamedType → ℕ} {m : Plan NamedType} (p : Place) (is_typedef direct : Bool) → Within ls μ n w m → Within ls none n 0 (some_of (definition_at p is_typedef direct m))
+  pub definition_at_within : {n w : ℕ} {μ : NamedType → ℕ} {m : CheckPlan NamedType} (p : Place) (is_typedef direct : Bool) → Within ls μ n w m → Within ls none n 0 (some_of (definition_at p is_typedef direct m))
   definition_at_within p is_typedef direct h = maps_keeps (node_keeps (unmeasured h) (λ s x. stays 0)) (λ s x. stays 0)
 
   -- what stands behind what is done

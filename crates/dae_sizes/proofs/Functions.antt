@@ -20,10 +20,10 @@ use Rattle.dae_types_kinds.specs.Types.{shape_of, shape_or}
 use Rattle.dae_types_kinds.specs.Values.{routine_type, parameters_of}
 use Rattle.dae_types_rules.specs.Plan.{IsChecked, check_of}
 use Rattle.dae_types_plans.specs.Steps.{parameters_from, parameter_types}
-use Rattle.dae_types_file_plans.specs.Files.{Product, Declares, Data, Body, Numbers, start_of, plan_file}
+use Rattle.dae_types_file_plans.specs.Files.{Product, Declares, Data, Body, LibraryNames, start_of, plan_file}
 use Rattle.dae_types_file_plans.specs.Promise.{FilesAreChecked}
 use Rattle.dae_types_typed.specs.Frames.{is_variable, variables_of, slots_of}
-use Rattle.dae_types_typed.specs.Reading.{Written, written_in, view_functions}
+use Rattle.dae_types_typed.specs.Reading.{WrittenFunction, written_in, view_functions}
 use Rattle.dae_types_typed.specs.Sound.{tables_of}
 use Rattle.dae_types_typed.specs.declared.files.FileParts.{FileParts}
 use Rattle.dae_types_typed.specs.declared.files.TypedFunction.{TypedFunction}
@@ -73,11 +73,11 @@ record IsBodyOf (t : Tables) (d : PlannedBody) (f : TypedFunction) : Type 0 wher
   pub variables : f.variables ≡ variables_of (length (parameter_types t d.routine)) d.storages
   pub body : view_statements f.body ≡ d.statements
 
-abbrev behind_first : List Written → List Written
+abbrev behind_first : List WrittenFunction → List WrittenFunction
 behind_first [] = []
 behind_first (w ∷ ws) = ws
 
-abbrev first_or : Written → List Written → Written
+abbrev first_or : WrittenFunction → List WrittenFunction → WrittenFunction
 first_or w [] = w
 first_or w (x ∷ ws) = x
 
@@ -90,7 +90,7 @@ alike t spellings (Body r locals storages body ∷ xs) [] e = absurd cc
 alike t spellings (Body r locals storages body ∷ xs) (f ∷ fs) e =
     let w = first_or (record { routine = 0; name = []; parameters = []; variables = 0; frame = 0; body = tree.Done }) in
     let h = ap w e in (
-      record { routine = ap (λ (z : Written). z.routine) h; parameters = ap (λ (z : Written). z.parameters) h; variables = ap (λ (z : Written). z.variables) h; body = ap (λ (z : Written). z.body) h },
+      record { routine = ap (λ (z : WrittenFunction). z.routine) h; parameters = ap (λ (z : WrittenFunction). z.parameters) h; variables = ap (λ (z : WrittenFunction). z.variables) h; body = ap (λ (z : WrittenFunction). z.body) h },
       alike t spellings xs fs (ap behind_first e),
     )
 
@@ -266,7 +266,7 @@ tested_alike t (d ∷ ds) [] h a = absurd a
 tested_alike t (d ∷ ds) (f ∷ fs) h a = (let b = a.0 in ap void_statements b.body ∙ h.0, tested_alike t ds fs h.1 a.1)
 
 -- what no rule is broken in is what a check gives
-tested_by : BodiesTestValues → FilesAreChecked → (stdio stdlib : Bool) (n : Numbers) (ls : List (List ℕ)) (xs : List External) (t : Tables) (products : List Product) → IsChecked (plan_file xs) (start_of stdio stdlib n ls) (Ok (t, products)) → AllByRecursion BodyTestsValues products
+tested_by : BodiesTestValues → FilesAreChecked → (stdio stdlib : Bool) (n : LibraryNames) (ls : List (List ℕ)) (xs : List External) (t : Tables) (products : List Product) → IsChecked (plan_file xs) (start_of stdio stdlib n ls) (Ok (t, products)) → AllByRecursion BodyTestsValues products
 tested_by tests checked stdio stdlib n ls xs t products h = by (check_of (plan_file xs) s) refl (checked xs s) where
   s : Tables
   s = start_of stdio stdlib n ls
@@ -275,7 +275,7 @@ tested_by tests checked stdio stdlib n ls xs t products h = by (check_of (plan_f
   by (Ok y) e k = subst (AllByRecursion BodyTestsValues) (some_same products y.1 products (sym k.0.1 ∙ h.0.1)) (tests xs stdio stdlib n ls y.0 y.1 e)
   by (Err f) e k = absurd (h.1 f.rule f.place k)
 
-pub are_tested : BodiesTestValues → FilesAreChecked → (stdio stdlib : Bool) (n : Numbers) (ls : List (List ℕ)) (xs : List External) (file : FileParts) → IsPlanned xs (start_of stdio stdlib n ls) file → AllByRecursion (λ (f : TypedFunction). HasTestedValues (view_statements f.body)) file.functions
+pub are_tested : BodiesTestValues → FilesAreChecked → (stdio stdlib : Bool) (n : LibraryNames) (ls : List (List ℕ)) (xs : List External) (file : FileParts) → IsPlanned xs (start_of stdio stdlib n ls) file → AllByRecursion (λ (f : TypedFunction). HasTestedValues (view_statements f.body)) file.functions
 are_tested tests checked stdio stdlib n ls xs file is =
     let t = is.tables in
     let reads = is.reads in

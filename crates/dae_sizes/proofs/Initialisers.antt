@@ -14,9 +14,9 @@ use Rattle.dae_types_kinds.specs.declared.values.Known.TheVariants as known
 use Rattle.dae_types_kinds.specs.Tables.{Tables, with_shape}
 use Rattle.dae_types_kinds.specs.Types.{shape_of, int_id, is_scalar}
 use Rattle.dae_types_kinds.specs.Values.{Typed, number, load_kind, known_as, constant_tree}
-use Rattle.dae_types_rules.specs.Plan.{Plan}
+use Rattle.dae_types_rules.specs.Plan.{CheckPlan}
 use Rattle.dae_types_plans.specs.Expressions.{plan_value}
-use Rattle.dae_types_file_plans.specs.Initialisers.{Once, Slot, Filling, Landing, Opening, Content, over, literal_in, has_literal, landed_in, lowered, next_slot, literal_bytes, byte_settings, item_by, item_in, item_at, value_item, is_one_literal, is_text_array, parts_of, open_with, opens, list_at, plan_initialiser, plan_initialisers, empty_filling, plan_unused_initialiser, whole_by, is_value_for, filled_type, plan_content, constant_settings, behind_bytes}
+use Rattle.dae_types_file_plans.specs.Initialisers.{Once, FillSlot, Filling, Landing, Opening, Content, over, literal_in, has_literal, landed_in, lowered, next_slot, literal_bytes, byte_settings, item_by, item_in, item_at, value_item, is_one_literal, is_text_array, parts_of, open_with, opens, list_at, plan_initialiser, plan_initialisers, empty_filling, plan_unused_initialiser, whole_by, is_value_for, filled_type, plan_content, constant_settings, behind_bytes}
 use Rattle.dae_sizes.specs.Worth.{worth, worth_of_initialiser, worth_of_initialisers, declares, declares_in_initialiser, declares_in_initialisers}
 use Rattle.dae_sizes.specs.Weights.{weight_of_items}
 use Rattle.dae_sizes.specs.Paid.{bytes_or_none, for_each, price}
@@ -73,7 +73,7 @@ opened_to c o = filled c o.inside
 abbrev pub held : ℕ → Content → ℕ
 held c x = weight_of_items c x.items
 
-landed_weighs : (c : ℕ) (f : Filling) (z : Option Slot) → landed c (landed_in f z) ≤ filled c f
+landed_weighs : (c : ℕ) (f : Filling) (z : Option FillSlot) → landed c (landed_in f z) ≤ filled c f
 landed_weighs c f None = omega arith
 landed_weighs c f (Some z) = omega arith
 
@@ -81,20 +81,20 @@ opens_if : (b : Bool) (c w : ℕ) (x y : Opening) → opened_to c x ≤ w → op
 opens_if true c w x y h k = h
 opens_if false c w x y h k = k
 
-opens_weighs : (c : ℕ) (s : Tables) (f : Filling) (js : Initialisers) (z : Option Slot) → opened_to c (opens s f js z) ≤ filled c f
+opens_weighs : (c : ℕ) (s : Tables) (f : Filling) (js : Initialisers) (z : Option FillSlot) → opened_to c (opens s f js z) ≤ filled c f
 opens_weighs c s f js None = omega arith
 opens_weighs c s f js (Some z) =
     let t = shape_of s z.type_id in
     opens_if (is_scalar t || (is_text_array s t && is_one_literal js)) c (filled c f) (open_with f (Once z.offset z.type_id ∷ []) true z.rest) (open_with f (parts_of z.offset z.type_id t ∷ []) false z.rest) (omega arith) (omega arith)
 
-scalar_weighs : (c : ℕ) (f : Filling) (z : Slot) (t u : Shape) (x : Typed) → weight_of_items c (f.items ++ constant_settings z.offset t (constant_tree (known_as u t x.known))) ≤ (c + c) + filled c f
+scalar_weighs : (c : ℕ) (f : Filling) (z : FillSlot) (t u : Shape) (x : Typed) → weight_of_items c (f.items ++ constant_settings z.offset t (constant_tree (known_as u t x.known))) ≤ (c + c) + filled c f
 scalar_weighs c f z t u x =
     let h = items-append c f.items (constant_settings z.offset t (constant_tree (known_as u t x.known))) in
     let k = constant_weighs c z.offset t (known_as u t x.known) in omega (arith, h, k)
 
 module _ (c : ℕ) (low : c ≤ 1) (ls : List (List ℕ)) where
   -- an item for a scalar, or the bytes of a literal
-  item_weighs : (s : Tables) (n : Option ℕ) (x : Typed) (z : Slot) (t : Shape) (f : Filling) (w : ℕ) → s.literals ≡ ls → 2 ≤ w → for_each c (text_in ls n) + for_each c (text_in ls n) ≤ w → filled c (item_by s n x z t f) ≤ filled c f + w
+  item_weighs : (s : Tables) (n : Option ℕ) (x : Typed) (z : FillSlot) (t : Shape) (f : Filling) (w : ℕ) → s.literals ≡ ls → 2 ≤ w → for_each c (text_in ls n) + for_each c (text_in ls n) ≤ w → filled c (item_by s n x z t f) ≤ filled c f + w
   item_weighs s n x z (shape.Array u count) f w e l h =
       let g = items-append c f.items (byte_settings z.offset (load_kind (shape_of s u)) (literal_bytes s n)) in
       let k = bytes_weigh c z.offset (load_kind (shape_of s u)) (literal_bytes s n) in
@@ -102,7 +102,7 @@ module _ (c : ℕ) (low : c ≤ 1) (ls : List (List ℕ)) where
   item_weighs s n x z (shape.Struct k) f w e l h = omega arith
   item_weighs s n x z t f w e l h = let g = scalar_weighs c f z t (shape_of s x.type_id) x in omega (arith, low, l, g)
 
-  item_in_weighs : (s : Tables) (n : Option ℕ) (x : Typed) (z : Option Slot) (f : Filling) (w : ℕ) → s.literals ≡ ls → 2 ≤ w → for_each c (text_in ls n) + for_each c (text_in ls n) ≤ w → filled c (item_in s n x z f) ≤ filled c f + w
+  item_in_weighs : (s : Tables) (n : Option ℕ) (x : Typed) (z : Option FillSlot) (f : Filling) (w : ℕ) → s.literals ≡ ls → 2 ≤ w → for_each c (text_in ls n) + for_each c (text_in ls n) ≤ w → filled c (item_in s n x z f) ≤ filled c f + w
   item_in_weighs s n x None f w e l h = omega arith
   item_in_weighs s n x (Some z) f w e l h = item_weighs s n x z (shape_of s z.type_id) f w e l h
 
@@ -115,7 +115,7 @@ module _ (c : ℕ) (low : c ≤ 1) (ls : List (List ℕ)) where
       (λ x l. pardons_within (over f) (fewer {k = 0} (omega arith) (chain_within {μ = landed c} {w = filled c f} (node_reads nothing_within (λ s y q g. landed_weighs c f (lowered s (has_literal (literal_in e)) x (next_slot s f.rest))))
       (λ y k. lighter (omega (arith, k)) (item_within (place_of e) (literal_in e) x y (worth (price c ls) e) (omega (arith, l)) (literal_pays c ls e)))))))
 
-  list_within : {n w : ℕ} (p : Place) (f : Filling) (js : Initialisers) (fill : Filling → Plan Filling) → ((g : Filling) → filled c g ≤ filled c f → Within ls (filled c) n w (fill g)) → Within ls (filled c) n w (list_at p f js fill)
+  list_within : {n w : ℕ} (p : Place) (f : Filling) (js : Initialisers) (fill : Filling → CheckPlan Filling) → ((g : Filling) → filled c g ≤ filled c f → Within ls (filled c) n w (fill g)) → Within ls (filled c) n w (list_at p f js fill)
   list_within p f js fill h =
       pardons_within (over f) (fewer (omega arith) (chain_within {μ = opened_to c} {w = filled c f} (node_reads nothing_within (λ s y e g. opens_weighs c s f js (next_slot s f.rest)))
       (λ o k. maps_reads (h o.inside k) (λ s g e l. l))))

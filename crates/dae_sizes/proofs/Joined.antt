@@ -1,6 +1,6 @@
 -- The functions that files join to are small beside the files' definitions.
 use Rattle.std.proofs.Common.{◌≡◌, ℕ, suc, List, [], ◌∷◌, ◌++◌, inl, inr, sym, ap, ◌∙◌, subst, append_assoc, append-nil}
-use Rattle.dae_tree.specs.Files.{Contents}
+use Rattle.dae_tree.specs.Files.{FileContents}
 use Rattle.dae_tree.specs.FileViews.{view_externals}
 use Rattle.dae_tree.specs.Trees.{External}
 use Rattle.dae_program.specs.Trees.{Statements}
@@ -65,8 +65,8 @@ sources_from R S ls k h (x ∷ xs) (f ∷ fs) (inl r) = inl (h x f r.0, sources_
 sources_from R S ls k h (x ∷ xs) (f ∷ fs) (inr r) = inr (sources_from R S ls k h xs (f ∷ fs) r)
 
 -- what holds of each file's functions holds of all
-joined : (S : Source → Function → Type 0) → ((k : ℕ) (c : Contents) (file : FileParts) → IsTypedAs c file → AreFrom S (sources_of c.literals (view_externals c.externals)) (functions_of k file.functions)) →
-    (k : ℕ) (cs : List Contents) (files : List FileParts) → AreTypedAs cs files → AreFrom S (sources_in cs) (all_functions k files)
+joined : (S : Source → Function → Type 0) → ((k : ℕ) (c : FileContents) (file : FileParts) → IsTypedAs c file → AreFrom S (sources_of c.literals (view_externals c.externals)) (functions_of k file.functions)) →
+    (k : ℕ) (cs : List FileContents) (files : List FileParts) → AreTypedAs cs files → AreFrom S (sources_in cs) (all_functions k files)
 joined S h k [] [] t = tt
 joined S h k [] (f ∷ fs) t = absurd t
 joined S h k (c ∷ cs) [] t = absurd t
@@ -90,8 +90,8 @@ all_functions_have : (P : Statements → Type 0) (k : ℕ) (fs : List TypedFunct
 all_functions_have P k [] h = tt
 all_functions_have P k (f ∷ fs) h = (h.0, all_functions_have P k fs h.1)
 
-all_files_have : (P : Statements → Type 0) → ((c : Contents) (file : FileParts) → IsTypedAs c file → AllByRecursion (λ (f : TypedFunction). P (view_statements f.body)) file.functions) →
-    (k : ℕ) (cs : List Contents) (files : List FileParts) → AreTypedAs cs files → AllByRecursion (λ (f : Function). P (view_statements f.body)) (all_functions k files)
+all_files_have : (P : Statements → Type 0) → ((c : FileContents) (file : FileParts) → IsTypedAs c file → AllByRecursion (λ (f : TypedFunction). P (view_statements f.body)) file.functions) →
+    (k : ℕ) (cs : List FileContents) (files : List FileParts) → AreTypedAs cs files → AllByRecursion (λ (f : Function). P (view_statements f.body)) (all_functions k files)
 all_files_have P each k [] [] t = tt
 all_files_have P each k [] (f ∷ fs) t = absurd t
 all_files_have P each k (c ∷ cs) [] t = absurd t
@@ -99,8 +99,8 @@ all_files_have P each k (c ∷ cs) (f ∷ fs) t =
     all_join (λ (g : Function). P (view_statements g.body)) (functions_of k f.functions) (all_functions (suc k) fs)
     (all_functions_have P k f.functions (each c f t.0)) (all_files_have P each (suc k) cs fs t.1)
 
-all_have : (P : Statements → Type 0) → ((c : Contents) (file : FileParts) → IsTypedAs c file → AllByRecursion (λ (f : TypedFunction). P (view_statements f.body)) file.functions) →
-    (cs : List Contents) (files : List FileParts) → AreTypedAs cs files → AllByRecursion (λ (f : Function). P (view_statements f.body)) (functions_from [] 0 files)
+all_have : (P : Statements → Type 0) → ((c : FileContents) (file : FileParts) → IsTypedAs c file → AllByRecursion (λ (f : TypedFunction). P (view_statements f.body)) file.functions) →
+    (cs : List FileContents) (files : List FileParts) → AreTypedAs cs files → AllByRecursion (λ (f : Function). P (view_statements f.body)) (functions_from [] 0 files)
 all_have P each cs files t =
     subst (AllByRecursion (λ (f : Function). P (view_statements f.body))) (sym (functions_from_is [] 0 files)) (all_files_have P each 0 cs files t)
 

@@ -8,8 +8,8 @@ use Rattle.dae_tree.specs.Trees.{Expression, Expressions}
 use Rattle.dae_tree.specs.Depth.{place_of}
 use Rattle.dae_meaning.specs.declared.Spelling.{Spelling}
 use Rattle.dae_meaning.specs.declared.Spelling.TheVariants as spelling
-use Rattle.dae_program.specs.declared.statements.Piece.{Piece}
-use Rattle.dae_program.specs.declared.statements.Piece.TheVariants as piece
+use Rattle.dae_program.specs.declared.statements.FormatPiece.{FormatPiece}
+use Rattle.dae_program.specs.declared.statements.FormatPiece.TheVariants as piece
 use Rattle.dae_program.specs.Trees as program
 use Rattle.dae_types_kinds.specs.Types.{word_for}
 use Rattle.dae_types_kinds.specs.declared.rules.Breach.{Breach}
@@ -19,7 +19,7 @@ use Rattle.dae_types_rules.specs.Sites.{AtFormat}
 use Rattle.dae_types_rules.specs.Plan.{ask_all}
 use Rattle.dae_types_plans.specs.Steps.{count_of}
 use Rattle.dae_types_file_plans.specs.Initialisers.{literal_in, literal_bytes}
-use Rattle.dae_types_file_plans.specs.Formats.{Part, InText, BehindPercent, BehindLong, with_piece, number_piece, letter_piece, converted_with, pieces_from, letters}
+use Rattle.dae_types_file_plans.specs.Formats.{ConversionPart, InText, BehindPercent, BehindLong, with_piece, number_piece, letter_piece, converted_with, pieces_from, letters}
 use Rattle.dae_types_file_plans.specs.Statements.{format_of, wanted_by, pieces_or, format_at, plan_printed, listed_all, plan_printf, arguments_of}
 use Rattle.dae_sizes.specs.Worth.{worth, worth_of_all, worth_of_more, declares, declares_in_all}
 use Rattle.dae_sizes.specs.Weights.{weight_of_all, weight_of_pieces, weight_in}
@@ -31,25 +31,25 @@ use Rattle.dae_sizes.proofs.Initialisers.{text_in, text_is, literal_pays}
 
 -- ---- the pieces of a format: bytes of its own for its bytes, and 4 for each argument that it wants
 
-abbrev Paid : ℕ → List ℕ → Option (List Piece) → Type 0
+abbrev Paid : ℕ → List ℕ → Option (List FormatPiece) → Type 0
 Paid c bs o = IfSome o (λ ps. weight_of_pieces c ps ≤ for_each c bs + 4 * length (letters ps))
 
-piece_paid : (c b x : ℕ) (bs : List ℕ) (o : Option (List Piece)) → Paid c bs o → Paid c (b ∷ bs) (with_piece (piece.Byte x) o)
+piece_paid : (c b x : ℕ) (bs : List ℕ) (o : Option (List FormatPiece)) → Paid c bs o → Paid c (b ∷ bs) (with_piece (piece.Byte x) o)
 piece_paid c b x bs None h = h
 piece_paid c b x bs (Some ps) h = omega (arith, h)
 
-more_paid : (c b : ℕ) (bs : List ℕ) (o : Option (List Piece)) → Paid c bs o → Paid c (b ∷ bs) o
+more_paid : (c b : ℕ) (bs : List ℕ) (o : Option (List FormatPiece)) → Paid c bs o → Paid c (b ∷ bs) o
 more_paid c b bs None h = h
 more_paid c b bs (Some ps) h = omega (arith, h)
 
 -- a conversion of an argument
-IsConversion : Option Piece → Type 0
+IsConversion : Option FormatPiece → Type 0
 IsConversion None = Unit {0}
 IsConversion (Some (piece.Byte b)) = ⊥
 IsConversion (Some (piece.Word s k)) = Unit {0}
 IsConversion (Some (piece.String k)) = Unit {0}
 
-conversion_paid : (c b : ℕ) (bs : List ℕ) (x : Option Piece) (o : Option (List Piece)) → IsConversion x → Paid c bs o → Paid c (b ∷ bs) (converted_with x o)
+conversion_paid : (c b : ℕ) (bs : List ℕ) (x : Option FormatPiece) (o : Option (List FormatPiece)) → IsConversion x → Paid c bs o → Paid c (b ∷ bs) (converted_with x o)
 unfolding IsConversion
 conversion_paid c b bs None o i h = tt
 conversion_paid c b bs (Some (piece.Byte y)) o i h = absurd i
@@ -58,7 +58,7 @@ conversion_paid c b bs (Some (piece.Word s k)) (Some ps) i h = omega (arith, h)
 conversion_paid c b bs (Some (piece.String k)) None i h = tt
 conversion_paid c b bs (Some (piece.String k)) (Some ps) i h = omega (arith, h)
 
-conversion_if : (b : Bool) (x y : Option Piece) → IsConversion x → IsConversion y → IsConversion (if b then x else y)
+conversion_if : (b : Bool) (x y : Option FormatPiece) → IsConversion x → IsConversion y → IsConversion (if b then x else y)
 conversion_if true x y h k = h
 conversion_if false x y h k = k
 
@@ -83,11 +83,11 @@ number_converts k b =
 letter_converts : (k b : ℕ) → IsConversion (letter_piece k b)
 letter_converts k b = conversion_if (nat_eq b 99) _ _ (word_converts spelling.Byte k) (conversion_if (nat_eq b 115) _ _ (string_converts k) (number_converts k b))
 
-paid_if : (c : ℕ) (bs : List ℕ) (b : Bool) (x y : Option (List Piece)) → Paid c bs x → Paid c bs y → Paid c bs (if b then x else y)
+paid_if : (c : ℕ) (bs : List ℕ) (b : Bool) (x y : Option (List FormatPiece)) → Paid c bs x → Paid c bs y → Paid c bs (if b then x else y)
 paid_if c bs true x y h k = h
 paid_if c bs false x y h k = k
 
-pieces_paid : (c : ℕ) (part : Part) (k : ℕ) (bs : List ℕ) → Paid c bs (pieces_from part k bs)
+pieces_paid : (c : ℕ) (part : ConversionPart) (k : ℕ) (bs : List ℕ) → Paid c bs (pieces_from part k bs)
 pieces_paid c InText k [] = omega arith
 pieces_paid c BehindPercent k [] = tt
 pieces_paid c BehindLong k [] = tt
@@ -104,12 +104,12 @@ pieces_paid c BehindLong k (b ∷ bs) = conversion_paid c b bs (number_piece k b
 
 -- ---- a format has as many arguments as it wants, or its rule is broken
 
-pub asked_by : (b : Bool) (p : Place) (s : Tables) (ps : List Piece) (Q : Tables × List Piece → Type 0) → (b ≡ true → Q (s, ps)) →
-    IfOk {T = Tables × List Piece} {E = Breach} (elim (not b) [ true ↦ Err (record { rule = rule.BadFormat; place = p }) | false ↦ Ok (s, ps) ]) Q
+pub asked_by : (b : Bool) (p : Place) (s : Tables) (ps : List FormatPiece) (Q : Tables × List FormatPiece → Type 0) → (b ≡ true → Q (s, ps)) →
+    IfOk {T = Tables × List FormatPiece} {E = Breach} (elim (not b) [ true ↦ Err (record { rule = rule.BadFormat; place = p }) | false ↦ Ok (s, ps) ]) Q
 asked_by true p s ps Q h = h refl
 asked_by false p s ps Q h = tt
 
-format_asked : (c : ℕ) (p : Place) (o : Option (List Piece)) (bs : List ℕ) (given : ℕ) (s : Tables) → Paid c bs o → IfOk (ask_all (AtFormat p (wanted_by o) given ∷ []) (Ok (s, pieces_or o))) (Got (weight_of_pieces c) 0 (for_each c bs + 4 * given) s)
+format_asked : (c : ℕ) (p : Place) (o : Option (List FormatPiece)) (bs : List ℕ) (given : ℕ) (s : Tables) → Paid c bs o → IfOk (ask_all (AtFormat p (wanted_by o) given ∷ []) (Ok (s, pieces_or o))) (Got (weight_of_pieces c) 0 (for_each c bs + 4 * given) s)
 unfolding ask_all
 format_asked c p None bs given s h = tt
 format_asked c p (Some ps) bs given s h = asked_by (nat_eq (length (letters ps)) given) p s ps (Got (weight_of_pieces c) 0 (for_each c bs + 4 * given) s)

@@ -4,7 +4,7 @@ use Rattle.dae_base.specs.declared.Place.{Place}
 use Rattle.dae_tree.specs.declared.words.Keyword.TheVariants as keywords
 use Rattle.dae_tree.specs.declared.signs.Sign.TheVariants as signs
 use Rattle.dae_tree.specs.declared.expressions.Name.{Name}
-use Rattle.dae_tree.specs.Marks.{Mark, word, sign, name, constant, literal, part, close_paren, close_bracket, close_brace, comma, colon, else_word, literal_numbers}
+use Rattle.dae_tree.specs.Marks.{TokenMark, word, sign, name, constant, literal, part, close_paren, close_bracket, close_brace, comma, colon, else_word, literal_numbers}
 use Rattle.dae_tree.specs.Operators.{binary_sign, assignment_sign, postfix_sign, member_sign}
 use Rattle.dae_tree.specs.Spelling.{spell, spell_all, spell_more, spell_specifiers, spell_specifier, spell_members, spell_enumerators, spell_more_enumerators, spell_declarators, spell_more_declarators, spell_declarator, spell_parameters, spell_more_parameters, spell_tag, spell_qualifiers, spell_comma}
 use Rattle.dae_tree.specs.Statements.{spell_initialiser, spell_initialisers, spell_more_initialisers, spell_value, spell_item, spell_items, spell_more_items, spell_declaration, spell_declarations, spell_optional, spell_test, spell_statement, spell_statements, spell_external}
@@ -13,12 +13,12 @@ use Rattle.dae_tree.specs.Words.{nothing_seen}
 use Rattle.dae_tree.specs.Grammar.{by_name, IsSpecifiers, IsDeclarator}
 use Rattle.dae_tree.specs.Statements.{IsExternal}
 use Rattle.dae_tree.specs.Trees as tree
-use Rattle.dae_tree.specs.Trees.{Expression, Expressions, Specifiers, Specifier, Members, Enumerators, Declarators, Declarator, Parameters, Initialiser, Initialisers, Item, Declaration, Statement, Statements, External}
+use Rattle.dae_tree.specs.Trees.{Expression, Expressions, Specifiers, Specifier, Members, Enumerators, Declarators, Declarator, Parameters, Initialiser, Initialisers, BlockItem, Declaration, Statement, Statements, External}
 use Rattle.dae_sizes.specs.Worth.{worth, worth_of_all, worth_of_more, worth_of_initialiser, worth_of_initialisers, worth_of_value, worth_of_items, worth_of_declarations, worth_of_optional, worth_of_statement, worth_of_statements, worth_of_external, declares, declares_in_all, declares_in_specifiers, declares_in_specifier, declares_in_members, declares_in_enumerators, declares_in_declarators, declares_in, declares_in_parameters, declares_in_initialiser, declares_in_initialisers, declares_in_value, declares_in_items, declares_in_declarations, declares_in_optional, declares_in_statement, declares_in_statements, declares_in_external, priced, TokensPay, IsDefinition, DefinitionsAreLong}
 
 module _ (price : ℕ → ℕ) where
   -- what tokens pay
-  abbrev pub paid : List Mark → ℕ
+  abbrev pub paid : List TokenMark → ℕ
   paid [] = 0
   paid (word k p ∷ ts) = 4 + paid ts
   paid (sign s p ∷ ts) = 4 + paid ts
@@ -28,8 +28,8 @@ module _ (price : ℕ → ℕ) where
   paid (part x ∷ ts) = 4 + paid ts
 
   -- what is spelled pays for so much
-  abbrev Pays : (List Mark → List Mark) → ℕ → Type 0
-  Pays f n = (rest : List Mark) → n + paid rest ≤ paid (f rest)
+  abbrev Pays : (List TokenMark → List TokenMark) → ℕ → Type 0
+  Pays f n = (rest : List TokenMark) → n + paid rest ≤ paid (f rest)
 
   tag_pays : (n : Option Name) → Pays (spell_tag n) 0
   tag_pays None rest = omega arith
@@ -200,19 +200,19 @@ module _ (price : ℕ → ℕ) where
   value_pays None rest = omega arith
   value_pays (Some x) rest = let h = initialiser_pays x.1 rest in omega (arith, h)
 
-  item_pays : (i : Item) → Pays (spell_item i) (worth_of_value price i.initialiser + 4 * (declares_in i.declarator + declares_in_value i.initialiser))
+  item_pays : (i : BlockItem) → Pays (spell_item i) (worth_of_value price i.initialiser + 4 * (declares_in i.declarator + declares_in_value i.initialiser))
   item_pays i rest =
       let h = value_pays i.initialiser rest in
       let g = declarator_pays i.declarator (spell_value i.initialiser rest) in omega (arith, h, g)
 
-  more_items_pay : (items : List Item) → Pays (spell_more_items items) (worth_of_items price items + 4 * declares_in_items items)
+  more_items_pay : (items : List BlockItem) → Pays (spell_more_items items) (worth_of_items price items + 4 * declares_in_items items)
   more_items_pay [] rest = omega arith
   more_items_pay (i ∷ items) rest =
       let h = more_items_pay items rest in
       let g = item_pays i (spell_more_items items rest) in omega (arith, h, g)
 
   -- with the semicolon at their end
-  items_pay : (items : List Item) (p : Place) (rest : List Mark) → worth_of_items price items + 4 * declares_in_items items + paid rest ≤ paid (spell_items items (sign signs.Semicolon p ∷ rest))
+  items_pay : (items : List BlockItem) (p : Place) (rest : List TokenMark) → worth_of_items price items + 4 * declares_in_items items + paid rest ≤ paid (spell_items items (sign signs.Semicolon p ∷ rest))
   items_pay [] p rest = omega arith
   items_pay (i ∷ items) p rest =
       let h = more_items_pay items (sign signs.Semicolon p ∷ rest) in
@@ -332,7 +332,7 @@ module _ (price : ℕ → ℕ) where
       let g = specifiers_long names ws grammar.0 (spell_declarator d (spell_statement (tree.Block p ds ss) [])) in omega (arith, f, h, g)
 
   -- 4 for each token, and the prices of the literals
-  paid_is : (ts : List Mark) → paid ts ≤ 4 * length ts + priced price (literal_numbers ts)
+  paid_is : (ts : List TokenMark) → paid ts ≤ 4 * length ts + priced price (literal_numbers ts)
   paid_is [] = omega arith
   paid_is (word k p ∷ ts) = let h = paid_is ts in omega (arith, h)
   paid_is (sign s p ∷ ts) = let h = paid_is ts in omega (arith, h)

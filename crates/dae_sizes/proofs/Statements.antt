@@ -5,7 +5,7 @@ use Rattle.std.specs.Prelude.{slice_get, is_some}
 use Rattle.dae_base.specs.declared.Place.{Place}
 use Rattle.dae_tree.specs.declared.expressions.Name.{Name}
 use Rattle.dae_tree.specs.Trees as tree
-use Rattle.dae_tree.specs.Trees.{Expression, Initialiser, Item, Declaration, Statement, Statements}
+use Rattle.dae_tree.specs.Trees.{Expression, Initialiser, BlockItem, Declaration, Statement, Statements}
 use Rattle.dae_tree.specs.Depth.{place_of, place_of_specifiers}
 use Rattle.dae_tree.specs.Names.{declared_name, has_typedef}
 use Rattle.dae_program.specs.Trees as program
@@ -16,7 +16,7 @@ use Rattle.dae_types_kinds.specs.declared.tables.Storage.TheVariants as storage
 use Rattle.dae_types_kinds.specs.Tables.{Tables}
 use Rattle.dae_types_kinds.specs.Types.{shape_of, is_scalar}
 use Rattle.dae_types_kinds.specs.Values.{Typed, converted}
-use Rattle.dae_types_rules.specs.Plan.{Plan}
+use Rattle.dae_types_rules.specs.Plan.{CheckPlan}
 use Rattle.dae_types_plans.specs.Steps.{declared_place}
 use Rattle.dae_types_file_plans.specs.declared.surroundings.Surrounding.{Surrounding}
 use Rattle.dae_types_file_plans.specs.Initialisers.{Content}
@@ -92,15 +92,15 @@ abbrev pub statement_cost : ℕ → program.Statements → ℕ
 statement_cost c x = 1 + weight_in c x
 
 module _ (c : ℕ) (low : c ≤ 1) (ls : List (List ℕ)) where
-  appended_within : {n w : ℕ} {m : Plan program.Statements} (done : program.Statements) → Within ls (weight_in c) n w m → Within ls (weight_in c) n (weight_in c done + w) (appended done m)
+  appended_within : {n w : ℕ} {m : CheckPlan program.Statements} (done : program.Statements) → Within ls (weight_in c) n w m → Within ls (weight_in c) n (weight_in c done + w) (appended done m)
   appended_within done h = maps_reads h (λ s x e l. let g = weight-behind c done x in omega (arith, l, g))
 
   -- ---- local declarations
 
-  pub typedef_within : {n w : ℕ} {μ : NamedType → ℕ} {m : Plan NamedType} (p : Place) (block given : Bool) (name : Option Name) → Within ls μ n w m → Within ls none n 0 (typedef_at p block given name m)
+  pub typedef_within : {n w : ℕ} {μ : NamedType → ℕ} {m : CheckPlan NamedType} (p : Place) (block given : Bool) (name : Option Name) → Within ls μ n w m → Within ls none n 0 (typedef_at p block given name m)
   typedef_within p block given name h = settles_within name (node_keeps (unmeasured h) (λ s x. typedef_grown name x.type_id s))
 
-  pub local_within : {n w : ℕ} {μ : NamedType → ℕ} {m : Plan NamedType} (p : Place) (given : Bool) (name : Option Name) → Within ls μ n w m → Within ls none (n + count_name name) 0 (local_at p given name m)
+  pub local_within : {n w : ℕ} {μ : NamedType → ℕ} {m : CheckPlan NamedType} (p : Place) (given : Bool) (name : Option Name) → Within ls μ n w m → Within ls none (n + count_name name) 0 (local_at p given name m)
   local_within p given name h = settles_within name (node_within h (λ s x e l. record { grown = local_grown name x.type_id s; small = omega arith }))
 
   own_weighs : (b : Bool) (p : Place) (s : Tables) (k : ℕ) (e : program.Expression) → names_stored (slice_get s.storages k) e ≡ b → weight_in c (own_set b p s k e) ≤ 5 + weight c e
@@ -111,7 +111,7 @@ module _ (c : ℕ) (low : c ≤ 1) (ls : List (List ℕ)) where
     stored_free (Some (storage.Frame v)) h = cc
     stored_free None h = cc
 
-  scalar_value_within : {n w : ℕ} {m : Plan Typed} (p q : Place) (k : ℕ) → Within ls (cost c 2) n w m → Within ls (weight_in c) n (4 + w) (scalar_value_at p q k m)
+  scalar_value_within : {n w : ℕ} {m : CheckPlan Typed} (p q : Place) (k : ℕ) → Within ls (cost c 2) n w m → Within ls (weight_in c) n (4 + w) (scalar_value_at p q k m)
   scalar_value_within p q k h = node_stays h (λ s x e l. record {
     grown = stays 0;
     small =
@@ -128,7 +128,7 @@ module _ (c : ℕ) (low : c ≤ 1) (ls : List (List ℕ)) where
     first_scalar_within p k tree.no_initialisers = pure_within program.Done (omega arith)
     first_scalar_within p k (tree.initialiser_then x xs) = weaker (omega arith) (omega arith) (scalar_within p k x)
 
-  initialised_within : {n w : ℕ} {m : Plan Content} (p : Place) (k : ℕ) → Within ls (held c) n w m → Within ls (weight_in c) n (8 + w) (initialised_at p k m)
+  initialised_within : {n w : ℕ} {m : CheckPlan Content} (p : Place) (k : ℕ) → Within ls (held c) n w m → Within ls (weight_in c) n (8 + w) (initialised_at p k m)
   initialised_within p k h = maps_stays h (λ s x e l. record { grown = type_grown k x.type_id s; small = omega (arith, l) })
 
   begun_weighs : (b : Bool) (p : Place) (s : Tables) (k : ℕ) → weight_in c (if b then set_to p s k (program.Number 0) else program.Done) ≤ 4
@@ -147,7 +147,7 @@ module _ (c : ℕ) (low : c ≤ 1) (ls : List (List ℕ)) where
   plan_local_within p (Some x) None = maps_reads (unused_initialiser_within c low ls x.1) (λ s f e l. omega arith)
   plan_local_within p (Some x) (Some k) = weaker (omega arith) (omega arith) (chain_within (looks_within {μ = none} {w = 0} (λ s. is_scalar (shape_of s (type_of_local s k))) (λ s e. omega arith)) (λ b l. given_within p k x.1 b))
 
-  item_within : (is_typedef : Bool) (p : Place) (b : ℕ) (i : Item) → Within ls (weight_in c) (declares_in i.declarator + declares_in_value i.initialiser) (4 + worth_of_value (price c ls) i.initialiser) (plan_item_at is_typedef p b i)
+  item_within : (is_typedef : Bool) (p : Place) (b : ℕ) (i : BlockItem) → Within ls (weight_in c) (declares_in i.declarator + declares_in_value i.initialiser) (4 + worth_of_value (price c ls) i.initialiser) (plan_item_at is_typedef p b i)
   item_within true p b i =
       let h = own_and_inner i.declarator in
       fewer (omega (arith, h)) (maps_reads (typedef_within p true (is_some i.initialiser) (declared_name i.declarator) (declarator_within c low ls p false b i.declarator)) (λ s x e l. omega arith))
@@ -156,7 +156,7 @@ module _ (c : ℕ) (low : c ≤ 1) (ls : List (List ℕ)) where
       let g = own_is i.declarator in
       fewer (omega (arith, h, g)) (chain_within (local_within p (is_some i.initialiser) (declared_name i.declarator) (declarator_within c low ls p false b i.declarator)) (λ k l. plan_local_within p i.initialiser k))
 
-  items_within : (q : Place) (is_typedef : Bool) (b : ℕ) (done : program.Statements) (items : List Item) → Within ls (weight_in c) (declares_in_items items) (weight_in c done + worth_of_items (price c ls) items) (plan_items q is_typedef b done items)
+  items_within : (q : Place) (is_typedef : Bool) (b : ℕ) (done : program.Statements) (items : List BlockItem) → Within ls (weight_in c) (declares_in_items items) (weight_in c done + worth_of_items (price c ls) items) (plan_items q is_typedef b done items)
   items_within q is_typedef b done [] = pure_within done (omega arith)
   items_within q is_typedef b done (i ∷ items) =
       fewer (omega arith) (chain_within (appended_within done (item_within is_typedef (declared_place i.declarator q) b i)) (λ more l. lighter (omega (arith, l)) (items_within q is_typedef b more items)))
@@ -249,7 +249,7 @@ module _ (c : ℕ) (low : c ≤ 1) (ls : List (List ℕ)) where
     statements_at k done (tree.statement_then t ts) X =
         chain_within (appended_within done (measured {v = worth_of_statement (price c ls) t} (λ x l. omega (arith, l)) (statement_at k t X))) (λ more l. lighter (omega (arith, l)) (statements_at k more ts X))
 
-    body_at : (k : Surrounding) (t : Statement) (m : Plan program.Statements) → Within ls (statement_cost c) (declares_in_statement t) (worth_of_statement (price c ls) t) m → Within ls (arms_weigh c) (declares_in_statement t) (worth_of_statement (price c ls) t) (plan_body k t m)
+    body_at : (k : Surrounding) (t : Statement) (m : CheckPlan program.Statements) → Within ls (statement_cost c) (declares_in_statement t) (worth_of_statement (price c ls) t) m → Within ls (arms_weigh c) (declares_in_statement t) (worth_of_statement (price c ls) t) (plan_body k t m)
     body_at k (tree.Block p ds ss) m h =
         scoped_within (weaker (omega arith) (omega arith) (chain_within (node_keeps nothing_within (λ s x. stays 0)) (λ x l. chain_within (declarations_within program.Done ds) (λ y l. arms_at k (record { seen = []; arms = [] }) ss (Unit {0})))))
     body_at k t m h = fewer (omega arith) (chain_within (asks_within nothing_within) (λ x l. maps_reads h (λ s y q l. omega arith)))
@@ -258,7 +258,7 @@ module _ (c : ℕ) (low : c ≤ 1) (ls : List (List ℕ)) where
     arms_at k a tree.no_statements X = pure_within a.arms (omega arith)
     arms_at k a (tree.statement_then t ts) X = chain_within (labelled_at k a t (plan_statement k t) (statement_at k t X)) (λ b l. lighter (omega (arith, l)) (arms_at k b ts X))
 
-    labelled_at : (k : Surrounding) (a : Arming) (t : Statement) (m : Plan program.Statements) → Within ls (statement_cost c) (declares_in_statement t) (worth_of_statement (price c ls) t) m → Within ls (arming_weighs c) (declares_in_statement t) (arming_weighs c a + worth_of_statement (price c ls) t) (plan_labelled k a t m)
+    labelled_at : (k : Surrounding) (a : Arming) (t : Statement) (m : CheckPlan program.Statements) → Within ls (statement_cost c) (declares_in_statement t) (worth_of_statement (price c ls) t) m → Within ls (arming_weighs c) (declares_in_statement t) (arming_weighs c a + worth_of_statement (price c ls) t) (plan_labelled k a t m)
     labelled_at k a (tree.Case p e t) m h = chain_within (case_within p a e) (λ b l. lighter (omega (arith, l)) (labelled_at k b t (plan_statement k t) (statement_at k t (Unit {0}))))
     labelled_at k a (tree.Default p t) m h = fewer (omega arith) (chain_within (default_within p a) (λ b l. lighter (omega (arith, l)) (labelled_at k b t (plan_statement k t) (statement_at k t (Unit {0})))))
     labelled_at k a t m h = maps_reads h (λ s x q l. let g = statement_weighs c x a.arms in omega (arith, l, g))

@@ -9,7 +9,7 @@ use Rattle.dae_tree.specs.declared.words.Keyword.{Keyword}
 use Rattle.dae_tree.specs.declared.expressions.Name.{Name}
 use Rattle.dae_tree.specs.FileViews.{view_externals}
 use Rattle.dae_tree.specs.Trees as tree
-use Rattle.dae_tree.specs.Trees.{Specifiers, Declarator, Parameters, Initialiser, Item, Declaration, Statements, External}
+use Rattle.dae_tree.specs.Trees.{Specifiers, Declarator, Parameters, Initialiser, BlockItem, Declaration, Statements, External}
 use Rattle.dae_tree.specs.Depth.{place_of_specifiers}
 use Rattle.dae_tree.specs.Names.{declared_name, has_typedef, function_part}
 use Rattle.dae_program.specs.Trees as program
@@ -22,14 +22,14 @@ use Rattle.dae_types_kinds.specs.declared.tables.Context.TheVariants as context
 use Rattle.dae_types_kinds.specs.Tables.{Tables}
 use Rattle.dae_types_kinds.specs.Types.{shape_of, is_function}
 use Rattle.dae_types_rules.specs.Table.{is_extern, is_static}
-use Rattle.dae_types_rules.specs.Plan.{Plan, pure, maps, check_of, IsChecked}
+use Rattle.dae_types_rules.specs.Plan.{CheckPlan, pure, maps, check_of, IsChecked}
 use Rattle.dae_types_plans.specs.Steps.{changes_to, declared_place}
 use Rattle.dae_types_file_plans.specs.declared.declarations.Role.{Role}
 use Rattle.dae_types_file_plans.specs.declared.declarations.Role.TheVariants.{Reference, Definition}
 use Rattle.dae_types_file_plans.specs.Promise.{FilesAreChecked}
 use Rattle.dae_types_file_plans.specs.Statements.{is_alone}
 use Rattle.dae_types_file_plans.specs.Files.{Product, Declares, Data, Body, role_of, declares_object, declares_function, type_of_object, plan_data, plan_either, plan_typed, plan_item_at, plan_items, storage_of, plan_declared, is_direct, started, parameters_in, count_parameters, surrounding, is_main_name, settled_locals, keep_scope, body_product, second_time, twice, plan_body_of, plan_defined_as, plan_defined, plan_external, plan_externals, plan_file}
-use Rattle.dae_types_typed.specs.Reading.{Content, contents_in, view_data}
+use Rattle.dae_types_typed.specs.Reading.{ObjectContent, contents_in, view_data}
 use Rattle.dae_types_typed.specs.declared.files.Datum.{Datum}
 use Rattle.dae_types_typed.specs.declared.files.FileParts.{FileParts}
 use Rattle.dae_sizes.specs.Worth.{declares_in_value}
@@ -83,18 +83,18 @@ module _ (ls : List (List ℕ)) where
       fewer (omega arith) (chain_within (looks_within {μ = none} {w = 0} (λ s. type_of_object s o) (λ s e. omega arith))
       (λ t l. maps_stays (content_constant ls p 0 t x.1) (λ s y e l. record { grown = object_type_grown o y.type_id s (slice_get s.objects o); small = omega (arith, l) })))
 
-  either_clean : (p : Place) (k : Option Keyword) (i : Item) (t : ℕ) (b : Bool) → Within ls odd (declares_in_value i.initialiser) 0 (plan_either p k i t b)
+  either_clean : (p : Place) (k : Option Keyword) (i : BlockItem) (t : ℕ) (b : Bool) → Within ls odd (declares_in_value i.initialiser) 0 (plan_either p k i t b)
   either_clean p k i t true = fewer (omega arith) (maps_reads (function_at_within 0 low ls p _ _ (declared_name i.declarator) t) (λ s f e l. function_declared p Reference f))
   either_clean p k i t false =
       fewer (omega arith) (chain_within (object_at_within 0 low ls p k (is_some i.initialiser) (declared_name i.declarator) t) (λ o l. maps_reads (data_clean p i.initialiser o) (λ s xs e l.
       let r = role_of (is_some i.initialiser) (not (is_extern k)) in
       behind_clean (declares_object p r o) xs (object_declared p r o) l)))
 
-  typed_clean : (p : Place) (k : Option Keyword) (i : Item) (t : Option ℕ) → Within ls odd (declares_in_value i.initialiser) 0 (plan_typed p k i t)
+  typed_clean : (p : Place) (k : Option Keyword) (i : BlockItem) (t : Option ℕ) → Within ls odd (declares_in_value i.initialiser) 0 (plan_typed p k i t)
   typed_clean p k i None = data_clean p i.initialiser None
   typed_clean p k i (Some t) = fewer (omega arith) (chain_within (looks_within {μ = none} {w = 0} (λ s. is_function (shape_of s t)) (λ s e. omega arith)) (λ b l. either_clean p k i t b))
 
-  item_clean : (is_typedef : Bool) (p : Place) (k : Option Keyword) (b : ℕ) (i : Item) → Within ls odd (inner i.declarator + declares_in_value i.initialiser) 0 (plan_item_at is_typedef p k b i)
+  item_clean : (is_typedef : Bool) (p : Place) (k : Option Keyword) (b : ℕ) (i : BlockItem) → Within ls odd (inner i.declarator + declares_in_value i.initialiser) 0 (plan_item_at is_typedef p k b i)
   item_clean true p k b i = fewer (omega arith) (maps_reads (typedef_within 0 low ls p false (is_some i.initialiser) (declared_name i.declarator) (declarator_within 0 low ls p false b i.declarator)) (λ s x e l. omega arith))
   item_clean false p k b i =
       chain_within (settles_within (declared_name i.declarator) (maps_keeps (unmeasured (declarator_within 0 low ls p false b i.declarator)) (λ s x. stays 0))) (λ t l. typed_clean p k i t)
@@ -109,7 +109,7 @@ module _ (ls : List (List ℕ)) where
   abbrev Clean : Tables → List Product → Type 0
   Clean s xs = odd xs ≤ 0
 
-  items_clean : (is_typedef : Bool) (q : Place) (k : Option Keyword) (b : ℕ) (done : List Product) (items : List Item) → Leads ls (λ s. odd done ≤ 0) Clean (plan_items is_typedef q k b done items)
+  items_clean : (is_typedef : Bool) (q : Place) (k : Option Keyword) (b : ℕ) (done : List Product) (items : List BlockItem) → Leads ls (λ s. odd done ≤ 0) Clean (plan_items is_typedef q k b done items)
   items_clean is_typedef q k b done [] = leads_pure done (λ s h. h)
   items_clean is_typedef q k b done (i ∷ items) =
       leads_chain {Between = Clean}
@@ -134,14 +134,14 @@ module _ (ls : List (List ℕ)) where
   altered : (f : Tables → Tables) → ((s : Tables) → (f s).literals ≡ s.literals) → Leads ls Start Any (maps (λ s x. (f s, tt {0})) (pure (tt {0})))
   altered f k = leads_maps {Between = λ s u. Unit {0}} (leads_pure (tt {0}) (λ s h. tt)) (λ s u e h. record { literals = k s ∙ e; so = tt })
 
-  second_clean : {b w : ℕ} {μ : program.Statements → ℕ} {m : Plan program.Statements} (f : Option ℕ) → Within ls μ b w m → Leads ls Start Clean (second_time f m)
+  second_clean : {b w : ℕ} {μ : program.Statements → ℕ} {m : CheckPlan program.Statements} (f : Option ℕ) → Within ls μ b w m → Leads ls Start Clean (second_time f m)
   second_clean f h = leads_maps {Between = Any} (leads_within (in_body_within 0 low ls h) (λ s t y h g l. tt)) (λ s y e h. record { literals = e; so = body_clean f s y })
 
   settled : (n : ℕ) (olds : List Tables) → Leads ls Start Any (changes_to (λ s. settled_locals n (elim olds [ [] ↦ s | old ∷ rest ↦ keep_scope old s ])))
   settled n [] = altered (λ s. settled_locals n s) (λ s. refl)
   settled n (old ∷ rest) = altered (λ s. settled_locals n (keep_scope old s)) (λ s. refl)
 
-  twice_clean : {b w : ℕ} {μ : program.Statements → ℕ} {m : Plan program.Statements} (n : ℕ) (f : Option ℕ) → Within ls μ b w m → Leads ls Start Clean (twice n f m)
+  twice_clean : {b w : ℕ} {μ : program.Statements → ℕ} {m : CheckPlan program.Statements} (n : ℕ) (f : Option ℕ) → Within ls μ b w m → Leads ls Start Clean (twice n f m)
   twice_clean n f h =
       leads_chain {Between = Any} (looked (λ s. s ∷ []))
       (λ olds. leads_chain {Between = Any} (leads_within (first_within 0 low ls n h) (λ s t u h g l. tt))
@@ -163,7 +163,7 @@ module _ (ls : List (List ℕ)) where
   clean_behind done b (Ok x) q = record { literals = q.literals; so = behind_clean done x.1 b q.so }
   clean_behind done b (Err f) q = tt
 
-  produced_clean : (done : List Product) {m : Plan (List Product)} → Leads ls Start Clean m → Leads ls (λ s. odd done ≤ 0) Clean (maps (λ s xs. (s, done ++ xs)) m)
+  produced_clean : (done : List Product) {m : CheckPlan (List Product)} → Leads ls Start Clean m → Leads ls (λ s. odd done ≤ 0) Clean (maps (λ s xs. (s, done ++ xs)) m)
   produced_clean done {m} h =
       leads_maps {Between = λ s xs. odd (done ++ xs) ≤ 0} (record { leads = λ s e b. clean_behind done b (check_of m s) (h.leads s e tt) })
       (λ s xs e g. record { literals = e; so = g })
@@ -231,7 +231,7 @@ constant_items : (xs : List Setting) → others (view_settings xs) ≤ 0 → All
 constant_items [] h = tt
 constant_items (x ∷ xs) h = (constant_value x.value (omega (arith, h)), constant_items xs (omega (arith, h)))
 
-abbrev odd_in : List Content → ℕ
+abbrev odd_in : List ObjectContent → ℕ
 odd_in [] = 0
 odd_in (c ∷ cs) = others c.settings + odd_in cs
 

@@ -5,11 +5,11 @@ use Rattle.std.proofs.lemmas.Result.{IfOk-at_ok}
 use Rattle.std.specs.Prelude.{IfOk, slice_get, is_some, nat_eq}
 use Rattle.dae_base.specs.declared.Place.{Place}
 use Rattle.dae_tree.specs.Trees as tree
-use Rattle.dae_tree.specs.Trees.{Expression, Expressions, Initialiser, Item, Declaration, Statement, Statements}
+use Rattle.dae_tree.specs.Trees.{Expression, Expressions, Initialiser, BlockItem, Declaration, Statement, Statements}
 use Rattle.dae_tree.specs.Depth.{place_of, place_of_specifiers}
 use Rattle.dae_tree.specs.Names.{declared_name, has_typedef}
-use Rattle.dae_program.specs.declared.statements.Piece.{Piece}
-use Rattle.dae_program.specs.declared.statements.Piece.TheVariants as piece
+use Rattle.dae_program.specs.declared.statements.FormatPiece.{FormatPiece}
+use Rattle.dae_program.specs.declared.statements.FormatPiece.TheVariants as piece
 use Rattle.dae_program.specs.Switches.{count_labels}
 use Rattle.dae_program.specs.Trees as program
 use Rattle.dae_types_kinds.specs.declared.tables.Context.TheVariants as context
@@ -18,7 +18,7 @@ use Rattle.dae_types_kinds.specs.declared.tables.Storage.TheVariants as storage
 use Rattle.dae_types_kinds.specs.Tables.{Tables}
 use Rattle.dae_types_kinds.specs.Types.{shape_of, is_scalar}
 use Rattle.dae_types_kinds.specs.Values.{Typed, converted}
-use Rattle.dae_types_rules.specs.Plan.{Plan, ask_all}
+use Rattle.dae_types_rules.specs.Plan.{CheckPlan, ask_all}
 use Rattle.dae_types_rules.specs.Sites.{AtFormat}
 use Rattle.dae_types_plans.specs.Steps.{declared_place, count_of}
 use Rattle.dae_types_file_plans.specs.declared.surroundings.Surrounding.{Surrounding}
@@ -108,13 +108,13 @@ listed_printed : (es : List program.Expression) → ticks_of_printed (listed_all
 listed_printed [] = refl
 listed_printed (e ∷ es) = let h = listed_printed es in omega (arith, h)
 
-letters_counted : (ps : List Piece) → conversions ps ≡ length (letters ps)
+letters_counted : (ps : List FormatPiece) → conversions ps ≡ length (letters ps)
 letters_counted [] = refl
 letters_counted (piece.Byte b ∷ ps) = letters_counted ps
 letters_counted (piece.Word spelling k ∷ ps) = let h = letters_counted ps in omega (arith, h)
 letters_counted (piece.String k ∷ ps) = let h = letters_counted ps in omega (arith, h)
 
-format_asked : (p : Place) (o : Option (List Piece)) (given : ℕ) (s : Tables) → IfOk (ask_all (AtFormat p (wanted_by o) given ∷ []) (Ok (s, pieces_or o))) (Got conversions 0 given s)
+format_asked : (p : Place) (o : Option (List FormatPiece)) (given : ℕ) (s : Tables) → IfOk (ask_all (AtFormat p (wanted_by o) given ∷ []) (Ok (s, pieces_or o))) (Got conversions 0 given s)
 unfolding ask_all
 format_asked p None given s = tt
 format_asked p (Some ps) given s = asked_by (nat_eq (length (letters ps)) given) p s ps (Got conversions 0 given s)
@@ -207,10 +207,10 @@ module _ (o : Often) (ls : List (List ℕ)) where
   low = omega arith
 
   -- statements with at most so many units of work
-  abbrev Few : ℕ → ℕ → Plan program.Statements → Type 0
+  abbrev Few : ℕ → ℕ → CheckPlan program.Statements → Type 0
   Few n w m = Within ls (units o) n w m
 
-  appended_few : {n w : ℕ} {m : Plan program.Statements} (done : program.Statements) → Few n w m → Few n (units o done + w) (appended done m)
+  appended_few : {n w : ℕ} {m : CheckPlan program.Statements} (done : program.Statements) → Few n w m → Few n (units o done + w) (appended done m)
   appended_few done h = maps_reads h (λ s x e l. let g = units-behind o done x in omega (arith, l, g))
 
   -- ---- local declarations
@@ -239,7 +239,7 @@ module _ (o : Often) (ls : List (List ℕ)) where
         stored_free (Some (storage.Frame v)) h = cc
         stored_free None h = cc
 
-  scalar_value_few : {n w : ℕ} {m : Plan Typed} (p q : Place) (k : ℕ) → 1 ≤ w → Within ls value_ticks n (3 * w) m → Few n (4 * so_often (o.begun p) (1 + w)) (scalar_value_at p q k m)
+  scalar_value_few : {n w : ℕ} {m : CheckPlan Typed} (p q : Place) (k : ℕ) → 1 ≤ w → Within ls value_ticks n (3 * w) m → Few n (4 * so_often (o.begun p) (1 + w)) (scalar_value_at p q k m)
   scalar_value_few {n} {w} {m} p q k some h = node_stays h (λ s x e l. record {
     grown = stays 0;
     small =
@@ -256,7 +256,7 @@ module _ (o : Often) (ls : List (List ℕ)) where
     first_scalar_few p k tree.no_initialisers = pure_within program.Done (omega arith)
     first_scalar_few p k (tree.initialiser_then x xs) = fewer (omega arith) (scalar_few p k x)
 
-  initialised_few : {n : ℕ} {m : Plan Content} (p : Place) (k w : ℕ) → Within ls held n 0 m → Few n (4 * so_often (o.begun p) (1 + w)) (initialised_at p k m)
+  initialised_few : {n : ℕ} {m : CheckPlan Content} (p : Place) (k w : ℕ) → Within ls held n 0 m → Few n (4 * so_often (o.begun p) (1 + w)) (initialised_at p k m)
   initialised_few p k w h = maps_stays h (λ s x e l. record { grown = type_grown k x.type_id s; small = let g = often_few (o.begun p) 1 (1 + w) (omega arith) in omega (arith, g) })
 
   given_few : (p : Place) (k : ℕ) (x : Initialiser) (b : Bool) → Few (declares_in_initialiser x) (4 * so_often (o.begun p) (1 + nodes_of_initialiser x)) (plan_given p k x b)
@@ -271,18 +271,18 @@ module _ (o : Often) (ls : List (List ℕ)) where
   local_few p (Some x) None = maps_reads (unused_initialiser_within 0 low ls x.1) (λ s f e l. omega arith)
   local_few p (Some x) (Some k) = fewer (omega arith) (chain_within (looks_within {μ = none} {w = 0} (λ s. is_scalar (shape_of s (type_of_local s k))) (λ s e. omega arith)) (λ b l. given_few p k x.1 b))
 
-  typedef_few : (p : Place) (b : ℕ) (i : Item) → Few (declares_in i.declarator + declares_in_value i.initialiser) 0 (plan_item_at true p b i)
+  typedef_few : (p : Place) (b : ℕ) (i : BlockItem) → Few (declares_in i.declarator + declares_in_value i.initialiser) 0 (plan_item_at true p b i)
   typedef_few p b i =
       let h = own_and_inner i.declarator in
       fewer (omega (arith, h)) (maps_reads (typedef_within 0 low ls p true (is_some i.initialiser) (declared_name i.declarator) (declarator_within 0 low ls p false b i.declarator)) (λ s x e l. omega arith))
 
-  item_few : (p : Place) (b : ℕ) (i : Item) → Few (declares_in i.declarator + declares_in_value i.initialiser) (4 * so_often (o.begun p) (1 + nodes_of_value i.initialiser)) (plan_item_at false p b i)
+  item_few : (p : Place) (b : ℕ) (i : BlockItem) → Few (declares_in i.declarator + declares_in_value i.initialiser) (4 * so_often (o.begun p) (1 + nodes_of_value i.initialiser)) (plan_item_at false p b i)
   item_few p b i =
       let h = own_and_inner i.declarator in
       let g = own_is i.declarator in
       fewer (omega (arith, h, g)) (chain_within (local_within 0 low ls p (is_some i.initialiser) (declared_name i.declarator) (declarator_within 0 low ls p false b i.declarator)) (λ k l. local_few p i.initialiser k))
 
-  items_few : (q : Place) (is_typedef : Bool) (b : ℕ) (done : program.Statements) (items : List Item) → Few (declares_in_items items) (units o done + 4 * written_items o is_typedef q items) (plan_items q is_typedef b done items)
+  items_few : (q : Place) (is_typedef : Bool) (b : ℕ) (done : program.Statements) (items : List BlockItem) → Few (declares_in_items items) (units o done + 4 * written_items o is_typedef q items) (plan_items q is_typedef b done items)
   items_few q is_typedef b done [] = pure_within done (omega arith)
   items_few q true b done (i ∷ items) =
       fewer (omega arith) (chain_within (appended_few done (typedef_few (declared_place i.declarator q) b i)) (λ more l. lighter (omega (arith, l)) (items_few q true b more items)))
@@ -449,7 +449,7 @@ module _ (o : Often) (ls : List (List ℕ)) where
     statements_at k done tree.no_statements X = pure_within done (omega arith)
     statements_at k done (tree.statement_then t ts) X = chain_within (appended_few done (statement_at k t X)) (λ more l. lighter (omega (arith, l)) (statements_at k more ts X))
 
-    body_at : (n : ℕ) (k : Surrounding) (t : Statement) (m : Plan program.Statements) → Few (declares_in_statement t) (4 * written o t) m → Within ls (armed o n) (declares_in_statement t) (4 * written o t + so_often n (1 + 2 * labels_in t)) (plan_body k t m)
+    body_at : (n : ℕ) (k : Surrounding) (t : Statement) (m : CheckPlan program.Statements) → Few (declares_in_statement t) (4 * written o t) m → Within ls (armed o n) (declares_in_statement t) (4 * written o t + so_often n (1 + 2 * labels_in t)) (plan_body k t m)
     body_at n k (tree.Block p ds ss) m h =
         let g = often_joined n 1 (2 * labels_of_all ss) (1 + 2 * labels_of_all ss) (omega arith) in
         scoped_within (weaker (omega arith) (omega (arith, g)) (chain_within (node_keeps nothing_within (λ s x. stays 0)) (λ x l. chain_within (declarations_few program.Done ds) (λ y l. arms_at n k (record { seen = []; arms = [] }) ss (Unit {0})))))
@@ -461,7 +461,7 @@ module _ (o : Often) (ls : List (List ℕ)) where
         let g = often_joined n (2 * labels_before t) (2 * labels_of_all ts) (2 * (labels_before t + labels_of_all ts)) (omega arith) in
         chain_within (labelled_at n k a t (plan_statement k t) (statement_at k t X)) (λ b l. lighter (omega (arith, l, g)) (arms_at n k b ts X))
 
-    labelled_at : (n : ℕ) (k : Surrounding) (a : Arming) (t : Statement) (m : Plan program.Statements) → Few (declares_in_statement t) (4 * written o t) m → Within ls (arming o n) (declares_in_statement t) (arming o n a + (so_often n (2 * labels_before t) + 4 * written o t)) (plan_labelled k a t m)
+    labelled_at : (n : ℕ) (k : Surrounding) (a : Arming) (t : Statement) (m : CheckPlan program.Statements) → Few (declares_in_statement t) (4 * written o t) m → Within ls (arming o n) (declares_in_statement t) (arming o n a + (so_often n (2 * labels_before t) + 4 * written o t)) (plan_labelled k a t m)
     labelled_at n k a (tree.Case p e t) m h =
         let g = often_joined n 2 (2 * labels_before t) (2 * (1 + labels_before t)) (omega arith) in
         chain_within (case_few n p a e) (λ b l. lighter (omega (arith, l, g)) (labelled_at n k b t (plan_statement k t) (statement_at k t (Unit {0}))))

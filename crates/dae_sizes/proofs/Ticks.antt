@@ -25,7 +25,7 @@ use Rattle.dae_types_kinds.specs.declared.tables.Storage.{Storage}
 use Rattle.dae_types_kinds.specs.declared.tables.Storage.TheVariants as storage
 use Rattle.dae_types_kinds.specs.Tables.{Tables, with_shape, with_use}
 use Rattle.dae_types_kinds.specs.Types.{shape_of, is_void, is_integer, layout_at, int_id, word_for}
-use Rattle.dae_types_kinds.specs.Values.{Typed, plain, number, valued_by, local_type, stored_in, named, load_kind, read_by, valued, changes, changed, known_as, converted_by, converted, further, scaled, sum_of, difference_of, Deed, Operates, Compares, deed, Combination, Words, PointerFirst, PointerSecond, Distance, Pointers, combination, known_by, tree_by, address_tree, is_unsigned_for, type_for, operated, indexed, indexed_behind, indexed_back, distance, combined_as, subscripted, starred, negated, complemented, inverted, known_not, member_value, member_in, member_by, known_further, target_of, assigned, updated_by, updated, stepped, conditional_by, conditional_as, either_category, known_if, known_branch, listed, first_of_list, call_tree, called, is_difference, library_of}
+use Rattle.dae_types_kinds.specs.Values.{Typed, plain, number, valued_by, local_type, stored_in, named, load_kind, read_by, valued, changes, changed, known_as, converted_by, converted, further, scaled, sum_of, difference_of, WordOperation, Operates, Compares, deed, Combination, Words, PointerFirst, PointerSecond, Distance, Pointers, combination, known_by, tree_by, address_tree, is_unsigned_for, type_for, operated, indexed, indexed_behind, indexed_back, distance, combined_as, subscripted, starred, negated, complemented, inverted, known_not, member_value, member_in, member_by, known_further, target_of, assigned, updated_by, updated, stepped, conditional_by, conditional_as, either_category, known_if, known_branch, listed, first_of_list, call_tree, called, is_difference, library_of}
 use Rattle.dae_sizes.specs.Written.{ticks, ticks_of_target, ticks_of_all}
 use Rattle.dae_sizes.proofs.Within.{Got, same, stays}
 use Rattle.dae_sizes.proofs.Weighing.{Joins}
@@ -105,7 +105,7 @@ difference_ticks : (p : Place) (e f : Expression) → ticks (difference_of p e f
 difference_ticks p e (program.Number w) = let h = further_ticks p e (minus 0 w) in omega (arith, h)
 difference_ticks p e f = omega arith
 
-tree_ticks : (p : Place) (d : Deed) (e f : Expression) → ticks (tree_by p d e f) ≤ 1 + (ticks e + ticks f)
+tree_ticks : (p : Place) (d : WordOperation) (e f : Expression) → ticks (tree_by p d e f) ≤ 1 + (ticks e + ticks f)
 tree_ticks p (Operates o) e f = omega arith
 tree_ticks p (Compares o turned) e f = omega arith
 
@@ -113,7 +113,7 @@ address_ticks : (e : Expression) (k : Known) → ticks (address_tree e k) ≤ ti
 address_ticks e (known.Address (Some o) k) = least e
 address_ticks e k = omega arith
 
-operated_ticks : (p : Place) (d : Deed) (t : ℕ) (x y : Typed) → ticks (operated p d t x y).tree ≤ 1 + (ticks x.tree + ticks y.tree)
+operated_ticks : (p : Place) (d : WordOperation) (t : ℕ) (x y : Typed) → ticks (operated p d t x y).tree ≤ 1 + (ticks x.tree + ticks y.tree)
 operated_ticks p d t x y =
     let k = known_by d x.known y.known in
     let f = tree_ticks p d x.tree y.tree in

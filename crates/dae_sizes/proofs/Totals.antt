@@ -4,7 +4,7 @@ use Rattle.std.proofs.lemmas.Bool.{ltb-false}
 use Rattle.std.specs.List.{AllByRecursion, range_with_len}
 use Rattle.dae_base.proofs.Laws.{all_join}
 use Rattle.dae_tree.specs.Depth.{greatest_length, is_too_long, first_too_long, place_of_external}
-use Rattle.dae_tree.specs.Files.{Contents, IsFile}
+use Rattle.dae_tree.specs.Files.{FileContents, IsFile}
 use Rattle.dae_tree.specs.FileViews.{view_externals}
 use Rattle.dae_tree.specs.Marks.{literal_numbers}
 use Rattle.dae_tree.specs.Names.{Names, after_external}
@@ -43,7 +43,7 @@ externals_long : DefinitionsAreLong → (ls : List (List ℕ)) (names : Names) (
 externals_long long ls names [] h = tt
 externals_long long ls names (x ∷ xs) h = (λ is. long names x is h.0, externals_long long ls (after_external x names) xs h.1)
 
-sources_long : DefinitionsAreLong → (cs : List Contents) (files : List FileParts) → AreTypedAs cs files → AllByRecursion IsLong (sources_in cs)
+sources_long : DefinitionsAreLong → (cs : List FileContents) (files : List FileParts) → AreTypedAs cs files → AllByRecursion IsLong (sources_in cs)
 sources_long long [] [] t = tt
 sources_long long [] (f ∷ fs) t = absurd t
 sources_long long (c ∷ cs) [] t = absurd t
@@ -153,7 +153,7 @@ all_priced : (ls : List (List ℕ)) → priced (bytes ls) (range_with_len 0 (len
 all_priced [] = refl
 all_priced (x ∷ ls) = let h = shifted x ls (0 + 1) 0 (length ls) refl in let g = all_priced ls in omega (arith, h, g)
 
-file_pays : PartsPay → (c : Contents) → IsFile c → pays (sources_of c.literals (view_externals c.externals)) ≡ 224 * tokens_of c + 112 * bytes_of c.literals
+file_pays : PartsPay → (c : FileContents) → IsFile c → pays (sources_of c.literals (view_externals c.externals)) ≡ 224 * tokens_of c + 112 * bytes_of c.literals
 file_pays parts c is =
     let xs = view_externals c.externals in
     let ls = c.literals in
@@ -163,7 +163,7 @@ file_pays parts c is =
     let e = ap (priced (bytes ls)) is.counted in
     let d = all_priced ls in omega (arith, h, g, f, e, d)
 
-files_pay : PartsPay → (cs : List Contents) (files : List FileParts) → AreTypedAs cs files → pays (sources_in cs) ≡ 224 * tokens_in cs + 112 * bytes_in cs
+files_pay : PartsPay → (cs : List FileContents) (files : List FileParts) → AreTypedAs cs files → pays (sources_in cs) ≡ 224 * tokens_in cs + 112 * bytes_in cs
 files_pay parts [] [] t = refl
 files_pay parts [] (f ∷ fs) t = absurd t
 files_pay parts (c ∷ cs) [] t = absurd t

@@ -2,9 +2,9 @@
 use Rattle.std.proofs.Common.{◌*◌, ◌≤◌, true, false, List, [], ◌∷◌, length, Option, Some, None, arith}
 use Rattle.dae_program.specs.Trees as tree
 use Rattle.dae_program.specs.Trees.{Expression, Target, Expressions, Setting, Statements, Arms}
-use Rattle.dae_program.specs.declared.statements.Piece.{Piece}
-use Rattle.dae_program.specs.declared.statements.Piece.TheVariants as piece
-use Rattle.dae_program.specs.declared.program.Slot.{Slot}
+use Rattle.dae_program.specs.declared.statements.FormatPiece.{FormatPiece}
+use Rattle.dae_program.specs.declared.statements.FormatPiece.TheVariants as piece
+use Rattle.dae_program.specs.declared.program.FrameSlot.{FrameSlot}
 use Rattle.dae_lower_formed.specs.Sizes.{most_made, most_made_for, most_made_of_all, most_made_of_some, most_made_of_items, most_made_of_pieces, most_made_in, most_made_in_arms, most_made_of_slots}
 use Rattle.dae_sizes.specs.Weights.{weight, weight_of_target, weight_of_all, weight_of_some, weight_of_items, weight_of_pieces, weight_in, weight_in_arms}
 use Rattle.dae_lower_formed.specs.Code.{most_code, most_code_for, most_code_of_all, most_code_of_some, most_code_of_items, most_code_of_pieces, most_code_in, most_code_in_arms, most_code_of_slots}
@@ -50,7 +50,7 @@ made_items : (items : List Setting) → most_made_of_items items ≤ weight_of_i
 made_items [] = omega arith
 made_items (item ∷ items) = let h = made_weighs item.value in let g = made_items items in omega (arith, h, g)
 
-made_pieces : (ps : List Piece) → most_made_of_pieces ps ≤ weight_of_pieces 0 ps
+made_pieces : (ps : List FormatPiece) → most_made_of_pieces ps ≤ weight_of_pieces 0 ps
 made_pieces [] = omega arith
 made_pieces (piece.Byte b ∷ ps) = let h = made_pieces ps in omega (arith, h)
 made_pieces (piece.Word spelling k ∷ ps) = let h = made_pieces ps in omega (arith, h)
@@ -116,7 +116,7 @@ code_items : (items : List Setting) → most_code_of_items items ≤ 4 * weight_
 code_items [] = omega arith
 code_items (item ∷ items) = let h = code_weighs item.value in let g = code_items items in omega (arith, h, g)
 
-code_pieces : (ps : List Piece) → most_code_of_pieces ps ≤ 4 * weight_of_pieces 1 ps
+code_pieces : (ps : List FormatPiece) → most_code_of_pieces ps ≤ 4 * weight_of_pieces 1 ps
 code_pieces [] = omega arith
 code_pieces (piece.Byte b ∷ ps) = let h = code_pieces ps in omega (arith, h)
 code_pieces (piece.Word spelling k ∷ ps) = let h = code_pieces ps in omega (arith, h)
@@ -142,12 +142,12 @@ mutual
 
 -- ---- parameters
 
-pub slots_made : (slots : List (Option Slot)) → most_made_of_slots slots ≤ length slots
+pub slots_made : (slots : List (Option FrameSlot)) → most_made_of_slots slots ≤ length slots
 slots_made [] = omega arith
 slots_made (None ∷ slots) = let h = slots_made slots in omega (arith, h)
 slots_made (Some slot ∷ slots) = let h = slots_made slots in omega (arith, h)
 
-pub slots_code : (slots : List (Option Slot)) → most_code_of_slots slots ≤ 4 * length slots
+pub slots_code : (slots : List (Option FrameSlot)) → most_code_of_slots slots ≤ 4 * length slots
 slots_code [] = omega arith
 slots_code (None ∷ slots) = let h = slots_code slots in omega (arith, h)
 slots_code (Some slot ∷ slots) = let h = slots_code slots in omega (arith, h)

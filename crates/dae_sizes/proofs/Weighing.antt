@@ -27,7 +27,7 @@ use Rattle.dae_types_kinds.specs.declared.tables.Storage.{Storage}
 use Rattle.dae_types_kinds.specs.declared.tables.Storage.TheVariants as storage
 use Rattle.dae_types_kinds.specs.Tables.{Tables, with_shape, with_use, set_local, written_at}
 use Rattle.dae_types_kinds.specs.Types.{same as same_type, shape_of, is_void, is_integer, layout_at, composite, composite_shape, composite_within, int_id, word_for}
-use Rattle.dae_types_kinds.specs.Values.{Typed, plain, is_indirect, is_null, common, number, valued_by, local_type, stored_in, named, load_kind, read_by, valued, changes, changed, known_as, converted_by, converted, further, scaled, sum_of, difference_of, Deed, Operates, Compares, deed, Combination, Words, PointerFirst, PointerSecond, Distance, Pointers, combination, known_by, tree_by, address_tree, is_unsigned_for, type_for, operated, indexed, indexed_behind, indexed_back, distance, combined_as, subscripted, starred, marked, negated, complemented, inverted, known_not, member_value, member_in, member_by, known_further, target_of, assigned, updated_by, updated, stepped, joined_pointers, joined_shape, joined, conditional_by, conditional_as, either_category, known_if, known_branch, listed, first_of_list, call_tree, called, is_difference, library_of}
+use Rattle.dae_types_kinds.specs.Values.{Typed, plain, is_indirect, is_null, common, number, valued_by, local_type, stored_in, named, load_kind, read_by, valued, changes, changed, known_as, converted_by, converted, further, scaled, sum_of, difference_of, WordOperation, Operates, Compares, deed, Combination, Words, PointerFirst, PointerSecond, Distance, Pointers, combination, known_by, tree_by, address_tree, is_unsigned_for, type_for, operated, indexed, indexed_behind, indexed_back, distance, combined_as, subscripted, starred, marked, negated, complemented, inverted, known_not, member_value, member_in, member_by, known_further, target_of, assigned, updated_by, updated, stepped, joined_pointers, joined_shape, joined, conditional_by, conditional_as, either_category, known_if, known_branch, listed, first_of_list, call_tree, called, is_difference, library_of}
 use Rattle.dae_void_laws.proofs.Laws.{either_has}
 use Rattle.dae_sizes.specs.Weights.{if_checked, weight, weight_of_target, weight_of_all}
 use Rattle.dae_sizes.proofs.Within.{Grown, Got, same, stays, grows, grown_more}
@@ -164,7 +164,7 @@ module _ (c : ℕ) (low : c ≤ 1) where
   difference_weighs p e (program.Number w) = let h = further_weighs p e (minus 0 w) in omega (arith, h)
   difference_weighs p e f = omega arith
 
-  tree_weighs : (p : Place) (d : Deed) (e f : Expression) → weight c (tree_by p d e f) ≤ 1 + (weight c e + weight c f)
+  tree_weighs : (p : Place) (d : WordOperation) (e f : Expression) → weight c (tree_by p d e f) ≤ 1 + (weight c e + weight c f)
   tree_weighs p (Operates o) e f = omega arith
   tree_weighs p (Compares o turned) e f = omega arith
 
@@ -172,7 +172,7 @@ module _ (c : ℕ) (low : c ≤ 1) where
   address_weighs e (known.Address (Some o) k) = least e
   address_weighs e k = omega arith
 
-  pub operated_weighs : (p : Place) (d : Deed) (t : ℕ) (x y : Typed) → weight c (operated p d t x y).tree ≤ 1 + (weight c x.tree + weight c y.tree)
+  pub operated_weighs : (p : Place) (d : WordOperation) (t : ℕ) (x y : Typed) → weight c (operated p d t x y).tree ≤ 1 + (weight c x.tree + weight c y.tree)
   operated_weighs p d t x y =
       let k = known_by d x.known y.known in
       let f = tree_weighs p d x.tree y.tree in

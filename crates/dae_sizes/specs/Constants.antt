@@ -2,7 +2,7 @@
 -- (C90 6.5.7).
 use Rattle.std.specs.Prelude.{List, []}
 use Rattle.std.specs.List.{AllByRecursion}
-use Rattle.dae_tree.specs.Files.{Contents}
+use Rattle.dae_tree.specs.Files.{FileContents}
 use Rattle.dae_program.specs.Views.{view_statements}
 use Rattle.dae_program.specs.declared.program.Function.{Function}
 use Rattle.dae_types_typed.specs.declared.files.FileParts.{FileParts}
@@ -15,5 +15,5 @@ IsConstantFunction f = InitialisesConstants (view_statements f.body)
 
 abbrev pub FunctionsInitialiseConstants : Type 0
 FunctionsInitialiseConstants =
-    (files : List Contents) (typed : List FileParts) → AreTypedAs files typed →
+    (files : List FileContents) (typed : List FileParts) → AreTypedAs files typed →
     AllByRecursion IsConstantFunction (functions_from [] 0 typed)

@@ -2,7 +2,7 @@
 -- 6.4, 6.5.7). So the joiner's word of an item (`word_of` in dae_unit) is never asked of anything else.
 use Rattle.std.specs.Prelude.{List}
 use Rattle.std.specs.List.{AllByRecursion}
-use Rattle.dae_tree.specs.Files.{Contents}
+use Rattle.dae_tree.specs.Files.{FileContents}
 use Rattle.dae_program.specs.declared.expressions.Expression.TheVariants as expression
 use Rattle.dae_program.specs.declared.expressions.Expression.{Expression}
 use Rattle.dae_program.specs.declared.statements.Setting.{Setting}
@@ -25,4 +25,4 @@ abbrev pub HasConstantData : FileParts → Type 0
 HasConstantData file = AllByRecursion HoldsConstants file.contents
 
 abbrev pub DataAreConstant : Type 0
-DataAreConstant = (files : List Contents) (typed : List FileParts) → AreTypedAs files typed → AllByRecursion HasConstantData typed
+DataAreConstant = (files : List FileContents) (typed : List FileParts) → AreTypedAs files typed → AllByRecursion HasConstantData typed

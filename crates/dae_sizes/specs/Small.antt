@@ -6,7 +6,7 @@ use Rattle.dae_tree.specs.Statements.{spell_external}
 use Rattle.dae_tree.specs.Trees.{External}
 use Rattle.dae_program.specs.Trees.{Statements}
 use Rattle.dae_program.specs.Views.{view_statements}
-use Rattle.dae_program.specs.declared.program.Slot.{Slot}
+use Rattle.dae_program.specs.declared.program.FrameSlot.{FrameSlot}
 use Rattle.dae_types_kinds.specs.Tables.{Tables}
 use Rattle.dae_types_rules.specs.Plan.{IsChecked}
 use Rattle.dae_types_file_plans.specs.Files.{Product, plan_file}
@@ -28,11 +28,11 @@ abbrev pub text : List (List ℕ) → External → ℕ
 text literals x = priced (λ n. length (bytes_of_literal literals n)) (literal_numbers (spell_external x []))
 
 -- a function of this definition: its own variables and those that are made of it are at least 7 fewer than 4 for each token
-abbrev pub HasFew : (x : External) (variables : ℕ) (slots : List (Option Slot)) (body : Statements) → Type 0
+abbrev pub HasFew : (x : External) (variables : ℕ) (slots : List (Option FrameSlot)) (body : Statements) → Type 0
 HasFew x variables slots body = IsDefinition x × (7 + (variables + (most_made_of_slots slots + most_made_in body)) ≤ 4 * tokens x)
 
 -- its code weighs at least 28 less than 16 for each token and 8 for each byte of its literals
-abbrev pub HasLittle : (literals : List (List ℕ)) (x : External) (slots : List (Option Slot)) (body : Statements) → Type 0
+abbrev pub HasLittle : (literals : List (List ℕ)) (x : External) (slots : List (Option FrameSlot)) (body : Statements) → Type 0
 HasLittle literals x slots body = 28 + (4 + (most_code_of_slots slots + most_code_in body)) ≤ 16 * tokens x + 8 * text literals x
 
 -- in a file where no rule is broken, whatever was declared before

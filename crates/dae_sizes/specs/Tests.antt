@@ -2,7 +2,7 @@
 -- (C90 6.3.3.3, 6.3.8, 6.3.9, 6.3.13 to 6.3.15, 6.6.4, 6.6.5), and a call of exit or abort is void (7.10.4.1, 7.10.4.3).
 use Rattle.std.specs.Prelude.{◌≡◌, List, []}
 use Rattle.std.specs.List.{AllByRecursion}
-use Rattle.dae_tree.specs.Files.{Contents}
+use Rattle.dae_tree.specs.Files.{FileContents}
 use Rattle.dae_program.specs.Trees.{Statements}
 use Rattle.dae_program.specs.Views.{view_statements}
 use Rattle.dae_program.specs.declared.program.Function.{Function}
@@ -20,4 +20,4 @@ TestsValues f = HasTestedValues (view_statements f.body)
 
 abbrev pub FunctionsTestValues : Type 0
 FunctionsTestValues =
-    (files : List Contents) (typed : List FileParts) → AreTypedAs files typed → AllByRecursion TestsValues (functions_from [] 0 typed)
+    (files : List FileContents) (typed : List FileParts) → AreTypedAs files typed → AllByRecursion TestsValues (functions_from [] 0 typed)

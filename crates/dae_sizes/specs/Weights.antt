@@ -2,8 +2,8 @@
 -- code, where a call counts one and a half more and a load a half. A number, an address and what comes from a byte of a literal
 -- counts as many as is said, and so does the load behind a check: none, which is enough for variables, or one.
 use Rattle.std.specs.Prelude.{ℕ, ◌+◌, ◌*◌, Bool, true, false, List, [], ◌∷◌, length, Option, Some, None}
-use Rattle.dae_program.specs.declared.statements.Piece.{Piece}
-use Rattle.dae_program.specs.declared.statements.Piece.TheVariants as piece
+use Rattle.dae_program.specs.declared.statements.FormatPiece.{FormatPiece}
+use Rattle.dae_program.specs.declared.statements.FormatPiece.TheVariants as piece
 use Rattle.dae_program.specs.Trees.{Expression, Target, Expressions, Setting, Statements, Arms, Number, Address, Frame, Variable, Read, Convert, Not, Binary, Compare, And, Or, Conditional, Comma, Assign, Update, Step, Call, Putchar, Exit, Abort, InVariable, AtAddress, no_expressions, expression_then, Done, Evaluate, Initialise, Print, If, Loop, Do, Switch, Break, Continue, Return, no_arms, arm_then}
 
 -- what is read behind a check counts so many more
@@ -50,7 +50,7 @@ abbrev pub weight_of_items : (constant : ℕ) → List Setting → ℕ
 weight_of_items c [] = 0
 weight_of_items c (item ∷ items) = c + (weight c item.value + weight_of_items c items)
 
-abbrev pub weight_of_pieces : (constant : ℕ) → List Piece → ℕ
+abbrev pub weight_of_pieces : (constant : ℕ) → List FormatPiece → ℕ
 weight_of_pieces c [] = 0
 weight_of_pieces c (piece.Byte b ∷ ps) = c + weight_of_pieces c ps
 weight_of_pieces c (piece.Word spelling k ∷ ps) = 2 + weight_of_pieces c ps

@@ -7,8 +7,8 @@ use Rattle.dae_base.specs.declared.Place.{Place}
 use Rattle.dae_tree.specs.Trees as tree
 use Rattle.dae_tree.specs.Depth.{place_of, place_of_specifiers}
 use Rattle.dae_tree.specs.Names.{has_typedef}
-use Rattle.dae_program.specs.declared.statements.Piece.{Piece}
-use Rattle.dae_program.specs.declared.statements.Piece.TheVariants as piece
+use Rattle.dae_program.specs.declared.statements.FormatPiece.{FormatPiece}
+use Rattle.dae_program.specs.declared.statements.FormatPiece.TheVariants as piece
 use Rattle.dae_program.specs.Switches.{count_labels}
 use Rattle.dae_program.specs.Trees as program
 use Rattle.dae_types_kinds.specs.Tables.{Tables}
@@ -51,7 +51,7 @@ nodes_of_value None = 0
 nodes_of_value (Some x) = nodes_of_initialiser x.1
 
 -- a typedef sets nothing
-abbrev pub written_items : Often → Bool → Place → List tree.Item → ℕ
+abbrev pub written_items : Often → Bool → Place → List tree.BlockItem → ℕ
 written_items o is_typedef q [] = 0
 written_items o true q (i ∷ items) = written_items o true q items
 written_items o false q (i ∷ items) =
@@ -116,7 +116,7 @@ ticks_of_printed program.no_expressions = 0
 ticks_of_printed (program.expression_then e es) = 1 + (ticks e + ticks_of_printed es)
 
 -- those pieces of a format that print an argument
-abbrev pub conversions : List Piece → ℕ
+abbrev pub conversions : List FormatPiece → ℕ
 conversions [] = 0
 conversions (piece.Byte b ∷ ps) = conversions ps
 conversions (piece.Word spelling k ∷ ps) = 1 + conversions ps

@@ -8,7 +8,7 @@ use Rattle.std.proofs.lemmas.Option.{slice_get_within}
 use Rattle.dae_base.proofs.Laws.{all_join}
 use Rattle.dae_slice.specs.Graphs.{Family, vertex_in, vertex, exists, is_needed, AreIn, VertexKept, Keeps, Adds, Settles, pending, links_of, links_of_row}
 use Rattle.dae_slice.specs.SourceLists.{source_list}
-use Rattle.dae_slice.specs.declared.graph.Node.{Node}
+use Rattle.dae_slice.specs.declared.graph.SliceNode.{SliceNode}
 use Rattle.dae_slice.specs.declared.graph.Vertex.{Vertex}
 use Rattle.dae_slice.specs.declared.graph.Graph.{Graph}
 use Rattle.dae_slice.proofs.Lists.{get_set_here, get_set_other, get_read, all_front, all_back}
@@ -70,7 +70,7 @@ module _ (f v : ℕ) (old new : Graph) (x y : Vertex) (but : AreSameBut f v old.
   abbrev there : (h w : ℕ) → exists new h w ≡ exists old h w
   there h w = elim (but h w) [ inl e ↦ ap is_some e | inr p ↦ rw (p.0, p.1, is, was) refl ]
 
-  pub linked : (from : Node) → y.needed ≡ x.needed → source_list y.sources ≡ source_list x.sources ++ from ∷ [] → new.work.items ≡ old.work.items → Adds (λ c. c f v ≡ true → c from.function from.variable ≡ true) old new
+  pub linked : (from : SliceNode) → y.needed ≡ x.needed → source_list y.sources ≡ source_list x.sources ++ from ∷ [] → new.work.items ≡ old.work.items → Adds (λ c. c f v ≡ true → c from.function from.variable ≡ true) old new
   linked from n s w = record {
     like = record {
       exists = there;
@@ -103,7 +103,7 @@ module _ (f v : ℕ) (old new : Graph) (x y : Vertex) (but : AreSameBut f v old.
             work = rw w k.work;
           }
 
-  pub settled : (n : Node) → n.function ≡ f → n.variable ≡ v → y.needed ≡ true → source_list y.sources ≡ [] → new.work.items ≡ old.work.items ++ source_list x.sources → pending new ≡ pending old → Settles n old new
+  pub settled : (n : SliceNode) → n.function ≡ f → n.variable ≡ v → y.needed ≡ true → source_list y.sources ≡ [] → new.work.items ≡ old.work.items ++ source_list x.sources → pending new ≡ pending old → Settles n old new
   settled n nf nv need none w p = record {
     exists = there;
     keeps = λ c. rw (nf, nv) (one c, other c);
@@ -148,7 +148,7 @@ rows_links [] f row new lt e = absurd (omega arith)
 rows_links (r ∷ rs) zero row new lt e = let same : links_of_row row.items ≡ links_of_row r.items = ap (λ (u : Vec Vertex Global). links_of_row u.items) e in omega arith
 rows_links (r ∷ rs) (suc f) row new lt e = omega (arith, rows_links rs f row new (omega arith) e)
 
-pub links_moved : (rows : Rows) (f v : ℕ) (row : Vec Vertex Global) (x y : Vertex) (old new : List Node) → f < length rows → row ≡ get_or rows f row → v < length row.items → x ≡ get_or row.items v x → source_list y.sources ≡ [] → new ≡ old ++ source_list x.sources → length new + links_of (set rows f (with_item row v y)) ≡ length old + links_of rows
+pub links_moved : (rows : Rows) (f v : ℕ) (row : Vec Vertex Global) (x y : Vertex) (old new : List SliceNode) → f < length rows → row ≡ get_or rows f row → v < length row.items → x ≡ get_or row.items v x → source_list y.sources ≡ [] → new ≡ old ++ source_list x.sources → length new + links_of (set rows f (with_item row v y)) ≡ length old + links_of rows
 links_moved rows f v row x y old new lt is inside this none moved =
     let a = row_links row.items v x y inside this in
     let b = rows_links rows f row (with_item row v y) lt is in

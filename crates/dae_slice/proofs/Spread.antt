@@ -2,7 +2,7 @@
 use Rattle.std.proofs.Common.{◌≡◌, ◌↔◌, ℕ, true, [], ◌∷◌, ◌++◌, ◌∙◌}
 use Rattle.dae_base.proofs.Laws.{all_join}
 use Rattle.dae_slice.specs.Graphs.{Family, exists, marked, AreIn, Keeps, IsSettled, Settles, IsLeastKept}
-use Rattle.dae_slice.specs.declared.graph.Node.{Node}
+use Rattle.dae_slice.specs.declared.graph.SliceNode.{SliceNode}
 use Rattle.dae_slice.specs.declared.graph.Graph.{Graph}
 use Rattle.dae_slice.proofs.Lists.{all_front, all_back}
 
@@ -13,7 +13,7 @@ pub record SpreadsFrom (old new : Graph) : Type 0 where
   pub settled : IsSettled new
 
 -- one variable has been taken from the work
-module _ (old now taken : Graph) (n : Node) (so_far : SpreadsFrom old now) (rows : taken.rows ≡ now.rows) (work : now.work.items ≡ taken.work.items ++ n ∷ []) where
+module _ (old now taken : Graph) (n : SliceNode) (so_far : SpreadsFrom old now) (rows : taken.rows ≡ now.rows) (work : now.work.items ≡ taken.work.items ++ n ∷ []) where
   taken_keeps : (c : Family) → Keeps taken c → c n.function n.variable ≡ true → Keeps now c
   taken_keeps c k i = record {
     vertices = rw (← rows) k.vertices;

@@ -7,7 +7,7 @@ use Rattle.std.specs.declared.alloc.Global.{Global}
 use Rattle.dae_ir.specs.Classes.{VariableSet, IsWithin}
 use Rattle.dae_ir.specs.declared.form.Function.{Function}
 use Rattle.dae_slice.specs.SourceLists.{source_list}
-use Rattle.dae_slice.specs.declared.graph.Node.{Node}
+use Rattle.dae_slice.specs.declared.graph.SliceNode.{SliceNode}
 use Rattle.dae_slice.specs.declared.graph.Vertex.{Vertex}
 use Rattle.dae_slice.specs.declared.graph.Graph.{Graph}
 
@@ -35,12 +35,12 @@ abbrev pub marked : Graph → Family
 marked g f v = is_needed (vertex g f v)
 
 -- the variables with links to it
-abbrev pub sources : Option Vertex → List Node
+abbrev pub sources : Option Vertex → List SliceNode
 sources None = []
 sources (Some x) = source_list x.sources
 
 -- all are in the family
-abbrev pub AreIn : Family → List Node → Type 0
+abbrev pub AreIn : Family → List SliceNode → Type 0
 AreIn c = AllByRecursion (λ n. c n.function n.variable ≡ true)
 
 -- what a family keeps of one vertex, and of a graph
@@ -106,7 +106,7 @@ abbrev pub pending : Graph → ℕ
 pending g = length g.work.items + links_of g.rows.items
 
 -- the variable n has been marked, and is followed no more
-pub record Settles (n : Node) (old new : Graph) : Type 0 where
+pub record Settles (n : SliceNode) (old new : Graph) : Type 0 where
   pub exists : (f v : ℕ) → exists new f v ≡ exists old f v
   pub keeps : (c : Family) → Keeps new c ↔ (Keeps old c × (c n.function n.variable ≡ true))
   pub settled : IsSettled old → IsSettled new

@@ -10,7 +10,7 @@ use std::alloc::{AllocError, Global};
 
 /// A variable of a function, by their numbers.
 #[derive(Clone, Copy)]
-pub struct Node {
+pub struct SliceNode {
     pub function: usize,
     pub variable: usize,
 }
@@ -27,7 +27,7 @@ pub struct Vertex {
 #[derive(Drop)]
 pub struct Graph {
     pub rows: Vec<Vec<Vertex>>,
-    pub work: Vec<Node>,
+    pub work: Vec<SliceNode>,
 }
 
 impl Graph {
@@ -46,7 +46,7 @@ impl Graph {
     }
 
     /// Whether a variable is marked as needed.
-    pub fn needs(&self, node: Node) -> bool
+    pub fn needs(&self, node: SliceNode) -> bool
         ensures { result ≡ marked self.now node.function node.variable }
     {
         match self.rows.get(node.function) {
@@ -62,7 +62,7 @@ impl Graph {
         match operand {
             Operand::Variable(variable) => {
                 let variable = variable as usize;
-                self.needs(Node { function, variable })
+                self.needs(SliceNode { function, variable })
             }
             Operand::Number(_) => true,
         }
@@ -76,7 +76,7 @@ impl Graph {
     }
 
     /// The variable is needed.
-    pub fn seed(&mut self, node: Node) -> Result<(), AllocError>
+    pub fn seed(&mut self, node: SliceNode) -> Result<(), AllocError>
         ensures { OnOk result (Adds (λ c. c node.function node.variable ≡ true) self.old self.new) }
     {
         self.work.push(node)?;
@@ -84,7 +84,7 @@ impl Graph {
     }
 
     /// Where the second variable is needed, so is the first.
-    pub fn link(&mut self, from: Node, to: Node) -> Result<(), AllocError>
+    pub fn link(&mut self, from: SliceNode, to: SliceNode) -> Result<(), AllocError>
         requires { exists self.old to.function to.variable ≡ true }
         ensures { OnOk result
             (Adds (λ c. c to.function to.variable ≡ true
@@ -98,7 +98,7 @@ impl Graph {
     }
 
     // Marks a variable, and hands the variables that lead to it to the work.
-    fn settle(&mut self, node: Node) -> Result<(), AllocError>
+    fn settle(&mut self, node: SliceNode) -> Result<(), AllocError>
         requires { exists self.old node.function node.variable ≡ true }
         ensures { OnOk result (Settles node self.old self.new) }
     {

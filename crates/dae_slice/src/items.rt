@@ -8,7 +8,7 @@ ghost use Rattle.dae_ir.specs.declared.form.Item.TheVariants.{Expect};
 ghost use Rattle.dae_slice.specs.Graphs.{Family, exists, marked, Adds};
 ghost use Rattle.dae_slice.specs.Links.{HasTargets, CallHasTargets, ItemKept, ConditionKept};
 
-use crate::graph::{Graph, Node};
+use crate::graph::{Graph, SliceNode};
 use dae_ir::{Check, Item, Operand, Test, Value};
 use std::alloc::AllocError;
 
@@ -24,7 +24,7 @@ fn seed_operand(graph: &mut Graph, function: usize, operand: Operand) -> Result<
 {
     if let Operand::Variable(variable) = operand {
         let variable = variable as usize;
-        graph.seed(Node { function, variable })?;
+        graph.seed(SliceNode { function, variable })?;
     }
     Ok(())
 }
@@ -41,7 +41,7 @@ fn link_operand(
     graph: &mut Graph,
     function: usize,
     operand: Operand,
-    to: Node,
+    to: SliceNode,
 ) -> Result<(), AllocError>
     requires { exists graph.old to.function to.variable ≡ true }
     ensures { OnOk result
@@ -50,7 +50,7 @@ fn link_operand(
 {
     if let Operand::Variable(variable) = operand {
         let variable = variable as usize;
-        graph.link(Node { function, variable }, to)?;
+        graph.link(SliceNode { function, variable }, to)?;
     }
     Ok(())
 }
@@ -59,7 +59,7 @@ fn link_two(
     graph: &mut Graph,
     function: usize,
     operands: (Operand, Operand),
-    to: Node,
+    to: SliceNode,
 ) -> Result<(), AllocError>
     requires { exists graph.old to.function to.variable ≡ true }
     ensures { OnOk result
@@ -73,7 +73,7 @@ fn link_two(
 }
 
 // What stands in the value leads to the variable.
-fn link_value(graph: &mut Graph, value: Value, to: Node) -> Result<(), AllocError>
+fn link_value(graph: &mut Graph, value: Value, to: SliceNode) -> Result<(), AllocError>
     requires { exists graph.old to.function to.variable ≡ true }
     ensures { OnOk result
         (Adds (λ c. c to.function to.variable ≡ true
@@ -100,7 +100,7 @@ fn link_arguments(
         (Adds (λ c. ArgumentsKept (c callee) (c function) 1 arguments.now) graph.old graph.new) }
 {
     for (index, argument) in arguments.iter().enumerate() {
-        let to = Node {
+        let to = SliceNode {
             function: callee,
             variable: index + 1,
         };
@@ -111,7 +111,7 @@ fn link_arguments(
 
 fn link_call(
     graph: &mut Graph,
-    to: Node,
+    to: SliceNode,
     callee: usize,
     arguments: &[Operand],
 ) -> Result<(), AllocError>
@@ -121,7 +121,7 @@ fn link_call(
         CallKept (c callee) (c to.function) to.variable arguments.now) graph.old graph.new) }
 {
     link_arguments(graph, to.function, callee, arguments)?;
-    let result = Node {
+    let result = SliceNode {
         function: callee,
         variable: 0,
     };
@@ -136,19 +136,19 @@ fn link_addresses(graph: &mut Graph, function: usize, item: &Item) -> Result<(),
     match item {
         Item::Assign(variable, value) => {
             let variable = *variable as usize;
-            link_value(graph, *value, Node { function, variable })
+            link_value(graph, *value, SliceNode { function, variable })
         }
         Item::Load(_, _, address) => seed_operand(graph, function, *address),
         Item::Store(_, address, _) => seed_operand(graph, function, *address),
         Item::Expect(check) => seed_address(graph, function, *check),
         Item::Call(variable, callee, arguments) => {
             let variable = *variable as usize;
-            let to = Node { function, variable };
+            let to = SliceNode { function, variable };
             link_call(graph, to, *callee as usize, arguments.as_slice())
         }
         Item::Return(operand) => {
             let variable = 0;
-            link_operand(graph, function, *operand, Node { function, variable })
+            link_operand(graph, function, *operand, SliceNode { function, variable })
         }
         _ => Ok(()),
     }
@@ -168,12 +168,12 @@ fn link_needs(graph: &mut Graph, a: &Graph, function: usize, item: &Item) -> Res
         Item::Expect(check) => seed_checked(graph, a, function, *check),
         Item::Call(variable, callee, arguments) => {
             let variable = *variable as usize;
-            let to = Node { function, variable };
+            let to = SliceNode { function, variable };
             link_call(graph, to, *callee as usize, arguments.as_slice())
         }
         Item::Return(operand) => {
             let variable = 0;
-            link_operand(graph, function, *operand, Node { function, variable })
+            link_operand(graph, function, *operand, SliceNode { function, variable })
         }
         _ => Ok(()),
     }
@@ -193,7 +193,7 @@ fn link_sent(
         → has_value (c function) value ≡ true) graph.old graph.new) }
 {
     let variable = variable as usize;
-    let to = Node { function, variable };
+    let to = SliceNode { function, variable };
     if a.needs(to) {
         Ok(())
     } else {

@@ -3,7 +3,7 @@
 ghost use Rattle.std.specs.Prelude.{◌≡◌, ◌++◌, [], ◌∷◌, IfOk, OnOk};
 ghost use Rattle.dae_slice.specs.SourceLists.{source_list};
 
-use crate::graph::Node;
+use crate::graph::SliceNode;
 use std::alloc::{AllocError, Global};
 use std::mem;
 
@@ -12,13 +12,17 @@ use std::mem;
 #[derive(Drop)]
 pub enum SourceNodes {
     Nothing,
-    One(Node),
-    Two(Node, Node),
-    Many(Vec<Node>),
+    One(SliceNode),
+    Two(SliceNode, SliceNode),
+    Many(Vec<SliceNode>),
 }
 
 // The same variables, and one behind them.
-fn with_source(alloc: Global, sources: SourceNodes, node: Node) -> Result<SourceNodes, AllocError>
+fn with_source(
+    alloc: Global,
+    sources: SourceNodes,
+    node: SliceNode,
+) -> Result<SourceNodes, AllocError>
     ensures { IfOk result (λ new. source_list new ≡ source_list sources ++ node ∷ []) }
 {
     match sources {
@@ -37,7 +41,7 @@ fn with_source(alloc: Global, sources: SourceNodes, node: Node) -> Result<Source
 }
 
 // Puts the variables behind others.
-fn append_sources(work: &mut Vec<Node>, sources: SourceNodes) -> Result<(), AllocError>
+fn append_sources(work: &mut Vec<SliceNode>, sources: SourceNodes) -> Result<(), AllocError>
     ensures { OnOk result (work.new.items ≡ work.old.items ++ source_list sources) }
 {
     match sources {
@@ -53,7 +57,7 @@ fn append_sources(work: &mut Vec<Node>, sources: SourceNodes) -> Result<(), Allo
 
 impl SourceNodes {
     /// Adds a variable. Where memory is wanting none are left.
-    pub fn add(&mut self, alloc: Global, node: Node) -> Result<(), AllocError>
+    pub fn add(&mut self, alloc: Global, node: SliceNode) -> Result<(), AllocError>
         ensures { OnOk result (source_list self.new ≡ source_list self.old ++ node ∷ []) }
     {
         let before = mem::replace(self, SourceNodes::Nothing);
@@ -63,7 +67,7 @@ impl SourceNodes {
     }
 
     /// Hands the variables to the work, behind what it has.
-    pub fn hand_to(&mut self, work: &mut Vec<Node>) -> Result<(), AllocError>
+    pub fn hand_to(&mut self, work: &mut Vec<SliceNode>) -> Result<(), AllocError>
         ensures taken { source_list self.new ≡ [] }
         ensures given { OnOk result (work.new.items ≡ work.old.items ++ source_list self.old) }
     {

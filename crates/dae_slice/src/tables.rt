@@ -7,7 +7,7 @@ ghost use Rattle.dae_ir.specs.Scope.{IsScoped, IsIn, TestIn};
 ghost use Rattle.dae_slice.specs.Graphs.{marked, in_range};
 ghost use Rattle.dae_slice.specs.Links.{CodeKept, CodeHasTargets, IsLeastFor, IsRow, IsTable, HasRows};
 
-use crate::graph::{Graph, Node};
+use crate::graph::{Graph, SliceNode};
 use crate::items::Sought;
 use crate::walk::link_statements;
 use dae_base::{Items, Side};
@@ -73,7 +73,7 @@ fn make_table(
     let mut table = Items::new(alloc);
     for variable in 0..variables {
         let variable = variable as usize;
-        let node = Node { function, variable };
+        let node = SliceNode { function, variable };
         table.push(Class {
             a: a.needs(node),
             e: e.needs(node),

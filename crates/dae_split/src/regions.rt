@@ -169,14 +169,14 @@ fn region(
 /// What an If or a Loop becomes in a stream: whether it stands there, where what is in it stands, and whether a message
 /// follows it.
 #[derive(Clone, Copy)]
-pub struct Plan {
+pub struct RegionPlan {
     pub stands: bool,
     pub zone: Zone,
     pub tells: bool,
 }
 
 /// What a side does of an If or a Loop that stands outside of regions or inside.
-pub fn plan_of(tables: &[Items<Class>], task: Task, zone: Zone, statement: &Statement) -> Plan
+pub fn plan_of(tables: &[Items<Class>], task: Task, zone: Zone, statement: &Statement) -> RegionPlan
     ensures stands { result.stands
         ≡ stands_in (is_a task.side)
         (region (lies_outside zone) (classes_of tables.now task.function)
@@ -191,17 +191,17 @@ pub fn plan_of(tables: &[Items<Class>], task: Task, zone: Zone, statement: &Stat
         (before statement.now Done)) (before statement.now Done) }
 {
     match region(tables, task.function, zone, statement) {
-        None => Plan {
+        None => RegionPlan {
             stands: true,
             zone,
             tells: false,
         },
-        Some(Side::A) => Plan {
+        Some(Side::A) => RegionPlan {
             stands: matches!(task.side, Side::A),
             zone: Zone::Region,
             tells: has_loop(statement),
         },
-        Some(Side::E) => Plan {
+        Some(Side::E) => RegionPlan {
             stands: matches!(task.side, Side::E),
             zone: Zone::Region,
             tells: false,

@@ -4,7 +4,7 @@ use Rattle.std.specs.Prelude.{Some}
 use Rattle.dae_base.specs.declared.Side.{Side}
 use Rattle.dae_machine.specs.Held.{HeldMachine}
 use Rattle.dae_machine.specs.Machine.{Setup, State, step}
-use Rattle.dae_queues.specs.Fifos.{Line}
+use Rattle.dae_queues.specs.Fifos.{BoundedQueue}
 use Rattle.dae_timing.specs.declared.prices.Price.{Price}
 use Rattle.dae_timing.specs.Clocks.{Clock, issues_after}
 use Rattle.dae_timing.specs.Held.{IsSound}
@@ -19,7 +19,7 @@ use Rattle.dae_timing.specs.Ticks.{after_pick}
 use Rattle.dae_timing.proofs.Rising.{rise_after, rise_later}
 use Rattle.dae_timing.proofs.Counting.{BothShift, drain_same, fill_same, move_shift, noted_length}
 
-pub sound_after : (m n : HeldMachine) (pa pe : List Price) (ld al ld' al' : Line ℕ) (now : ℕ) (side : Side) (t : State) → IsSound m pa pe now ld al → n.setup ≡ m.setup
+pub sound_after : (m n : HeldMachine) (pa pe : List Price) (ld al ld' al' : BoundedQueue ℕ) (now : ℕ) (side : Side) (t : State) → IsSound m pa pe now ld al → n.setup ≡ m.setup
     → step m.setup m.state (move_of side) ≡ Some t → n.state.queues ≡ t.queues
     → ld'.held ≡ issues_after now (length m.state.queues.ld.slots) (length n.state.queues.ld.slots) ld.held → ld'.depth ≡ ld.depth
     → al'.held ≡ issues_after now (length m.state.queues.al.slots) (length n.state.queues.al.slots) al.held → al'.depth ≡ al.depth → IsSound n pa pe now ld' al'
@@ -51,7 +51,7 @@ fill_state m n side number piece h =
     let same : printed_as n.state piece ≡ n.state = ap (printed_as n.state) (quiet ∙ sym n.silent) in
     h ∙ ap Some same
 
-pub sound_filled : (m n : HeldMachine) (pa pe : List Price) (now : ℕ) (ld al : Line ℕ) (side : Side) (number : ℕ) (piece : List ℕ) → IsSound m pa pe now ld al → n.setup ≡ m.setup → step m.setup m.state (Fill side number) ≡ Some (printed_as n.state piece) → IsSound n pa pe now ld al
+pub sound_filled : (m n : HeldMachine) (pa pe : List Price) (now : ℕ) (ld al : BoundedQueue ℕ) (side : Side) (number : ℕ) (piece : List ℕ) → IsSound m pa pe now ld al → n.setup ≡ m.setup → step m.setup m.state (Fill side number) ≡ Some (printed_as n.state piece) → IsSound n pa pe now ld al
 sound_filled m n pa pe now ld al side number piece sound setup h =
     let same = fill_same m.setup m.state n.state side number (fill_state m n side number piece h) in
     record {
@@ -66,7 +66,7 @@ sound_filled m n pa pe now ld al side number piece sound setup h =
       counted = counted_step m.setup m.state (printed_as n.state piece) (Fill side number) sound.counted h;
     }
 
-pub sound_drained : (m n : HeldMachine) (pa pe : List Price) (now : ℕ) (ld al : Line ℕ) (piece : List ℕ) → IsSound m pa pe now ld al → n.setup ≡ m.setup → step m.setup m.state Drain ≡ Some (printed_as n.state piece) → IsSound n pa pe now ld al
+pub sound_drained : (m n : HeldMachine) (pa pe : List Price) (now : ℕ) (ld al : BoundedQueue ℕ) (piece : List ℕ) → IsSound m pa pe now ld al → n.setup ≡ m.setup → step m.setup m.state Drain ≡ Some (printed_as n.state piece) → IsSound n pa pe now ld al
 sound_drained m n pa pe now ld al piece sound setup h =
     let same = drain_same m.setup m.state (printed_as n.state piece) h in
     record {
@@ -82,7 +82,7 @@ sound_drained m n pa pe now ld al piece sound setup h =
     }
 
 -- the tick that ends
-pub sound_later : (m : HeldMachine) (pa pe : List Price) (now : ℕ) (ld al : Line ℕ) → IsSound m pa pe now ld al → IsSound m pa pe (now + 1) ld al
+pub sound_later : (m : HeldMachine) (pa pe : List Price) (now : ℕ) (ld al : BoundedQueue ℕ) → IsSound m pa pe now ld al → IsSound m pa pe (now + 1) ld al
 sound_later m pa pe now ld al sound = record {
   priced_a = sound.priced_a;
   priced_e = sound.priced_e;

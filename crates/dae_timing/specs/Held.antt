@@ -4,7 +4,7 @@ use Rattle.std.specs.List.{AllByRecursion}
 use Rattle.dae_base.specs.declared.Queue.{Queue}
 use Rattle.dae_machine.specs.Held.{HeldMachine}
 use Rattle.dae_machine.specs.Machine.{IsCounted, Setup}
-use Rattle.dae_queues.specs.Fifos.{Line}
+use Rattle.dae_queues.specs.Fifos.{BoundedQueue}
 use Rattle.dae_cli_options.specs.declared.options.Costs.{Costs}
 use Rattle.dae_timing.specs.declared.prices.Price.{Price}
 use Rattle.dae_timing.specs.declared.waits.Waits.{Waits}
@@ -19,7 +19,7 @@ pub record HeldClock : Type 0 where
   pub silent : clock.state.printed ≡ []
 
 -- what a machine with a clock is seen as, from its parts
-abbrev pub seen : HeldMachine → Costs → (ticks : ℕ) → (ld al : Line ℕ) → (free_a free_e : ℕ)
+abbrev pub seen : HeldMachine → Costs → (ticks : ℕ) → (ld al : BoundedQueue ℕ) → (free_a free_e : ℕ)
     → (waits_a waits_e : Waits) → HeldClock
 seen m k ticks ld al free_a free_e waits_a waits_e = record {
   setup = m.setup;
@@ -44,7 +44,7 @@ RiseTo now (t ∷ ts) = (t ≤ now) × AllByRecursion (λ (u : ℕ). t ≤ u) ts
 
 -- each word of code has its price. Each slot of ld and al has the tick of its issue, in rings that are as deep as the
 -- queues, and these ticks rise; and the numbers of slots and stores are in order
-pub record IsSound (m : HeldMachine) (prices_a prices_e : List Price) (ticks : ℕ) (ld al : Line ℕ) : Type 0 where
+pub record IsSound (m : HeldMachine) (prices_a prices_e : List Price) (ticks : ℕ) (ld al : BoundedQueue ℕ) : Type 0 where
   pub priced_a : prices_a ≡ map price_of_word m.setup.code_a
   pub priced_e : prices_e ≡ map price_of_word m.setup.code_e
   pub deep_ld : ld.depth ≡ m.setup.depths.ld

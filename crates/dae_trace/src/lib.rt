@@ -9,7 +9,7 @@ pub use laws::{
 };
 pub use reading::read_line;
 pub use stepping::line;
-pub use text::Line;
+pub use text::TraceLine;
 
 mod checking;
 mod laws;

@@ -8,12 +8,12 @@ use std::marker::Model;
 
 /// At most 40 bytes, beside how many there are. Clauses see them as a list.
 #[derive(Drop)]
-pub struct Line {
+pub struct TraceLine {
     bytes: [u8; 40],
     len: u8,
 }
 
-impl Model for Line {
+impl Model for TraceLine {
     ghost use Rattle.std.specs.Prelude.{ℕ, ◌≤◌, List, take};
 
     ghost Value = { List ℕ };
@@ -23,12 +23,12 @@ impl Model for Line {
     ghost invariant = { λ t. t.len ≤ 40 };
 }
 
-impl Line {
+impl TraceLine {
     /// The empty line.
-    pub fn empty() -> Line
+    pub fn empty() -> TraceLine
         ensures { result ≡ [] }
     {
-        Line {
+        TraceLine {
             bytes: [0; 40],
             len: 0,
         }

@@ -4,7 +4,7 @@
 use Rattle.std.specs.Prelude.{ℕ, suc, Bool, false, List, [], ◌∷◌, Option, Some, None, ltb, if◌then◌else◌, length}
 use Rattle.dae_base.specs.declared.Place.{Place}
 use Rattle.dae_tree.specs.Statements.{spell_external}
-use Rattle.dae_tree.specs.Trees.{Expression, Expressions, Specifiers, Specifier, Members, Enumerators, Declarators, Declarator, Parameters, Initialiser, Initialisers, Item, Declaration, Statement, Statements, External, Identifier, Number, Literal, Parenthesised, Index, Call, Member, Postfix, Prefix, SizeofExpression, SizeofType, Cast, Binary, Conditional, Assignment, Comma, no_expressions, expression_then, no_specifiers, specifier_then, Word, TypeName, Structure, StructureBody, Enumeration, EnumerationBody, no_members, member_then, no_enumerators, plain_then, valued_then, no_declarators, declarator_then, Absent, Named, Pointer, Grouped, Unsized, Sized, Empty, Void, Function, no_parameters, parameter_then, Value, Listed, no_initialisers, initialiser_then, Block, Nothing, Evaluate, If, IfElse, While, Do, For, Break, Continue, Return, Switch, Case, Default, no_statements, statement_then, Declared, Defined}
+use Rattle.dae_tree.specs.Trees.{Expression, Expressions, Specifiers, Specifier, Members, Enumerators, Declarators, Declarator, Parameters, Initialiser, Initialisers, BlockItem, Declaration, Statement, Statements, External, Identifier, Number, Literal, Parenthesised, Index, Call, Member, Postfix, Prefix, SizeofExpression, SizeofType, Cast, Binary, Conditional, Assignment, Comma, no_expressions, expression_then, no_specifiers, specifier_then, Word, TypeName, Structure, StructureBody, Enumeration, EnumerationBody, no_members, member_then, no_enumerators, plain_then, valued_then, no_declarators, declarator_then, Absent, Named, Pointer, Grouped, Unsized, Sized, Empty, Void, Function, no_parameters, parameter_then, Value, Listed, no_initialisers, initialiser_then, Block, Nothing, Evaluate, If, IfElse, While, Do, For, Break, Continue, Return, Switch, Case, Default, no_statements, statement_then, Declared, Defined}
 
 -- ---- places
 
@@ -72,15 +72,15 @@ place_of_external (Defined ws d p ds ss) = place_of_specifiers ws p
 
 -- ---- nodes, before the nodes that follow
 
-pub record Node : Type 0 where
+pub record TreeNode : Type 0 where
   pub depth : ℕ
   pub place : Place
 
-abbrev pub node : ℕ → Place → Node
+abbrev pub node : ℕ → Place → TreeNode
 node d p = record { depth = d; place = p }
 
 abbrev mutual
-  pub nodes : Expression → ℕ → List Node → List Node
+  pub nodes : Expression → ℕ → List TreeNode → List TreeNode
   nodes (Identifier n) d rest = node d n.place ∷ rest
   nodes (Number p c) d rest = node d p ∷ rest
   nodes (Literal p n) d rest = node d p ∷ rest
@@ -98,16 +98,16 @@ abbrev mutual
   nodes (Assignment a p o b) d rest = node d (place_of a) ∷ nodes a (suc d) (nodes b (suc d) rest)
   nodes (Comma a b) d rest = node d (place_of a) ∷ nodes a (suc d) (nodes b (suc d) rest)
 
-  pub nodes_all : Expressions → ℕ → List Node → List Node
+  pub nodes_all : Expressions → ℕ → List TreeNode → List TreeNode
   nodes_all no_expressions d rest = rest
   nodes_all (expression_then a xs) d rest = nodes a d (nodes_all xs d rest)
 
-  pub nodes_specifiers : Specifiers → ℕ → List Node → List Node
+  pub nodes_specifiers : Specifiers → ℕ → List TreeNode → List TreeNode
   nodes_specifiers no_specifiers d rest = rest
   nodes_specifiers (specifier_then w ws) d rest = nodes_specifier w d (nodes_specifiers ws d rest)
 
   -- a type with a body is a node
-  pub nodes_specifier : Specifier → ℕ → List Node → List Node
+  pub nodes_specifier : Specifier → ℕ → List TreeNode → List TreeNode
   nodes_specifier (Word p k) d rest = rest
   nodes_specifier (TypeName n) d rest = rest
   nodes_specifier (Structure p n) d rest = rest
@@ -115,20 +115,20 @@ abbrev mutual
   nodes_specifier (Enumeration p n) d rest = rest
   nodes_specifier (EnumerationBody p n q es c) d rest = node d p ∷ nodes_enumerators es (suc d) rest
 
-  pub nodes_members : Members → ℕ → List Node → List Node
+  pub nodes_members : Members → ℕ → List TreeNode → List TreeNode
   nodes_members no_members d rest = rest
   nodes_members (member_then ws ds p ms) d rest = nodes_specifiers ws d (nodes_declarators ds d (nodes_members ms d rest))
 
-  pub nodes_enumerators : Enumerators → ℕ → List Node → List Node
+  pub nodes_enumerators : Enumerators → ℕ → List TreeNode → List TreeNode
   nodes_enumerators no_enumerators d rest = rest
   nodes_enumerators (plain_then n es) d rest = nodes_enumerators es d rest
   nodes_enumerators (valued_then n p e es) d rest = nodes e d (nodes_enumerators es d rest)
 
-  pub nodes_declarators : Declarators → ℕ → List Node → List Node
+  pub nodes_declarators : Declarators → ℕ → List TreeNode → List TreeNode
   nodes_declarators no_declarators d rest = rest
   nodes_declarators (declarator_then e es) d rest = nodes_declarator e d (nodes_declarators es d rest)
 
-  pub nodes_declarator : Declarator → ℕ → List Node → List Node
+  pub nodes_declarator : Declarator → ℕ → List TreeNode → List TreeNode
   nodes_declarator Absent d rest = rest
   nodes_declarator (Named n) d rest = node d n.place ∷ rest
   nodes_declarator (Pointer p qs e) d rest = node d p ∷ nodes_declarator e (suc d) rest
@@ -139,41 +139,41 @@ abbrev mutual
   nodes_declarator (Void e p q) d rest = node d (place_before e p) ∷ nodes_declarator e (suc d) rest
   nodes_declarator (Function e p ps) d rest = node d (place_before e p) ∷ nodes_declarator e (suc d) (nodes_parameters ps (suc d) rest)
 
-  pub nodes_parameters : Parameters → ℕ → List Node → List Node
+  pub nodes_parameters : Parameters → ℕ → List TreeNode → List TreeNode
   nodes_parameters no_parameters d rest = rest
   nodes_parameters (parameter_then ws e ps) d rest = nodes_specifiers ws d (nodes_declarator e d (nodes_parameters ps d rest))
 
 abbrev mutual
-  pub nodes_initialiser : Initialiser → ℕ → List Node → List Node
+  pub nodes_initialiser : Initialiser → ℕ → List TreeNode → List TreeNode
   nodes_initialiser (Value e) d rest = nodes e d rest
   nodes_initialiser (Listed p xs c) d rest = node d p ∷ nodes_initialisers xs (suc d) rest
 
-  pub nodes_initialisers : Initialisers → ℕ → List Node → List Node
+  pub nodes_initialisers : Initialisers → ℕ → List TreeNode → List TreeNode
   nodes_initialisers no_initialisers d rest = rest
   nodes_initialisers (initialiser_then x xs) d rest = nodes_initialiser x d (nodes_initialisers xs d rest)
 
-abbrev pub nodes_value : Option (Place × Initialiser) → ℕ → List Node → List Node
+abbrev pub nodes_value : Option (Place × Initialiser) → ℕ → List TreeNode → List TreeNode
 nodes_value None d rest = rest
 nodes_value (Some x) d rest = nodes_initialiser x.1 d rest
 
-abbrev pub nodes_items : List Item → ℕ → List Node → List Node
+abbrev pub nodes_items : List BlockItem → ℕ → List TreeNode → List TreeNode
 nodes_items [] d rest = rest
 nodes_items (i ∷ items) d rest = nodes_declarator i.declarator d (nodes_value i.initialiser d (nodes_items items d rest))
 
-abbrev pub nodes_declaration : Declaration → ℕ → List Node → List Node
+abbrev pub nodes_declaration : Declaration → ℕ → List TreeNode → List TreeNode
 nodes_declaration e d rest =
     node d (place_of_specifiers e.specifiers e.end) ∷ nodes_specifiers e.specifiers (suc d) (nodes_items e.items (suc d) rest)
 
-abbrev pub nodes_declarations : List Declaration → ℕ → List Node → List Node
+abbrev pub nodes_declarations : List Declaration → ℕ → List TreeNode → List TreeNode
 nodes_declarations [] d rest = rest
 nodes_declarations (e ∷ es) d rest = nodes_declaration e d (nodes_declarations es d rest)
 
-abbrev pub nodes_optional : Option Expression → ℕ → List Node → List Node
+abbrev pub nodes_optional : Option Expression → ℕ → List TreeNode → List TreeNode
 nodes_optional None d rest = rest
 nodes_optional (Some e) d rest = nodes e d rest
 
 abbrev mutual
-  pub nodes_statement : Statement → ℕ → List Node → List Node
+  pub nodes_statement : Statement → ℕ → List TreeNode → List TreeNode
   nodes_statement (Block p ds ss) d rest = node d p ∷ nodes_declarations ds (suc d) (nodes_statements ss (suc d) rest)
   nodes_statement (Nothing p) d rest = node d p ∷ rest
   nodes_statement (Evaluate e p) d rest = node d (place_of e) ∷ nodes e (suc d) rest
@@ -190,21 +190,21 @@ abbrev mutual
   nodes_statement (Case p e s) d rest = node d p ∷ nodes e (suc d) (nodes_statement s (suc d) rest)
   nodes_statement (Default p s) d rest = node d p ∷ nodes_statement s (suc d) rest
 
-  pub nodes_statements : Statements → ℕ → List Node → List Node
+  pub nodes_statements : Statements → ℕ → List TreeNode → List TreeNode
   nodes_statements no_statements d rest = rest
   nodes_statements (statement_then s ss) d rest = nodes_statement s d (nodes_statements ss d rest)
 
-abbrev pub nodes_external : External → ℕ → List Node → List Node
+abbrev pub nodes_external : External → ℕ → List TreeNode → List TreeNode
 nodes_external (Declared e) d rest = nodes_declaration e d rest
 nodes_external (Defined ws e p ds ss) d rest =
     node d (place_of_specifiers ws p) ∷ nodes_specifiers ws (suc d) (nodes_declarator e (suc d) (nodes_statement (Block p ds ss) (suc d) rest))
 
-abbrev pub nodes_file : List External → List Node
+abbrev pub nodes_file : List External → List TreeNode
 nodes_file [] = []
 nodes_file (x ∷ xs) = nodes_external x 1 (nodes_file xs)
 
 -- the place of the first node deeper than this
-abbrev pub first_deeper : ℕ → List Node → Option Place
+abbrev pub first_deeper : ℕ → List TreeNode → Option Place
 first_deeper limit [] = None
 first_deeper limit (n ∷ ns) = if ltb limit n.depth then Some n.place else first_deeper limit ns
 

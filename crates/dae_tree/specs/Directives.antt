@@ -6,7 +6,7 @@ use Rattle.dae_base.specs.declared.Place.{Place}
 use Rattle.dae_tree.specs.Tables.{header_of}
 use Rattle.dae_tree.specs.Forms.{number_kind}
 use Rattle.dae_tree.specs.Pieces.{Cut}
-use Rattle.dae_tree.specs.Replacing.{Definition, Item, refused, error_at, body_of, expand, is_word_kind}
+use Rattle.dae_tree.specs.Replacing.{Definition, TextItem, refused, error_at, body_of, expand, is_word_kind}
 use Rattle.dae_tree.specs.declared.signs.Sign.TheVariants.{LeftParen}
 use Rattle.dae_tree.specs.declared.pieces.PieceKind.{PieceKind}
 use Rattle.dae_tree.specs.declared.pieces.PieceKind.TheVariants as kinds
@@ -54,18 +54,18 @@ abbrev pub marks_of : List Cut → List Cut
 marks_of ps = filter (λ p. not (is_blank_kind p.kind)) ps
 
 -- what a line is: text, an include of a header, a define, or a refusal
-pub data Line : Type 0 where
-  text : List Cut → Line
-  include : Place → Header → Line
-  define : Place → Definition → Line
-  refuse : LexError → Line
+pub data DirectiveLine : Type 0 where
+  text : List Cut → DirectiveLine
+  include : Place → Header → DirectiveLine
+  define : Place → Definition → DirectiveLine
+  refuse : LexError → DirectiveLine
 
 -- a directive is refused at its number sign, unless a comment with a fault stands here
-abbrev pub stray_by : PieceKind → Cut → Place → Line
+abbrev pub stray_by : PieceKind → Cut → Place → DirectiveLine
 stray_by (kinds.FaultyComment fault) p hash = refuse (error_at fault p.place)
 stray_by _ p hash = refuse (Refused Directive hash)
 
-abbrev pub stray : Place → Cut → Line
+abbrev pub stray : Place → Cut → DirectiveLine
 stray hash p = stray_by p.kind p hash
 
 -- what may not stand in a replacement, where it stands
@@ -83,12 +83,12 @@ abbrev pub begins_call : List Cut → Bool
 begins_call [] = false
 begins_call (p ∷ ps) = is_paren_kind p.kind
 
-abbrev pub defined_unless : Option LexError → Place → Definition → Line
+abbrev pub defined_unless : Option LexError → Place → Definition → DirectiveLine
 defined_unless None hash new = define hash new
 defined_unless (Some error) hash new = refuse error
 
 -- behind the word define: a name, no parenthesis at once, and the replacement
-abbrev pub definition_in : Place → List Cut → Line
+abbrev pub definition_in : Place → List Cut → DirectiveLine
 definition_in hash [] = refuse (Refused Directive hash)
 definition_in hash (p ∷ ps) =
     if not (is_word_kind p.kind) then stray hash p
@@ -103,12 +103,12 @@ header_in (a ∷ b ∷ c ∷ d ∷ e ∷ ps) =
     else None
 header_in _ = None
 
-abbrev pub alone : Place → Header → List Cut → Line
+abbrev pub alone : Place → Header → List Cut → DirectiveLine
 alone hash header [] = include hash header
 alone hash header (p ∷ ps) = stray hash p
 
 -- behind the word include: a header, alone
-abbrev pub inclusion_in : Place → List Cut → Line
+abbrev pub inclusion_in : Place → List Cut → DirectiveLine
 inclusion_in hash [] = refuse (Refused Directive hash)
 inclusion_in hash (p ∷ ps) = elim (header_in (p ∷ ps)) [
   | None ↦ stray hash p
@@ -116,18 +116,18 @@ inclusion_in hash (p ∷ ps) = elim (header_in (p ∷ ps)) [
 ]
 
 -- behind the number sign
-abbrev pub directive_in : Place → List Cut → Line
+abbrev pub directive_in : Place → List Cut → DirectiveLine
 directive_in hash [] = text []
 directive_in hash (p ∷ ps) =
     if bytes_eq p.spelling (codes "define") then definition_in hash (from_mark ps)
     else (if bytes_eq p.spelling (codes "include") then inclusion_in hash (from_mark ps)
     else stray hash p)
 
-abbrev pub line_in : List Cut → List Cut → Line
+abbrev pub line_in : List Cut → List Cut → DirectiveLine
 line_in all [] = text []
 line_in all (p ∷ ps) = if is_hash_kind p.kind then directive_in p.place (from_mark ps) else text all
 
-abbrev pub line_of : List Cut → Line
+abbrev pub line_of : List Cut → DirectiveLine
 line_of ps = line_in ps (from_mark ps)
 
 -- the macros of a header, each replaced by a number
@@ -166,39 +166,39 @@ with_definitions macros [] = macros
 with_definitions macros (new ∷ more) = with_definitions (with_definition macros new) more
 
 -- a different definition of a name is refused
-abbrev pub conflict_items : Option Bool → Place → List Item
+abbrev pub conflict_items : Option Bool → Place → List TextItem
 conflict_items (Some true) hash = refused (Refused MacroRedefined hash) ∷ []
 conflict_items _ hash = []
 
-abbrev pub definition_items : Place → List Definition → List Definition → List Item
+abbrev pub definition_items : Place → List Definition → List Definition → List TextItem
 definition_items hash macros [] = []
 definition_items hash macros (new ∷ more) =
     conflict_items (known_as macros new) hash ++ definition_items hash (with_definition macros new) more
 
 -- a line of text with its names replaced
-abbrev pub replaced_text : ℕ → List Definition → List Cut → List Item
+abbrev pub replaced_text : ℕ → List Definition → List Cut → List TextItem
 replaced_text n macros ps = flat_map (λ p. expand n macros [] p p) ps
 
 -- what a line leaves: a line of text its tokens, a directive nothing but what it is refused for
-abbrev pub line_items : ℕ → List Definition → Line → List Item
+abbrev pub line_items : ℕ → List Definition → DirectiveLine → List TextItem
 line_items n macros (text ps) = replaced_text n macros ps
 line_items n macros (include hash header) = definition_items hash macros (header_definitions hash header)
 line_items n macros (define hash new) = definition_items hash macros (new ∷ [])
 line_items n macros (refuse error) = refused error ∷ []
 
 -- the macros after a line
-abbrev pub macros_after : List Definition → Line → List Definition
+abbrev pub macros_after : List Definition → DirectiveLine → List Definition
 macros_after macros (include hash header) = with_definitions macros (header_definitions hash header)
 macros_after macros (define hash new) = with_definition macros new
 macros_after macros _ = macros
 
 -- the lines in order, where a definition holds from its line on
-abbrev pub replaced_lines : ℕ → List Definition → List (List Cut) → List Item
+abbrev pub replaced_lines : ℕ → List Definition → List (List Cut) → List TextItem
 replaced_lines n macros [] = []
 replaced_lines n macros (l ∷ ls) = line_items n macros (line_of l) ++ replaced_lines n (macros_after macros (line_of l)) ls
 
 -- the header that a line includes, and whether one of the lines includes a header
-abbrev pub inclusion_of : Line → Option Header
+abbrev pub inclusion_of : DirectiveLine → Option Header
 inclusion_of (include hash header) = Some header
 inclusion_of _ = None
 

@@ -6,11 +6,11 @@ use Rattle.std.specs.Char.{is_ascii_alphabetic, is_ascii_digit}
 use Rattle.dae_tree.specs.Tables.{sign_of}
 use Rattle.dae_tree.specs.Constants.{is_exponent, is_plus_or_minus, constant_of}
 use Rattle.dae_tree.specs.Literals.{is_nowhere, is_trigraph, values_of, fault_from}
-use Rattle.dae_tree.specs.declared.pieces.Form.{Form}
+use Rattle.dae_tree.specs.declared.pieces.Lexeme.{Lexeme}
 use Rattle.dae_tree.specs.declared.pieces.PieceKind.{PieceKind}
 use Rattle.dae_tree.specs.declared.pieces.PieceKind.TheVariants.{Blank, LineEnd, Word, Constant, Text, Late, Faulty, FaultyComment}
-use Rattle.dae_tree.specs.declared.faults.Fault.{Fault}
-use Rattle.dae_tree.specs.declared.faults.Fault.TheVariants.{BadByte, Named}
+use Rattle.dae_tree.specs.declared.faults.TextFault.{TextFault}
+use Rattle.dae_tree.specs.declared.faults.TextFault.TheVariants.{BadByte, Named}
 use Rattle.dae_tree.specs.declared.faults.Construct.TheVariants.{Trigraph, WideLiteral, LongCharacter, Unterminated}
 
 -- bytes of words, and blanks
@@ -29,17 +29,17 @@ place_of p [] = 0
 place_of p (b ∷ bs) = if p (b ∷ bs) then 0 else suc (place_of p bs)
 
 -- the kinds of what stands at the front, with its length; a fault stands at a place of its own, and takes all the rest
-abbrev pub plain : PieceKind → ℕ → Form
+abbrev pub plain : PieceKind → ℕ → Lexeme
 plain kind n = record { kind = kind; length = n; at = 0 }
 
-abbrev pub wrong : Fault → ℕ → List ℕ → Form
+abbrev pub wrong : TextFault → ℕ → List ℕ → Lexeme
 wrong fault at bytes = record { kind = Faulty fault; length = length bytes; at = at }
 
-abbrev pub wrong_comment : Fault → ℕ → List ℕ → Form
+abbrev pub wrong_comment : TextFault → ℕ → List ℕ → Lexeme
 wrong_comment fault at bytes = record { kind = FaultyComment fault; length = length bytes; at = at }
 
 -- a word is the longest run of letters and digits, and no L stands before a quote
-unfoldable pub word_form : List ℕ → Form
+unfoldable pub word_form : List ℕ → Lexeme
 word_form bytes =
     if (prefix_len is_word bytes == 1) && (slice_index bytes 0 == 76)
     && ((slice_index bytes 1 == 34) || (slice_index bytes 1 == 39))
@@ -58,7 +58,7 @@ begins_number bytes = is_ascii_digit (slice_index bytes 0) || ((slice_index byte
 unfoldable pub number_kind : List ℕ → PieceKind
 number_kind spelling = elim (constant_of spelling) [ Ok constant ↦ Constant constant | Err construct ↦ Late construct ]
 
-unfoldable pub number_form : List ℕ → Form
+unfoldable pub number_form : List ℕ → Lexeme
 number_form bytes = plain (number_kind (take (number_rest false bytes) bytes)) (number_rest false bytes)
 
 -- where a literal stops: at its quote, at the end of its line or of the text; after a backslash a quote is no end
@@ -69,7 +69,7 @@ literal_stop escaped quote (b ∷ bs) =
     else suc (literal_stop ((b == 92) && not escaped) quote bs)
 
 -- what is wrong between the quotes: a character constant has one character; else the first fault that stands there
-abbrev pub literal_fault : ℕ → List ℕ → Option (Fault × ℕ)
+abbrev pub literal_fault : ℕ → List ℕ → Option (TextFault × ℕ)
 literal_fault quote inside =
     if (quote == 39) && not (length (values_of inside) == 1) then Some (Named LongCharacter, 0)
     else elim (fault_from 0 inside) [ None ↦ None | Some found ↦ Some (found.0, 1 + found.1) ]
@@ -79,7 +79,7 @@ literal_kind quote inside =
     if quote == 39 then Constant (record { value = slice_index (values_of inside) 0; unsigned = false }) else Text
 
 -- a literal, with its quote at the front
-unfoldable pub literal_form : List ℕ → Form
+unfoldable pub literal_form : List ℕ → Lexeme
 literal_form bytes =
     let quote = slice_index bytes 0 in
     let stop = literal_stop false quote (drop 1 bytes) in
@@ -98,7 +98,7 @@ closes_comment _ = false
 abbrev pub front_nowhere : List ℕ → Bool
 front_nowhere bytes = is_nowhere (slice_index bytes 0)
 
-unfoldable pub comment_form : List ℕ → Form
+unfoldable pub comment_form : List ℕ → Lexeme
 comment_form bytes =
     let close = place_of closes_comment (drop 2 bytes) in
     let at = place_of front_nowhere (take (close + 4) bytes) in
@@ -109,17 +109,17 @@ abbrev pub ends_line : List ℕ → Bool
 ends_line bytes = slice_index bytes 0 == 10
 
 -- a comment to the end of its line, behind two slashes
-unfoldable pub line_comment_form : List ℕ → Form
+unfoldable pub line_comment_form : List ℕ → Lexeme
 line_comment_form bytes =
     let end = place_of ends_line bytes in
     let at = place_of front_nowhere (take end bytes) in
     if nat_lt at end then wrong_comment BadByte at bytes else plain Blank end
 
-unfoldable pub sign_form : List ℕ → Form
+unfoldable pub sign_form : List ℕ → Lexeme
 sign_form bytes = elim (sign_of bytes) [ None ↦ wrong BadByte 0 bytes | Some found ↦ plain found.1 found.0 ]
 
 -- what stands at the front
-unfoldable pub form : List ℕ → Form
+unfoldable pub form : List ℕ → Lexeme
 form bytes =
     let a = slice_index bytes 0 in
     let b = slice_index bytes 1 in
@@ -134,5 +134,5 @@ form bytes =
     else sign_form bytes)))))))
 
 -- a form has at least one byte, and a fault stands at one of its bytes
-abbrev pub IsWithin : Form → List ℕ → Type 0
+abbrev pub IsWithin : Lexeme → List ℕ → Type 0
 IsWithin f bytes = (0 < f.length) × (f.length ≤ length bytes) × (f.at < f.length)

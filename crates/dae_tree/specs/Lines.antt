@@ -1,24 +1,24 @@
 -- The characters of a text: each byte with the spot where it stands, and lines joined (C90 5.1.1.2, phase 2).
 use Rattle.std.specs.Prelude.{◌==◌, ℕ, zero, suc, ◌+◌, List, [], ◌∷◌, map, if◌then◌else◌, ◌&&◌}
-use Rattle.dae_tree.specs.declared.pieces.Spot.{Spot}
+use Rattle.dae_tree.specs.declared.pieces.TextSpot.{TextSpot}
 
 -- a byte of the text, and where it stands
 pub record Char : Type 0 where
   pub byte : ℕ
-  pub spot : Spot
+  pub spot : TextSpot
 
 abbrev pub bytes_of : List Char → List ℕ
 bytes_of = map (λ c. c.byte)
 
-abbrev pub spots_of : List Char → List Spot
+abbrev pub spots_of : List Char → List TextSpot
 spots_of = map (λ c. c.spot)
 
 -- a text begins at line 1, column 1
-abbrev pub start_of : ℕ → Spot
+abbrev pub start_of : ℕ → TextSpot
 start_of file = record { offset = 0; place = record { file = file; line = 1; col = 1 } }
 
 -- the spot after a byte: a line feed ends its line
-abbrev pub spot_after : ℕ → Spot → Spot
+abbrev pub spot_after : ℕ → TextSpot → TextSpot
 spot_after byte s =
     record {
       offset = s.offset + 1;
@@ -28,11 +28,11 @@ spot_after byte s =
     }
 
 -- each byte with its spot, where the first stands at s, and the spot behind the last
-abbrev pub placed : Spot → List ℕ → List Char
+abbrev pub placed : TextSpot → List ℕ → List Char
 placed s [] = []
 placed s (b ∷ bs) = record { byte = b; spot = s } ∷ placed (spot_after b s) bs
 
-abbrev pub spot_behind : Spot → List ℕ → Spot
+abbrev pub spot_behind : TextSpot → List ℕ → TextSpot
 spot_behind s [] = s
 spot_behind s (b ∷ bs) = spot_behind (spot_after b s) bs
 

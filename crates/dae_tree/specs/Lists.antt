@@ -11,7 +11,7 @@ pub record MemberLine : Type 0 where
   pub end : Place
 
 -- an enumerator, with the place of `=` and its value or without
-pub record Entry : Type 0 where
+pub record EnumEntry : Type 0 where
   pub name : Name
   pub value : Option (Place × Expression)
 
@@ -31,7 +31,7 @@ abbrev pub member_list : Members → List MemberLine
 member_list no_members = []
 member_list (member_then ws ds p ms) = record { specifiers = ws; declarators = ds; end = p } ∷ member_list ms
 
-abbrev pub entry_list : Enumerators → List Entry
+abbrev pub entry_list : Enumerators → List EnumEntry
 entry_list no_enumerators = []
 entry_list (plain_then n es) = record { name = n; value = None } ∷ entry_list es
 entry_list (valued_then n p e es) = record { name = n; value = Some (p, e) } ∷ entry_list es

@@ -3,8 +3,8 @@ use Rattle.std.specs.Prelude.{◌==◌, ℕ, zero, suc, pred, ◌+◌, ◌-◌, 
 use Rattle.std.specs.List.{prefix_len}
 use Rattle.dae_tree.specs.Constants.{is_digit_in, value_from, limited}
 use Rattle.dae_tree.specs.declared.literals.TheConstants.{ESCAPES}
-use Rattle.dae_tree.specs.declared.faults.Fault.{Fault}
-use Rattle.dae_tree.specs.declared.faults.Fault.TheVariants.{BadByte, Named}
+use Rattle.dae_tree.specs.declared.faults.TextFault.{TextFault}
+use Rattle.dae_tree.specs.declared.faults.TextFault.TheVariants.{BadByte, Named}
 use Rattle.dae_tree.specs.declared.faults.Construct.TheVariants.{Trigraph, BadEscape}
 
 -- a control byte that is no blank, which may not stand anywhere
@@ -51,24 +51,24 @@ values_of inside = values_from 0 inside
 
 -- What is wrong at the front, where n bytes are left of a unit before: a trigraph, a byte that may not stand anywhere or
 -- a bad escape. Else how many bytes are left of the unit then.
-abbrev pub unit_left : Option ℕ → ℕ → Result ℕ Fault
+abbrev pub unit_left : Option ℕ → ℕ → Result ℕ TextFault
 unit_left None n = Err (Named BadEscape)
 unit_left (Some value) n = Ok (pred n)
 
-abbrev pub left_of : ℕ → List ℕ → Result ℕ Fault
+abbrev pub left_of : ℕ → List ℕ → Result ℕ TextFault
 left_of zero bytes = unit_left (unit_of bytes).0 (unit_of bytes).1
 left_of (suc n) bytes = Ok n
 
-abbrev pub checked : ℕ → List ℕ → Result ℕ Fault
+abbrev pub checked : ℕ → List ℕ → Result ℕ TextFault
 checked n bytes =
     if is_trigraph bytes then Err (Named Trigraph)
     else (if is_nowhere (slice_index bytes 0) then Err BadByte else left_of n bytes)
 
 -- the first fault, and how far on it stands
-abbrev pub one_on : Option (Fault × ℕ) → Option (Fault × ℕ)
+abbrev pub one_on : Option (TextFault × ℕ) → Option (TextFault × ℕ)
 one_on found = option_map (λ f. (f.0, suc f.1)) found
 
-abbrev pub fault_from : ℕ → List ℕ → Option (Fault × ℕ)
+abbrev pub fault_from : ℕ → List ℕ → Option (TextFault × ℕ)
 fault_from n [] = None
 fault_from n (b ∷ bs) = elim (checked n (b ∷ bs)) [ Ok m ↦ one_on (fault_from m bs) | Err f ↦ Some (f, 0) ]
 

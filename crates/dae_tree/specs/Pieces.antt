@@ -3,8 +3,8 @@ use Rattle.std.specs.Prelude.{ℕ, zero, suc, pred, ◌+◌, ◌-◌, List, [], 
 use Rattle.dae_base.specs.declared.Place.{Place}
 use Rattle.dae_tree.specs.Lines.{Char, bytes_of, spots_of, start_of}
 use Rattle.dae_tree.specs.Forms.{form}
-use Rattle.dae_tree.specs.declared.pieces.Spot.{Spot}
-use Rattle.dae_tree.specs.declared.pieces.Form.{Form}
+use Rattle.dae_tree.specs.declared.pieces.TextSpot.{TextSpot}
+use Rattle.dae_tree.specs.declared.pieces.Lexeme.{Lexeme}
 use Rattle.dae_tree.specs.declared.pieces.PieceKind.{PieceKind}
 
 -- what a piece is, its bytes with lines joined, and where it stands in the text
@@ -15,11 +15,11 @@ pub record Cut : Type 0 where
   pub end : ℕ
   pub place : Place
 
-abbrev pub spot_at : List Char → ℕ → Spot
+abbrev pub spot_at : List Char → ℕ → TextSpot
 spot_at cs i = slice_index_or (spots_of cs) i (start_of 0)
 
 -- the piece at the front of these characters
-abbrev pub piece : Form → List Char → Cut
+abbrev pub piece : Lexeme → List Char → Cut
 piece f cs = record {
   kind = f.kind;
   spelling = take f.length (bytes_of cs);

@@ -3,8 +3,8 @@ use Rattle.std.specs.Prelude.{◌≡◌, ℕ, ◌<◌, ◌≤◌, Bool, List, []
 use Rattle.std.specs.List.{IsDistinct, range_with_len}
 use Rattle.std.specs.Str.{bytes_eq}
 use Rattle.dae_base.specs.declared.Place.{Place}
-use Rattle.dae_tree.specs.declared.tokens.Kind.{Kind}
-use Rattle.dae_tree.specs.declared.tokens.Kind.TheVariants as kinds
+use Rattle.dae_tree.specs.declared.tokens.TokenKind.{TokenKind}
+use Rattle.dae_tree.specs.declared.tokens.TokenKind.TheVariants as kinds
 use Rattle.dae_tree.specs.declared.tokens.Token.{Token}
 use Rattle.dae_tree.specs.Marks.{marks, literal_numbers}
 
@@ -27,7 +27,7 @@ AreInOrder start end [] = Unit {0}
 AreInOrder start end (t ∷ ts) = (start ≤ t.start) × (end ≤ t.end) × AreInOrder t.start t.end ts
 
 -- a token's name or literal is one of those read
-abbrev pub IsNumbered : ℕ → ℕ → Kind → Type 0
+abbrev pub IsNumbered : ℕ → ℕ → TokenKind → Type 0
 IsNumbered names literals (kinds.Name n) = n < names
 IsNumbered names literals (kinds.Literal n) = n < literals
 IsNumbered names literals _ = Unit {0}

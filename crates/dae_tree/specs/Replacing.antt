@@ -14,8 +14,8 @@ use Rattle.dae_tree.specs.declared.pieces.PieceKind.{PieceKind}
 use Rattle.dae_tree.specs.declared.pieces.PieceKind.TheVariants as kinds
 use Rattle.dae_tree.specs.declared.faults.Construct.{Construct}
 use Rattle.dae_tree.specs.declared.faults.Construct.TheVariants.{TooManyReplacements, LiteralsTooLong}
-use Rattle.dae_tree.specs.declared.faults.Fault.{Fault}
-use Rattle.dae_tree.specs.declared.faults.Fault.TheVariants as faults
+use Rattle.dae_tree.specs.declared.faults.TextFault.{TextFault}
+use Rattle.dae_tree.specs.declared.faults.TextFault.TheVariants as faults
 use Rattle.dae_tree.specs.declared.faults.LexError.{LexError}
 use Rattle.dae_tree.specs.declared.faults.LexError.TheVariants.{BadByte, TooManyTokens, Refused}
 
@@ -28,7 +28,7 @@ pub data Meaning : Type 0 where
   literal : List ℕ → Meaning
 
 -- a token: what it is, and the span and place of the piece of the text that it comes from
-pub record Read : Type 0 where
+pub record TokenRead : Type 0 where
   pub meaning : Meaning
   pub start : ℕ
   pub end : ℕ
@@ -41,13 +41,13 @@ pub record Definition : Type 0 where
 
 -- What replacement leaves, in reading order: a token with the piece of the text that it comes from, or what it is
 -- refused for once it counts as a token; a mark that a name of the text was replaced here; or a refusal.
-pub data Item : Type 0 where
-  taken : Result Meaning Construct → Cut → Item
-  replaced : Cut → Item
-  refused : LexError → Item
+pub data TextItem : Type 0 where
+  taken : Result Meaning Construct → Cut → TextItem
+  replaced : Cut → TextItem
+  refused : LexError → TextItem
 
 -- a fault at a place, as the reason why a text has no tokens
-abbrev pub error_at : Fault → Place → LexError
+abbrev pub error_at : TextFault → Place → LexError
 error_at faults.BadByte place = BadByte place
 error_at (faults.Named construct) place = Refused construct place
 
@@ -61,7 +61,7 @@ unfoldable pub word_meaning : List ℕ → Result Meaning Construct
 word_meaning word = word_or_name (keyword_of word) (refused_word word) word
 
 -- a piece that isn't replaced: blanks leave nothing, and a fault or a number sign is refused
-abbrev pub items_by : PieceKind → Cut → Cut → List Item
+abbrev pub items_by : PieceKind → Cut → Cut → List TextItem
 items_by kinds.Blank p origin = []
 items_by kinds.LineEnd p origin = []
 items_by kinds.Word p origin = taken (word_meaning p.spelling) origin ∷ []
@@ -73,7 +73,7 @@ items_by (kinds.Late construct) p origin = taken (Err construct) origin ∷ []
 items_by (kinds.Faulty fault) p origin = refused (error_at fault origin.place) ∷ []
 items_by (kinds.FaultyComment fault) p origin = refused (error_at fault origin.place) ∷ []
 
-abbrev pub items_of : Cut → Cut → List Item
+abbrev pub items_of : Cut → Cut → List TextItem
 items_of p origin = items_by p.kind p origin
 
 abbrev pub body_of : List Definition → List ℕ → Option (List Cut)
@@ -91,7 +91,7 @@ replacement macros names p =
 
 -- A piece with all names in it replaced, where at most n replacements stand in one another: each of them counts as one of
 -- all, so that a deeper one is one too many.
-abbrev pub expand : ℕ → List Definition → List (List ℕ) → Cut → Cut → List Item
+abbrev pub expand : ℕ → List Definition → List (List ℕ) → Cut → Cut → List TextItem
 expand zero macros names origin p = elim (replacement macros names p) [
   | None ↦ items_of p origin
   | Some body ↦ refused (Refused TooManyReplacements origin.place) ∷ []
@@ -102,7 +102,7 @@ expand (suc n) macros names origin p = elim (replacement macros names p) [
 ]
 
 -- at most n replacements
-abbrev pub within_replacements : ℕ → List Item → List Item
+abbrev pub within_replacements : ℕ → List TextItem → List TextItem
 within_replacements n [] = []
 within_replacements zero (replaced origin ∷ items) =
     refused (Refused TooManyReplacements origin.place) ∷ within_replacements zero items
@@ -110,7 +110,7 @@ within_replacements (suc n) (replaced origin ∷ items) = within_replacements n 
 within_replacements n (item ∷ items) = item ∷ within_replacements n items
 
 -- at most n tokens
-abbrev pub within_tokens : ℕ → List Item → List Item
+abbrev pub within_tokens : ℕ → List TextItem → List TextItem
 within_tokens n [] = []
 within_tokens zero (taken meaning origin ∷ items) = refused (TooManyTokens origin.place) ∷ within_tokens zero items
 within_tokens (suc n) (taken meaning origin ∷ items) = taken meaning origin ∷ within_tokens n items
@@ -118,7 +118,7 @@ within_tokens n (item ∷ items) = item ∷ within_tokens n items
 
 -- tokens that are tested, or refusals
 pub data Tested : Type 0 where
-  token : Read → Tested
+  token : TokenRead → Tested
   failed : LexError → Tested
 
 abbrev pub tested_one : Result Meaning Construct → Cut → Tested
@@ -126,7 +126,7 @@ tested_one (Ok meaning) origin =
     token (record { meaning = meaning; start = origin.start; end = origin.end; place = origin.place })
 tested_one (Err construct) origin = failed (Refused construct origin.place)
 
-abbrev pub tested : List Item → List Tested
+abbrev pub tested : List TextItem → List Tested
 tested [] = []
 tested (taken meaning origin ∷ items) = tested_one meaning origin ∷ tested items
 tested (replaced origin ∷ items) = tested items
@@ -145,11 +145,11 @@ within_literals n (token t ∷ ts) =
 within_literals n (failed error ∷ ts) = failed error ∷ within_literals n ts
 
 -- the tokens, or the first refusal
-abbrev pub before_all : Read → Result (List Read) LexError → Result (List Read) LexError
+abbrev pub before_all : TokenRead → Result (List TokenRead) LexError → Result (List TokenRead) LexError
 before_all t (Ok ts) = Ok (t ∷ ts)
 before_all t (Err error) = Err error
 
-abbrev pub outcome : List Tested → Result (List Read) LexError
+abbrev pub outcome : List Tested → Result (List TokenRead) LexError
 outcome [] = Ok []
 outcome (token t ∷ ts) = before_all t (outcome ts)
 outcome (failed error ∷ ts) = Err error

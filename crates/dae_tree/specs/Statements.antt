@@ -3,60 +3,60 @@ use Rattle.std.specs.Prelude.{◌≡◌, ◌≤◌, Bool, true, false, List, [],
 use Rattle.dae_base.specs.declared.Place.{Place}
 use Rattle.dae_tree.specs.declared.words.Keyword.TheVariants as keywords
 use Rattle.dae_tree.specs.declared.signs.Sign.TheVariants as signs
-use Rattle.dae_tree.specs.Marks.{Mark, word, sign, part, close_paren, close_brace, comma, colon, else_word}
+use Rattle.dae_tree.specs.Marks.{TokenMark, word, sign, part, close_paren, close_brace, comma, colon, else_word}
 use Rattle.dae_tree.specs.Words.{nothing_seen}
 use Rattle.dae_tree.specs.Names.{Names, has_typedef, after, after_specifiers, after_declarator, with_declarator, after_initialiser, after_item, after_declaration, after_declarations, after_optional, after_statement, after_external, inside_definition}
 use Rattle.dae_tree.specs.Spelling.{spell, spell_specifiers, spell_declarator, spell_comma}
 use Rattle.dae_tree.specs.Grammar.{level, by_name, IsExpression, IsSpecifiers, IsDeclarator}
-use Rattle.dae_tree.specs.Trees.{Expression, Initialiser, Initialisers, Item, Declaration, Statement, Statements, External, Value, Listed, no_initialisers, initialiser_then, Block, Nothing, Evaluate, If, IfElse, While, Do, For, Break, Continue, Return, Switch, Case, Default, no_statements, statement_then, Declared, Defined}
+use Rattle.dae_tree.specs.Trees.{Expression, Initialiser, Initialisers, BlockItem, Declaration, Statement, Statements, External, Value, Listed, no_initialisers, initialiser_then, Block, Nothing, Evaluate, If, IfElse, While, Do, For, Break, Continue, Return, Switch, Case, Default, no_statements, statement_then, Declared, Defined}
 
 -- ---- the tokens that a tree spells
 
 abbrev mutual
-  pub spell_initialiser : Initialiser → List Mark → List Mark
+  pub spell_initialiser : Initialiser → List TokenMark → List TokenMark
   spell_initialiser (Value e) rest = spell e rest
   spell_initialiser (Listed p xs c) rest = sign signs.LeftBrace p ∷ spell_initialisers xs (spell_comma c (part close_brace ∷ rest))
 
-  pub spell_initialisers : Initialisers → List Mark → List Mark
+  pub spell_initialisers : Initialisers → List TokenMark → List TokenMark
   spell_initialisers no_initialisers rest = rest
   spell_initialisers (initialiser_then x xs) rest = spell_initialiser x (spell_more_initialisers xs rest)
 
-  pub spell_more_initialisers : Initialisers → List Mark → List Mark
+  pub spell_more_initialisers : Initialisers → List TokenMark → List TokenMark
   spell_more_initialisers no_initialisers rest = rest
   spell_more_initialisers (initialiser_then x xs) rest = part comma ∷ spell_initialiser x (spell_more_initialisers xs rest)
 
-abbrev pub spell_value : Option (Place × Initialiser) → List Mark → List Mark
+abbrev pub spell_value : Option (Place × Initialiser) → List TokenMark → List TokenMark
 spell_value None rest = rest
 spell_value (Some x) rest = sign signs.Assign x.0 ∷ spell_initialiser x.1 rest
 
-abbrev pub spell_item : Item → List Mark → List Mark
+abbrev pub spell_item : BlockItem → List TokenMark → List TokenMark
 spell_item i rest = spell_declarator i.declarator (spell_value i.initialiser rest)
 
-abbrev pub spell_more_items : List Item → List Mark → List Mark
+abbrev pub spell_more_items : List BlockItem → List TokenMark → List TokenMark
 spell_more_items [] rest = rest
 spell_more_items (i ∷ items) rest = part comma ∷ spell_item i (spell_more_items items rest)
 
-abbrev pub spell_items : List Item → List Mark → List Mark
+abbrev pub spell_items : List BlockItem → List TokenMark → List TokenMark
 spell_items [] rest = rest
 spell_items (i ∷ items) rest = spell_item i (spell_more_items items rest)
 
-abbrev pub spell_declaration : Declaration → List Mark → List Mark
+abbrev pub spell_declaration : Declaration → List TokenMark → List TokenMark
 spell_declaration d rest = spell_specifiers d.specifiers (spell_items d.items (sign signs.Semicolon d.end ∷ rest))
 
-abbrev pub spell_declarations : List Declaration → List Mark → List Mark
+abbrev pub spell_declarations : List Declaration → List TokenMark → List TokenMark
 spell_declarations [] rest = rest
 spell_declarations (d ∷ ds) rest = spell_declaration d (spell_declarations ds rest)
 
-abbrev pub spell_optional : Option Expression → List Mark → List Mark
+abbrev pub spell_optional : Option Expression → List TokenMark → List TokenMark
 spell_optional None rest = rest
 spell_optional (Some e) rest = spell e rest
 
 -- an expression in parentheses
-abbrev pub spell_test : Place → Expression → List Mark → List Mark
+abbrev pub spell_test : Place → Expression → List TokenMark → List TokenMark
 spell_test p e rest = sign signs.LeftParen p ∷ spell e (part close_paren ∷ rest)
 
 abbrev mutual
-  pub spell_statement : Statement → List Mark → List Mark
+  pub spell_statement : Statement → List TokenMark → List TokenMark
   spell_statement (Block p ds ss) rest = sign signs.LeftBrace p ∷ spell_declarations ds (spell_statements ss (part close_brace ∷ rest))
   spell_statement (Nothing p) rest = sign signs.Semicolon p ∷ rest
   spell_statement (Evaluate e p) rest = spell e (sign signs.Semicolon p ∷ rest)
@@ -74,15 +74,15 @@ abbrev mutual
   spell_statement (Case p e s) rest = word keywords.Case p ∷ spell e (part colon ∷ spell_statement s rest)
   spell_statement (Default p s) rest = word keywords.Default p ∷ part colon ∷ spell_statement s rest
 
-  pub spell_statements : Statements → List Mark → List Mark
+  pub spell_statements : Statements → List TokenMark → List TokenMark
   spell_statements no_statements rest = rest
   spell_statements (statement_then s ss) rest = spell_statement s (spell_statements ss rest)
 
-abbrev pub spell_external : External → List Mark → List Mark
+abbrev pub spell_external : External → List TokenMark → List TokenMark
 spell_external (Declared d) rest = spell_declaration d rest
 spell_external (Defined ws d p ds ss) rest = spell_specifiers ws (spell_declarator d (spell_statement (Block p ds ss) rest))
 
-abbrev pub spell_file : List External → List Mark → List Mark
+abbrev pub spell_file : List External → List TokenMark → List TokenMark
 spell_file [] rest = rest
 spell_file (x ∷ xs) rest = spell_external x (spell_file xs rest)
 
@@ -106,12 +106,12 @@ IsValue names None = Unit {0}
 IsValue names (Some x) = IsInitialiser names x.1
 
 -- an item of a declaration with or without typedef; its name is in scope in its initialiser
-abbrev pub IsItem : Bool → Names → Item → Type 0
+abbrev pub IsItem : Bool → Names → BlockItem → Type 0
 IsItem is names i =
     IsDeclarator by_name names i.declarator
     × IsValue (with_declarator is i.declarator (after_declarator i.declarator names)) i.initialiser
 
-abbrev pub AreItems : Bool → Names → List Item → Type 0
+abbrev pub AreItems : Bool → Names → List BlockItem → Type 0
 AreItems is names [] = Unit {0}
 AreItems is names (i ∷ items) = IsItem is names i × AreItems is (after_item is i names) items
 
@@ -178,5 +178,5 @@ AreExternals names [] = Unit {0}
 AreExternals names (x ∷ xs) = IsExternal names x × AreExternals (after_external x names) xs
 
 -- A file's tree is of the grammar and spells the file's tokens.
-abbrev pub IsTreeOf : List Mark → List External → Type 0
+abbrev pub IsTreeOf : List TokenMark → List External → Type 0
 IsTreeOf tokens file = AreExternals [] file × (tokens ≡ spell_file file [])

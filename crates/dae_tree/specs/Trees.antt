@@ -84,13 +84,13 @@ mutual
     no_initialisers : Initialisers
     initialiser_then : Initialiser → Initialisers → Initialisers
 
-pub record Item : Type 0 where
+pub record BlockItem : Type 0 where
   pub declarator : Declarator
   pub initialiser : Option (Place × Initialiser)
 
 pub record Declaration : Type 0 where
   pub specifiers : Specifiers
-  pub items : List Item
+  pub items : List BlockItem
   pub end : Place
 
 mutual

@@ -8,7 +8,7 @@ use Rattle.dae_tree.specs.declared.words.Keyword.TheVariants as keywords
 use Rattle.dae_tree.specs.declared.seen.Arithmetic.{Arithmetic}
 use Rattle.dae_tree.specs.declared.seen.Arithmetic.TheVariants as arithmetic
 use Rattle.dae_tree.specs.declared.seen.Seen.{Seen}
-use Rattle.dae_tree.specs.Marks.{Mark, word, name}
+use Rattle.dae_tree.specs.Marks.{TokenMark, word, name}
 use Rattle.dae_tree.specs.Trees.{Specifiers, no_specifiers, specifier_then, Specifier, Word}
 use Rattle.dae_tree.specs.Names.{Names, is_type}
 
@@ -71,7 +71,7 @@ is_tagged_word keywords.Enum = true
 is_tagged_word _ = false
 
 -- whether a token begins specifiers
-abbrev pub begins_specifiers : Names → List Mark → Bool
+abbrev pub begins_specifiers : Names → List TokenMark → Bool
 begins_specifiers names (word k p ∷ ts) = admits nothing_seen k
 begins_specifiers names (name n ∷ ts) = is_type names n.number
 begins_specifiers names _ = false

@@ -47,7 +47,7 @@ pub enum Construct {
 
 /// What is wrong with a part of a text: a byte that may not stand there, or a construct that is refused.
 #[derive(Clone, Copy, PartialEq, Eq, Debug)]
-pub enum Fault {
+pub enum TextFault {
     BadByte,
     Named(Construct),
 }

@@ -19,11 +19,11 @@ pub struct File {
 }
 
 impl Model for File {
-    ghost use Rattle.dae_tree.specs.Files.{Contents, IsFile};
+    ghost use Rattle.dae_tree.specs.Files.{FileContents, IsFile};
     ghost use Rattle.dae_tree.specs.contracts.statements.External as e;
     ghost use Rattle.std.specs.Coded.{codes};
 
-    ghost Value = { Contents };
+    ghost Value = { FileContents };
 
     ghost coded = { Prim.hlevel (codes, e.the_row.coded) };
 

@@ -9,7 +9,7 @@ pub use constants::{Constant, SUFFIXES};
 pub use expressions::{
     Declarator, Enumerator, Expression, Member, Name, Parameter, Specifier, TrailingComma, TypeName,
 };
-pub use faults::{Construct, Fault, LexError};
+pub use faults::{Construct, LexError, TextFault};
 pub use files::File;
 pub use headers::{HEADERS, Header, STDIO_MACROS, STDLIB_MACROS};
 pub use levels::{
@@ -21,11 +21,13 @@ pub use operators::{
     AssignmentOperator, BinaryOperator, MemberOperator, OPERATIONS, Operation, PREFIXES,
     PostfixOperator, PrefixOperator,
 };
-pub use pieces::{Form, PieceKind, Spot};
+pub use pieces::{Lexeme, PieceKind, TextSpot};
 pub use seen::{Arithmetic, Seen};
 pub use signs::{SIGNS, Sign};
-pub use statements::{Block, Declaration, External, Heading, Initialiser, Item, Statement, Test};
-pub use tokens::{Includes, Kind, Room, Token, Tokens};
+pub use statements::{
+    Block, BlockItem, Declaration, External, Heading, Initialiser, Statement, StatementTest,
+};
+pub use tokens::{Includes, Room, Token, TokenKind, Tokens};
 pub use words::{KEYWORDS, Keyword, REFUSED_WORDS};
 
 mod constants;

@@ -13,7 +13,7 @@ pub enum Initialiser {
 
 /// A declarator of a declaration, with the place of `=` and the initialiser or without.
 #[derive(Drop)]
-pub struct Item {
+pub struct BlockItem {
     pub declarator: Box<Declarator>,
     pub initialiser: Option<(Place, Initialiser)>,
 }
@@ -22,7 +22,7 @@ pub struct Item {
 #[derive(Drop)]
 pub struct Declaration {
     pub specifiers: Vec<Specifier>,
-    pub items: Vec<Item>,
+    pub items: Vec<BlockItem>,
     pub end: Place,
 }
 
@@ -37,7 +37,7 @@ pub struct Block {
 
 /// The test of a statement: an expression in parentheses, with the place of `(`.
 #[derive(Drop)]
-pub struct Test {
+pub struct StatementTest {
     pub place: Place,
     pub expression: Box<Expression>,
 }
@@ -50,17 +50,17 @@ pub enum Statement {
     /// A semicolon alone.
     Empty(Place),
     Evaluate(Box<Expression>, Place),
-    If(Place, Test, Box<Statement>),
-    IfElse(Place, Test, Box<Statement>, Box<Statement>),
-    While(Place, Test, Box<Statement>),
+    If(Place, StatementTest, Box<Statement>),
+    IfElse(Place, StatementTest, Box<Statement>, Box<Statement>),
+    While(Place, StatementTest, Box<Statement>),
     /// The second place is that of `while`.
-    Do(Place, Box<Statement>, Place, Test, Place),
+    Do(Place, Box<Statement>, Place, StatementTest, Place),
     /// The other places are those of `(` and of the two semicolons.
     For(Place, Place, Heading, Box<Statement>),
     Break(Place, Place),
     Continue(Place, Place),
     Return(Place, Option<Box<Expression>>, Place),
-    Switch(Place, Test, Box<Statement>),
+    Switch(Place, StatementTest, Box<Statement>),
     Case(Place, Box<Expression>, Box<Statement>),
     Default(Place, Box<Statement>),
 }

@@ -10,7 +10,7 @@ use std::marker::Model;
 
 /// What a token is. A name and a literal are numbers into the lists of the text's names and literals.
 #[derive(Clone, Copy, PartialEq, Eq)]
-pub enum Kind {
+pub enum TokenKind {
     Keyword(Keyword),
     Sign(Sign),
     Name(u32),
@@ -22,7 +22,7 @@ pub enum Kind {
 /// those of the name in the text that was replaced.
 #[derive(Clone, Copy, PartialEq, Eq)]
 pub struct Token {
-    pub kind: Kind,
+    pub kind: TokenKind,
     pub start: u32,
     pub end: u32,
     pub place: Place,

@@ -3,15 +3,15 @@
 use Rattle.std.specs.Prelude.{◌≡◌, Some}
 use Rattle.std.specs.List.{AllByRecursion}
 use Rattle.dae_tree.specs.declared.expressions.Name.{Name}
-use Rattle.dae_tree.specs.Files.{Contents, IsFile}
+use Rattle.dae_tree.specs.Files.{FileContents, IsFile}
 use Rattle.dae_tree.specs.FileViews.{view_externals}
 use Rattle.dae_tree.specs.Names.{declared_name}
-use Rattle.dae_tree.specs.Trees.{Declarator, Item, External, Declared, Defined}
+use Rattle.dae_tree.specs.Trees.{Declarator, BlockItem, External, Declared, Defined}
 
 abbrev pub IsNamed : Declarator → Type 0
 IsNamed d = (n : Name) × (declared_name d ≡ Some n)
 
-abbrev pub IsNamedItem : Item → Type 0
+abbrev pub IsNamedItem : BlockItem → Type 0
 IsNamedItem i = IsNamed i.declarator
 
 abbrev pub HasNames : External → Type 0
@@ -19,4 +19,4 @@ HasNames (Declared d) = AllByRecursion IsNamedItem d.items
 HasNames (Defined ws d p ds ss) = IsNamed d
 
 abbrev pub FilesHaveNames : Type 0
-FilesHaveNames = (c : Contents) → IsFile c → AllByRecursion HasNames (view_externals c.externals)
+FilesHaveNames = (c : FileContents) → IsFile c → AllByRecursion HasNames (view_externals c.externals)

@@ -3,7 +3,7 @@
 use Rattle.std.specs.Prelude.{ℕ, suc, List, [], ◌∷◌, Option, Some, None, if◌then◌else◌, codes}
 use Rattle.std.specs.Str.{bytes_eq}
 use Rattle.dae_types_kinds.specs.Types.{word_for}
-use Rattle.dae_types_file_plans.specs.Files.{Numbers}
+use Rattle.dae_types_file_plans.specs.Files.{LibraryNames}
 
 abbrev pub number_behind : ℕ → List (List ℕ) → List ℕ → Option ℕ
 number_behind n [] name = None
@@ -12,7 +12,7 @@ number_behind n (x ∷ xs) name = if bytes_eq x name then Some n else number_beh
 abbrev pub number_among : List (List ℕ) → List ℕ → Option ℕ
 number_among names name = number_behind 0 names name
 
-abbrev pub numbers_in : List (List ℕ) → Numbers
+abbrev pub numbers_in : List (List ℕ) → LibraryNames
 numbers_in names =
     record {
       printf = number_among names (codes "printf");

@@ -6,7 +6,7 @@ ghost use Rattle.dae_types.specs.Names.{numbers_in, number_among};
 
 use dae_base::Items;
 use dae_types_kinds::word_behind;
-use dae_types_linkage::Numbers;
+use dae_types_linkage::LibraryNames;
 use std::alloc::{AllocError, Global};
 
 /// The number of a name among names, if it is there.
@@ -24,10 +24,10 @@ fn number_among(names: &[Items<u8>], name: &[u8]) -> Option<u32>
 }
 
 /// The numbers of the names that a file may have from its headers, and of main.
-pub fn numbers_in(names: &[Items<u8>]) -> Numbers
+pub fn numbers_in(names: &[Items<u8>]) -> LibraryNames
     ensures { view_numbers result ≡ numbers_in names.now }
 {
-    Numbers {
+    LibraryNames {
         printf: number_among(names, b"printf"),
         putchar: number_among(names, b"putchar"),
         exit: number_among(names, b"exit"),

@@ -12,14 +12,18 @@ use crate::sequences::alone;
 use dae_base::Place;
 use dae_program::{Expression, Statement};
 use dae_types_file_plans::Surrounding;
-use dae_types_folding::{Value, boxed};
+use dae_types_folding::{TypedValue, boxed};
 use dae_types_kinds::{CheckError, Rule};
 use dae_types_tables::{Checker, broken, is_structure, is_void};
 use dae_types_values::{convert, fits, scalar, value};
 use std::alloc::Global;
 
 /// The tree of a condition: a value that is a scalar.
-pub fn test(checker: &mut Checker, place: Place, x: Value) -> Result<Box<Expression>, CheckError>
+pub fn test(
+    checker: &mut Checker,
+    place: Place,
+    x: TypedValue,
+) -> Result<Box<Expression>, CheckError>
     ensures { FollowsBy view_boxed checker.new result (test_at place (one x)) checker.old }
 {
     let x = value(checker, place, x)?;
@@ -49,7 +53,7 @@ fn as_result(
     checker: &Checker,
     place: Place,
     wanted: Option<usize>,
-    x: Value,
+    x: TypedValue,
 ) -> Result<Box<Expression>, CheckError>
     ensures { MakesTree result (as_result place (tables checker.now) wanted (view_value x)) }
 {
@@ -65,7 +69,7 @@ pub fn return_value(
     checker: &Checker,
     place: Place,
     around: Surrounding,
-    x: Value,
+    x: TypedValue,
 ) -> Result<Vec<Statement>, CheckError>
     ensures { GivesStatements checker.now result (return_at place around (one x)) checker.now }
 {

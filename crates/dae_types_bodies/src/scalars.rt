@@ -17,7 +17,7 @@ use crate::sequences::{alone, append};
 use dae_base::Place;
 use dae_program::{Expression, Statement, Target};
 use dae_types_fills::Content;
-use dae_types_folding::{Value, boxed, load_kind};
+use dae_types_folding::{TypedValue, boxed, load_kind};
 use dae_types_kinds::{CheckError, INT_ID, Local, Rule, Storage};
 use dae_types_tables::{Checker, broken, is_scalar, is_structure};
 use dae_types_values::{convert, fits};
@@ -128,7 +128,7 @@ pub fn initialise_scalar(
     place: Place,
     of_value: Place,
     number: usize,
-    x: Value,
+    x: TypedValue,
 ) -> Result<Vec<Statement>, CheckError>
     ensures { GivesStatements checker.now result
         (scalar_value_at place of_value number (one x)) checker.now }

@@ -21,21 +21,21 @@ use Rattle.dae_types_kinds.specs.declared.tables.NamedType.{NamedType}
 use Rattle.dae_types_kinds.specs.Tables.{Tables}
 use Rattle.dae_types_rules.specs.Sites.{Site, place}
 use Rattle.dae_types_rules.specs.Table.{asked, breaks}
-use Rattle.dae_types_rules.specs.Plan.{Plan, pure, Gives, Fails, ask_all, ask_in, check_of, ◌>>=◌}
+use Rattle.dae_types_rules.specs.Plan.{CheckPlan, pure, Gives, Fails, ask_all, ask_in, check_of, ◌>>=◌}
 use Rattle.dae_types_plans.specs.Steps.{settles_name}
 use Rattle.dae_types_file_plans.specs.Files.{Product, definition_at, end_sites, plan_defined, plan_external, plan_externals, plan_file, some_of}
 use Rattle.dae_types_externals.specs.Parts.{plan_definition, plan_end}
 
 -- ---- a name that is noted
 
-settled : {A : Type 0} (n : Option Name) (m : Plan A) (s : Tables) → check_of (settles_name n m) s ≡ check_of m s
+settled : {A : Type 0} (n : Option Name) (m : CheckPlan A) (s : Tables) → check_of (settles_name n m) s ≡ check_of m s
 settled None m s = refl
 settled (Some n) m s = refl
 
-pub settled_gives : {A X : Type 0} (see : X → Tables × A) (r : Result X CheckError) (n : Option Name) (m : Plan A) (s : Tables) → Gives see r (check_of m s) → Gives see r (check_of (settles_name n m) s)
+pub settled_gives : {A X : Type 0} (see : X → Tables × A) (r : Result X CheckError) (n : Option Name) (m : CheckPlan A) (s : Tables) → Gives see r (check_of m s) → Gives see r (check_of (settles_name n m) s)
 settled_gives see r n m s h = subst (λ y. Gives see r y) (sym (settled n m s)) h
 
-pub settled_fails : {A : Type 0} (e : CheckError) (n : Option Name) (m : Plan A) (s : Tables) → Fails e (check_of m s) → Fails e (check_of (settles_name n m) s)
+pub settled_fails : {A : Type 0} (e : CheckError) (n : Option Name) (m : CheckPlan A) (s : Tables) → Fails e (check_of m s) → Fails e (check_of (settles_name n m) s)
 settled_fails e n m s h = subst (λ y. Fails e y) (sym (settled n m s)) h
 
 -- ---- the name of a type
@@ -49,12 +49,12 @@ some_given new (Err errors.Memory) y h = h
 some_given new (Err errors.Unsound) y h = h
 some_given new (Err (errors.Rule f)) y h = rw h refl
 
-pub definition_gives : (new : Tables) (r : Result ℕ CheckError) (n : Option Name) (p : Place) (b d : Bool) (m : Plan NamedType) (s : Tables) (x : Tables × NamedType) → check_of m s ≡ Ok x → Gives {Y = Tables × ℕ} (λ t. (new, t)) r (check_of (definition_at p b d (pure x.1)) x.0) → Gives {Y = Tables × Option ℕ} (λ t. (new, Some t)) r (check_of (settles_name n (some_of (definition_at p b d m))) s)
+pub definition_gives : (new : Tables) (r : Result ℕ CheckError) (n : Option Name) (p : Place) (b d : Bool) (m : CheckPlan NamedType) (s : Tables) (x : Tables × NamedType) → check_of m s ≡ Ok x → Gives {Y = Tables × ℕ} (λ t. (new, t)) r (check_of (definition_at p b d (pure x.1)) x.0) → Gives {Y = Tables × Option ℕ} (λ t. (new, Some t)) r (check_of (settles_name n (some_of (definition_at p b d m))) s)
 definition_gives new r n p b d m s x h k =
     let one : Gives {Y = Tables × ℕ} (λ t. (new, t)) r (check_of (definition_at p b d m) s) = rw h k in
     settled_gives (λ t. (new, Some t)) r n (some_of (definition_at p b d m)) s (some_given new r (check_of (definition_at p b d m) s) one)
 
-pub definition_fails : (e : CheckError) (n : Option Name) (p : Place) (b d : Bool) (m : Plan NamedType) (s : Tables) → Fails e (check_of m s) → Fails e (check_of (settles_name n (some_of (definition_at p b d m))) s)
+pub definition_fails : (e : CheckError) (n : Option Name) (p : Place) (b d : Bool) (m : CheckPlan NamedType) (s : Tables) → Fails e (check_of m s) → Fails e (check_of (settles_name n (some_of (definition_at p b d m))) s)
 definition_fails errors.Memory n p b d m s h = h
 definition_fails errors.Unsound n p b d m s h = h
 definition_fails (errors.Rule f) None p b d m s h = rw h refl

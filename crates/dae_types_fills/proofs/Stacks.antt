@@ -4,11 +4,11 @@ use Rattle.std.proofs.lemmas.Bool.Decides.{nat_tests}
 use Rattle.std.proofs.lemmas.Option.{same_Some}
 use Rattle.dae_tree.specs.FileViews.{view_initialiser, views_initialisers}
 use Rattle.dae_tree.specs.declared.statements.Initialiser.{Initialiser}
-use Rattle.dae_types_file_plans.specs.Initialisers.{Rest, Once, Elements, Members, begun_in, is_literal, is_one, is_one_literal}
-use Rattle.dae_types_fills.specs.declared.slots.Rest.{Rest as RestInMemory}
+use Rattle.dae_types_file_plans.specs.Initialisers.{Unfilled, Once, Elements, Members, begun_in, is_literal, is_one, is_one_literal}
+use Rattle.dae_types_fills.specs.declared.slots.Unfilled.{Unfilled as RestInMemory}
 use Rattle.dae_types_fills.specs.Slots.{view_rest, stacked, view_stack}
 
-stacked_push : (xs : List RestInMemory) (x : RestInMemory) (rest : List Rest) → stacked (xs ++ x ∷ []) rest ≡ view_rest x ∷ stacked xs rest
+stacked_push : (xs : List RestInMemory) (x : RestInMemory) (rest : List Unfilled) → stacked (xs ++ x ∷ []) rest ≡ view_rest x ∷ stacked xs rest
 stacked_push [] x rest = refl
 stacked_push (y ∷ xs) x rest = stacked_push xs x (view_rest y ∷ rest)
 
@@ -16,12 +16,12 @@ pub stack_push : (xs : List RestInMemory) (x : RestInMemory) → view_stack (xs 
 stack_push xs x = stacked_push xs x []
 
 -- parts above a stack that isn't empty don't count
-begun_below : (x r : Rest) (rest : List Rest) (n : ℕ) → begun_in (x ∷ r ∷ rest) n ≡ begun_in (r ∷ rest) n
+begun_below : (x r : Unfilled) (rest : List Unfilled) (n : ℕ) → begun_in (x ∷ r ∷ rest) n ≡ begun_in (r ∷ rest) n
 begun_below (Once o t) r rest n = refl
 begun_below (Elements o t k count) r rest n = refl
 begun_below (Members o k b) r rest n = refl
 
-begun_stacked : (xs : List RestInMemory) (r : Rest) (rest : List Rest) (n : ℕ) → begun_in (stacked xs (r ∷ rest)) n ≡ begun_in (r ∷ rest) n
+begun_stacked : (xs : List RestInMemory) (r : Unfilled) (rest : List Unfilled) (n : ℕ) → begun_in (stacked xs (r ∷ rest)) n ≡ begun_in (r ∷ rest) n
 begun_stacked [] r rest n = refl
 begun_stacked (x ∷ xs) r rest n = begun_stacked xs (view_rest x) (r ∷ rest) n ∙ begun_below (view_rest x) r rest n
 

@@ -11,9 +11,9 @@ use Rattle.dae_types_kinds.specs.Values.{Typed, load_kind, known_as, constant_tr
 use Rattle.dae_types_kinds.specs.declared.types.Shape.{Shape}
 use Rattle.dae_base.specs.declared.Place.{Place}
 use Rattle.dae_types_rules.specs.Sites.{AtAggregate, AtItem, AtString}
-use Rattle.dae_types_rules.specs.Plan.{Plan}
+use Rattle.dae_types_rules.specs.Plan.{CheckPlan}
 use Rattle.dae_types_plans.specs.Steps.{at, nothing}
-use Rattle.dae_types_file_plans.specs.Initialisers.{Rest, Slot, slot, Filling, Landing, Opening, Content, literal_bytes, byte_settings, constant_settings}
+use Rattle.dae_types_file_plans.specs.Initialisers.{Unfilled, FillSlot, slot, Filling, Landing, Opening, Content, literal_bytes, byte_settings, constant_settings}
 use Rattle.dae_types_fills.specs.declared.filling.Filling.{Filling as FillingInMemory}
 use Rattle.dae_types_fills.specs.declared.filling.Destination.{Destination}
 use Rattle.dae_types_fills.specs.declared.filling.Landing.{Landing as LandingInMemory}
@@ -33,7 +33,7 @@ abbrev pub view_filling : FillingInMemory → Filling
 view_filling f = record { rest = view_stack f.rest.items; items = view_settings f.items.items; count = f.count; over = f.over }
 
 -- where an item lands, with what is left behind
-abbrev pub view_destination : List Rest → Option Destination → Option Slot
+abbrev pub view_destination : List Unfilled → Option Destination → Option FillSlot
 view_destination rest None = None
 view_destination rest (Some z) = Some (slot z.offset z.type_id rest)
 
@@ -53,7 +53,7 @@ with_settings f xs count = record { rest = f.rest; items = f.items ++ xs; count 
 -- ---- an item by what it is for
 
 -- the bytes of a literal for an array of characters, from an offset on
-abbrev pub text_item : Place → Option ℕ → (offset element : ℕ) → Option ℕ → Filling → Plan Filling
+abbrev pub text_item : Place → Option ℕ → (offset element : ℕ) → Option ℕ → Filling → CheckPlan Filling
 text_item p n o u count f =
     at
     (λ s x. AtString p (length (literal_bytes s n)) count)
@@ -61,11 +61,11 @@ text_item p n o u count f =
     nothing
 
 -- a value for a structure is never taken
-abbrev pub structure_item : Place → Typed → ℕ → Filling → Plan Filling
+abbrev pub structure_item : Place → Typed → ℕ → Filling → CheckPlan Filling
 structure_item p x t f = at (λ s y. AtAggregate p s x t) (λ s y. (s, f)) nothing
 
 -- a constant for a scalar
-abbrev pub scalar_item : Place → Typed → (offset type_id : ℕ) → Filling → Plan Filling
+abbrev pub scalar_item : Place → Typed → (offset type_id : ℕ) → Filling → CheckPlan Filling
 scalar_item p x o t f =
     at
     (λ s y. AtItem p s x t)

@@ -6,10 +6,10 @@ ghost use Rattle.dae_types_tables.specs.Seen.{tables, FollowsBy};
 ghost use Rattle.dae_types_folding.specs.Views.{view_value};
 ghost use Rattle.dae_types_fills.specs.Fillings.{view_filling, view_landing};
 
-use crate::slots::{ItemKind, Rest, descend, next_slot};
+use crate::slots::{ItemKind, Unfilled, descend, next_slot};
 use dae_base::Place;
 use dae_program::Setting;
-use dae_types_folding::Value;
+use dae_types_folding::TypedValue;
 use dae_types_kinds::{CheckError, Rule};
 use dae_types_tables::{Checker, broken, is_structure};
 
@@ -17,7 +17,7 @@ use dae_types_tables::{Checker, broken, is_structure};
 /// from them; and whether no more is said of what is too many.
 #[derive(Drop)]
 pub struct Filling {
-    pub rest: Vec<Rest>,
+    pub rest: Vec<Unfilled>,
     pub items: Vec<Setting>,
     pub count: u32,
     pub over: bool,
@@ -54,7 +54,7 @@ pub fn land(
     place: Place,
     literal: Option<u32>,
     filling: Filling,
-    x: &Value,
+    x: &TypedValue,
 ) -> Result<Landing, CheckError>
     ensures { FollowsBy view_landing checker.now result
         (landing_at place literal (view_filling filling) (view_value x.now)) checker.now }

@@ -14,7 +14,7 @@ use crate::filling::{Destination, Filling, Landing};
 use crate::slots::behind_bytes;
 use dae_base::{LoadKind, Place, extend};
 use dae_program::{Expression, Setting};
-use dae_types_folding::{Value, known_as, load_kind};
+use dae_types_folding::{TypedValue, known_as, load_kind};
 use dae_types_kinds::{CheckError, Known, Rule, Shape, word_behind, word_for};
 use dae_types_tables::{Checker, broken, is_structure};
 use dae_types_values::fits;
@@ -155,7 +155,7 @@ fn fill_text(
 fn fill_structure(
     checker: &Checker,
     place: Place,
-    x: &Value,
+    x: &TypedValue,
     type_id: usize,
     filling: Filling,
 ) -> Result<Filling, CheckError>
@@ -175,7 +175,7 @@ fn fill_structure(
 fn fill_scalar(
     checker: &Checker,
     place: Place,
-    x: &Value,
+    x: &TypedValue,
     destination: Destination,
     filling: Filling,
 ) -> Result<Filling, CheckError>
@@ -216,7 +216,7 @@ pub fn fill_item(
     checker: &Checker,
     place: Place,
     literal: Option<u32>,
-    x: &Value,
+    x: &TypedValue,
     landing: Landing,
 ) -> Result<Filling, CheckError>
     ensures { FollowsBy view_filling checker.now result

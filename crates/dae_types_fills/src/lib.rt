@@ -10,7 +10,7 @@ pub use lists::{
     open_list, refuse_value,
 };
 pub use printing::{add_printed, literal_in, read_format};
-pub use slots::{ItemKind, Rest, Slot, descend, is_text_array, next_slot, parts_of};
+pub use slots::{FillSlot, ItemKind, Unfilled, descend, is_text_array, next_slot, parts_of};
 
 mod filling;
 mod formats;

@@ -13,11 +13,11 @@ ghost use Rattle.dae_types_fills.specs.Fillings.{view_content, view_filling, vie
 
 use crate::filling::{Filling, has_literal};
 use crate::printing::literal_in;
-use crate::slots::{Rest, is_text_array, next_slot, parts_of};
+use crate::slots::{Unfilled, is_text_array, next_slot, parts_of};
 use dae_base::Place;
 use dae_program::Setting;
 use dae_tree::Initialiser;
-use dae_types_folding::Value;
+use dae_types_folding::TypedValue;
 use dae_types_kinds::{CheckError, Rule, Shape};
 use dae_types_tables::{Checker, MOST_BYTES, broken, is_scalar, is_structure};
 use std::alloc::Global;
@@ -26,14 +26,14 @@ use std::alloc::Global;
 #[derive(Drop)]
 pub struct Opening {
     pub inside: Filling,
-    pub behind: Vec<Rest>,
+    pub behind: Vec<Unfilled>,
 }
 
 /// What a list stands in: what is left behind the list, the next part at the end, and whether no more is said there of
 /// what is too many.
 #[derive(Drop)]
 pub struct Enclosing {
-    pub rest: Vec<Rest>,
+    pub rest: Vec<Unfilled>,
     pub over: bool,
 }
 
@@ -74,7 +74,7 @@ fn is_one_literal(list: &[Initialiser]) -> bool
 }
 
 /// A part alone, as what is to be filled.
-fn stack_of(alloc: Global, part: Rest) -> Result<Vec<Rest>, CheckError>
+fn stack_of(alloc: Global, part: Unfilled) -> Result<Vec<Unfilled>, CheckError>
     ensures { Gives (λ v. view_stack v.items) result (Ok (view_rest part ∷ [])) }
 {
     let mut stack = Vec::new(alloc);
@@ -115,7 +115,7 @@ pub fn open_list(
     let text = is_text_array(checker, shape) && is_one_literal(list);
     let whole = scalar || text;
     let part = if whole {
-        Rest::Once(slot.offset, slot.type_id)
+        Unfilled::Once(slot.offset, slot.type_id)
     } else {
         parts_of(slot.offset, slot.type_id, shape)
     };
@@ -132,18 +132,18 @@ pub fn open_list(
 }
 
 /// How many elements were begun in a part, else so many.
-fn begun_of(part: Rest, count: u32) -> u32
+fn begun_of(part: Unfilled, count: u32) -> u32
     ensures { result ≡ begun_in (view_rest part ∷ []) count }
 {
     match part {
-        Rest::Elements(_, _, begun, _) => begun,
+        Unfilled::Elements(_, _, begun, _) => begun,
         _ => count,
     }
 }
 
 /// How many elements were begun in what a list filled, else so many.
 #[tactic(auto, using(crate::proofs::Stacks::begun_at_the_bottom))]
-fn begun_in(rest: &[Rest], count: u32) -> u32
+fn begun_in(rest: &[Unfilled], count: u32) -> u32
     ensures { result ≡ begun_in (view_stack rest.now) count }
 {
     match rest.first() {
@@ -234,7 +234,7 @@ pub fn refuse_value(
     checker: &Checker,
     place: Place,
     type_id: usize,
-    x: &Value,
+    x: &TypedValue,
 ) -> Result<Filling, CheckError>
     ensures { FollowsBy view_filling checker.now result
         (aggregate_at place type_id (pure (view_value x.now))) checker.now }

@@ -1,7 +1,7 @@
 // The format and the arguments of printf, as a statement (C90 7.9.6.1).
 
 ghost use Rattle.std.specs.Prelude.{◌≡◌, List, Ok, length};
-ghost use Rattle.dae_program.specs.declared.statements.Piece.{Piece as PlainPiece};
+ghost use Rattle.dae_program.specs.declared.statements.FormatPiece.{FormatPiece as PlainPiece};
 ghost use Rattle.dae_types_rules.specs.Plan.{Gives, pure};
 ghost use Rattle.dae_types_rules.specs.Table.{is_text};
 ghost use Rattle.dae_tree.specs.Views.{view};
@@ -14,9 +14,9 @@ ghost use Rattle.dae_types_fills.specs.Filled.{seen};
 
 use crate::formats::{format_pieces, kinds_of_arguments};
 use dae_base::Place;
-use dae_program::{Expression, Piece};
+use dae_program::{Expression, FormatPiece};
 use dae_tree::Expression as Tree;
-use dae_types_folding::{Value, pointee};
+use dae_types_folding::{TypedValue, pointee};
 use dae_types_kinds::{CheckError, Rule};
 use dae_types_tables::{Checker, broken, is_character, is_integer};
 
@@ -46,7 +46,10 @@ pub fn literal_in(e: &Tree) -> Option<u32>
 }
 
 /// The pieces of a format that is a literal of this number; none where it is no literal or has none.
-fn format_of(checker: &Checker, literal: Option<u32>) -> Result<Option<Vec<Piece>>, CheckError>
+fn format_of(
+    checker: &Checker,
+    literal: Option<u32>,
+) -> Result<Option<Vec<FormatPiece>>, CheckError>
     ensures { Gives (seen (λ v. v.items)) result (Ok (format_of (tables checker.now) literal)) }
 {
     match literal {
@@ -62,7 +65,7 @@ pub fn read_format(
     place: Place,
     literal: Option<u32>,
     given: usize,
-) -> Result<Vec<Piece>, CheckError>
+) -> Result<Vec<FormatPiece>, CheckError>
     ensures { FollowsBy (λ v. v.items) checker.now result
         (format_at place literal given) checker.now }
 {
@@ -93,7 +96,7 @@ pub fn add_printed(
     place: Place,
     text: Option<bool>,
     mut done: Vec<Expression>,
-    x: Value,
+    x: TypedValue,
 ) -> Result<Vec<Expression>, CheckError>
     ensures { FollowsBy views checker.now result
         (printed_at place text (views done) (one x)) checker.now }

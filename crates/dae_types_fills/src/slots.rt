@@ -2,7 +2,7 @@
 
 ghost use Rattle.std.specs.Prelude.{◌≡◌, ◌*◌, ◌&&◌, ◌||◌, List, ◌∷◌, Option, Ok, slice_get};
 ghost use Rattle.dae_types_kinds.specs.Types.{is_scalar, is_structure};
-ghost use Rattle.dae_types_file_plans.specs.Initialisers.{Rest as PlainRest, Slot as PlainSlot, behind_bytes, components_of, descend, element_slot, is_before, is_text_array, next_slot, or_slot, parts_of, slot};
+ghost use Rattle.dae_types_file_plans.specs.Initialisers.{Unfilled as PlainRest, FillSlot as PlainSlot, behind_bytes, components_of, descend, element_slot, is_before, is_text_array, next_slot, or_slot, parts_of, slot};
 ghost use Rattle.dae_types_rules.specs.Plan.{Gives};
 ghost use Rattle.dae_types_tables.specs.Seen.{tables};
 ghost use Rattle.dae_types_fills.specs.Slots.{left_behind, slot_or, structure_slot, view_rest, view_slot, view_stack};
@@ -15,7 +15,7 @@ use std::alloc::Global;
 /// One object of a type at an offset; the elements of an array from one on, up to its count if it has one; or the members of
 /// a structure from one on. Offsets are in bytes.
 #[derive(Clone, Copy)]
-pub enum Rest {
+pub enum Unfilled {
     Once(u32, usize),
     Elements(u32, usize, u32, Option<u32>),
     Members(u32, usize, u32),
@@ -23,10 +23,10 @@ pub enum Rest {
 
 /// An object to be filled, and what is left behind it, the next part at the end.
 #[derive(Drop)]
-pub struct Slot {
+pub struct FillSlot {
     pub offset: u32,
     pub type_id: usize,
-    pub rest: Vec<Rest>,
+    pub rest: Vec<Unfilled>,
 }
 
 /// What an item is: a literal, or a structure.
@@ -41,12 +41,12 @@ pub struct ItemKind {
 struct Start {
     offset: u32,
     type_id: usize,
-    left: Option<Rest>,
+    left: Option<Unfilled>,
 }
 
 /// The next object that is to be filled, if there is one.
 #[tactic(auto, using(crate::proofs::Stacks::stack_push))]
-pub fn next_slot(checker: &Checker, mut rest: Vec<Rest>) -> Result<Option<Slot>, CheckError>
+pub fn next_slot(checker: &Checker, mut rest: Vec<Unfilled>) -> Result<Option<FillSlot>, CheckError>
     ensures { Gives (seen view_slot) result
         (Ok (next_slot (tables checker.now) (view_stack rest.items))) }
 {
@@ -61,14 +61,14 @@ pub fn next_slot(checker: &Checker, mut rest: Vec<Rest>) -> Result<Option<Slot>,
 
 /// The first object of a part, with what is left of that part on top of the rest.
 #[tactic(auto, using(crate::proofs::Stacks::stack_push))]
-fn before_rest(start: Start, mut rest: Vec<Rest>) -> Result<Slot, CheckError>
+fn before_rest(start: Start, mut rest: Vec<Unfilled>) -> Result<FillSlot, CheckError>
     ensures { Gives view_slot result
         (Ok (slot start.offset start.type_id (left_behind start.left (view_stack rest.items)))) }
 {
     if let Some(left) = start.left {
         rest.push(left)?;
     }
-    Ok(Slot {
+    Ok(FillSlot {
         offset: start.offset,
         type_id: start.type_id,
         rest,
@@ -76,21 +76,21 @@ fn before_rest(start: Start, mut rest: Vec<Rest>) -> Result<Slot, CheckError>
 }
 
 /// The first object of a part, unless nothing of it is left.
-fn start_of(checker: &Checker, part: Rest) -> Option<Start>
+fn start_of(checker: &Checker, part: Unfilled) -> Option<Start>
     ensures { (rest : List PlainRest)
         → slot_or result rest (next_slot (tables checker.now) rest)
         ≡ next_slot (tables checker.now) (view_rest part ∷ rest) }
 {
     match part {
-        Rest::Once(offset, type_id) => Some(Start {
+        Unfilled::Once(offset, type_id) => Some(Start {
             offset,
             type_id,
             left: None,
         }),
-        Rest::Elements(offset, element, begun, count) => {
+        Unfilled::Elements(offset, element, begun, count) => {
             first_element(checker, offset, element, begun, count)
         }
-        Rest::Members(offset, structure, begun) => {
+        Unfilled::Members(offset, structure, begun) => {
             first_member(checker, offset, structure, begun)
         }
     }
@@ -129,7 +129,7 @@ fn first_element(
     Some(Start {
         offset: element_offset(offset, begun, size),
         type_id: element,
-        left: Some(Rest::Elements(offset, element, word_behind(begun), count)),
+        left: Some(Unfilled::Elements(offset, element, word_behind(begun), count)),
     })
 }
 
@@ -153,7 +153,7 @@ fn first_member(checker: &Checker, offset: u32, structure: usize, begun: u32) ->
     Some(Start {
         offset: behind_bytes(offset, member.offset),
         type_id: member.type_id,
-        left: Some(Rest::Members(offset, structure, word_behind(begun))),
+        left: Some(Unfilled::Members(offset, structure, word_behind(begun))),
     })
 }
 
@@ -174,13 +174,13 @@ fn component(checker: &Checker, structure: usize, number: usize) -> Option<Compo
 }
 
 /// The parts of an aggregate at an offset.
-pub fn parts_of(offset: u32, type_id: usize, shape: Shape) -> Rest
+pub fn parts_of(offset: u32, type_id: usize, shape: Shape) -> Unfilled
     ensures { view_rest result ≡ parts_of offset type_id shape }
 {
     match shape {
-        Shape::Array(element, count) => Rest::Elements(offset, element, 0, count),
-        Shape::Struct(structure) => Rest::Members(offset, structure, 0),
-        _ => Rest::Once(offset, type_id),
+        Shape::Array(element, count) => Unfilled::Elements(offset, element, 0, count),
+        Shape::Struct(structure) => Unfilled::Members(offset, structure, 0),
+        _ => Unfilled::Once(offset, type_id),
     }
 }
 
@@ -211,8 +211,8 @@ pub fn descend(
     checker: &Checker,
     item: ItemKind,
     depth: usize,
-    mut slot: Slot,
-) -> Result<Slot, CheckError>
+    mut slot: FillSlot,
+) -> Result<FillSlot, CheckError>
     ensures { Gives view_slot result
         (Ok (descend depth (tables checker.now) item.literal item.structure (view_slot slot))) }
 {
@@ -229,7 +229,7 @@ pub fn descend(
 }
 
 /// The first object of an aggregate of this shape, or what is next behind it, or itself where nothing is.
-fn first_part(checker: &Checker, slot: Slot, shape: Shape) -> Result<Slot, CheckError>
+fn first_part(checker: &Checker, slot: FillSlot, shape: Shape) -> Result<FillSlot, CheckError>
     ensures { Gives view_slot result
         (Ok (or_slot (view_slot slot) (next_slot (tables checker.now)
         (parts_of slot.offset slot.type_id shape ∷ view_stack slot.rest.items)))) }
@@ -242,7 +242,7 @@ fn first_part(checker: &Checker, slot: Slot, shape: Shape) -> Result<Slot, Check
 }
 
 /// What is next behind an object of which nothing is to be filled, or that object where nothing is.
-fn behind(checker: &Checker, slot: Slot) -> Result<Slot, CheckError>
+fn behind(checker: &Checker, slot: FillSlot) -> Result<FillSlot, CheckError>
     ensures { Gives view_slot result
         (Ok (or_slot (view_slot slot)
         (next_slot (tables checker.now) (view_stack slot.rest.items)))) }
@@ -255,7 +255,7 @@ fn behind(checker: &Checker, slot: Slot) -> Result<Slot, CheckError>
 }
 
 /// A copy of a stack.
-fn copy_stack(alloc: Global, rest: &[Rest]) -> Result<Vec<Rest>, CheckError>
+fn copy_stack(alloc: Global, rest: &[Unfilled]) -> Result<Vec<Unfilled>, CheckError>
     ensures { Gives (λ v. v.items) result (Ok rest.now) }
 {
     let mut stack = Vec::new(alloc);

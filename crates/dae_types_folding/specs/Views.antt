@@ -8,14 +8,14 @@ use Rattle.dae_program.specs.declared.expressions.Expression.{Expression}
 use Rattle.dae_types_kinds.specs.declared.rules.CheckError.{CheckError}
 use Rattle.dae_types_rules.specs.Plan.{Gives}
 use Rattle.dae_program.specs.Views.{view}
-use Rattle.dae_types_kinds.specs.Values.{Typed, typed, Deed, Operates, Compares, Combination, Words, PointerFirst, PointerSecond, Distance, Pointers}
-use Rattle.dae_types_folding.specs.declared.value.Value.{Value}
-use Rattle.dae_types_folding.specs.declared.operators.Deed.{Deed as DeedInMemory}
-use Rattle.dae_types_folding.specs.declared.operators.Deed.TheVariants as deeds
+use Rattle.dae_types_kinds.specs.Values.{Typed, typed, WordOperation, Operates, Compares, Combination, Words, PointerFirst, PointerSecond, Distance, Pointers}
+use Rattle.dae_types_folding.specs.declared.value.TypedValue.{TypedValue}
+use Rattle.dae_types_folding.specs.declared.operators.WordOperation.{WordOperation as DeedInMemory}
+use Rattle.dae_types_folding.specs.declared.operators.WordOperation.TheVariants as deeds
 use Rattle.dae_types_folding.specs.declared.operators.Combination.{Combination as CombinationInMemory}
 use Rattle.dae_types_folding.specs.declared.operators.Combination.TheVariants as combinations
 
-abbrev pub view_value : Value → Typed
+abbrev pub view_value : TypedValue → Typed
 view_value x = typed (view x.tree.value) x.type_id x.category x.known
 
 -- a tree in a box
@@ -26,7 +26,7 @@ abbrev pub is_without_sign : Signedness → Bool
 is_without_sign signedness.Signed = false
 is_without_sign signedness.Unsigned = true
 
-abbrev pub view_deed : DeedInMemory → Deed
+abbrev pub view_deed : DeedInMemory → WordOperation
 view_deed (deeds.Operates o) = Operates o
 view_deed (deeds.Compares c turned) = Compares c turned
 
@@ -45,5 +45,5 @@ view_combined (Some c) = Some (view_combination c)
 abbrev pub MakesTree : Result (Box Expression Global) CheckError → program.Expression → Type 0
 MakesTree r e = Gives view_boxed r (Ok e)
 
-abbrev pub MakesValue : Result Value CheckError → Typed → Type 0
+abbrev pub MakesValue : Result TypedValue CheckError → Typed → Type 0
 MakesValue r x = Gives view_value r (Ok x)

@@ -5,7 +5,7 @@ ghost use Rattle.dae_base.specs.Words.{plus, minus};
 ghost use Rattle.dae_types_kinds.specs.Values.{is_zero, is_number, is_known, known_as, moved, scaled_known, based, folded, address_by, known_by, known_not, truth, known_and, known_or, known_branch, known_further};
 ghost use Rattle.dae_types_folding.specs.Views.{view_deed};
 
-use crate::operators::{Deed, apply, compare, divides};
+use crate::operators::{WordOperation, apply, compare, divides};
 use crate::shapes::load_kind;
 use dae_base::{LoadKind, extend};
 use dae_meaning::Operator;
@@ -115,22 +115,26 @@ pub fn known_further(known: Known, offset: u32) -> Known
 }
 
 /// What is known of an operation on two numbers.
-fn folded(deed: Deed, x: u32, y: u32) -> Known
+fn folded(deed: WordOperation, x: u32, y: u32) -> Known
     ensures { result ≡ folded (view_deed deed) x y }
 {
     match deed {
-        Deed::Operates(operator) if divides(operator) && y == 0 => Known::Division,
-        Deed::Operates(operator) => Known::Number(apply(operator, x, y)),
-        Deed::Compares(comparison, true) => Known::Number(u32::from(compare(comparison, y, x))),
-        Deed::Compares(comparison, false) => Known::Number(u32::from(compare(comparison, x, y))),
+        WordOperation::Operates(operator) if divides(operator) && y == 0 => Known::Division,
+        WordOperation::Operates(operator) => Known::Number(apply(operator, x, y)),
+        WordOperation::Compares(comparison, true) => Known::Number(u32::from(compare(
+            comparison, y, x,
+        ))),
+        WordOperation::Compares(comparison, false) => Known::Number(u32::from(compare(
+            comparison, x, y,
+        ))),
     }
 }
 
 /// What is known of a constant address and a number, added or subtracted.
-fn address_by(deed: Deed, x: Known, y: Known) -> Known
+fn address_by(deed: WordOperation, x: Known, y: Known) -> Known
     ensures { result ≡ address_by (view_deed deed) x y }
 {
-    let Deed::Operates(operator) = deed else {
+    let WordOperation::Operates(operator) = deed else {
         return Known::Nothing;
     };
     match (operator, x, y) {
@@ -145,7 +149,7 @@ fn address_by(deed: Deed, x: Known, y: Known) -> Known
 }
 
 /// What is known of an operation on two values.
-pub fn known_by(deed: Deed, x: Known, y: Known) -> Known
+pub fn known_by(deed: WordOperation, x: Known, y: Known) -> Known
     ensures { result ≡ known_by (view_deed deed) x y }
 {
     match (x, y) {

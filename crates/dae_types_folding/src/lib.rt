@@ -7,12 +7,12 @@ pub use knowing::{
     known_or, moved_back, moved_on, scaled_known,
 };
 pub use operators::{
-    Combination, Deed, apply, compare, deed_of, divides, is_comparison, is_difference, is_equality,
-    is_shift, is_sum, operator_of, signedness_for, type_for,
+    Combination, WordOperation, apply, compare, deed_of, divides, is_comparison, is_difference,
+    is_equality, is_shift, is_sum, operator_of, signedness_for, type_for,
 };
 pub use shapes::{common, load_kind, pointee, promoted};
 pub use trees::{changed, difference_of, further, operated, scaled, sum_of, target_of, tree_by};
-pub use value::{Value, boxed};
+pub use value::{TypedValue, boxed};
 
 mod knowing;
 mod operators;

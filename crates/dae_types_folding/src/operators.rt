@@ -15,7 +15,7 @@ use dae_types_tables::is_unsigned;
 
 /// An operation, or a comparison with whether its operands are turned.
 #[derive(Clone, Copy)]
-pub enum Deed {
+pub enum WordOperation {
     Operates(Operator),
     Compares(Comparison, bool),
 }
@@ -32,26 +32,26 @@ pub enum Combination {
 }
 
 /// What an operator does, on operands with a sign or without.
-pub fn deed_of(signedness: Signedness, operator: BinaryOperator) -> Deed
+pub fn deed_of(signedness: Signedness, operator: BinaryOperator) -> WordOperation
     ensures { view_deed result ≡ deed (is_without_sign signedness) operator }
 {
     match operator {
-        BinaryOperator::Multiply => Deed::Operates(Operator::Multiply),
-        BinaryOperator::Divide => Deed::Operates(division_for(signedness)),
-        BinaryOperator::Remainder => Deed::Operates(remainder_for(signedness)),
-        BinaryOperator::Add => Deed::Operates(Operator::Add),
-        BinaryOperator::Subtract => Deed::Operates(Operator::Subtract),
-        BinaryOperator::ShiftLeft => Deed::Operates(Operator::ShiftLeft),
-        BinaryOperator::ShiftRight => Deed::Operates(right_shift_for(signedness)),
-        BinaryOperator::Less => Deed::Compares(less(signedness), false),
-        BinaryOperator::Greater => Deed::Compares(less(signedness), true),
-        BinaryOperator::AtMost => Deed::Compares(at_least(signedness), true),
-        BinaryOperator::AtLeast => Deed::Compares(at_least(signedness), false),
-        BinaryOperator::Equal => Deed::Compares(Comparison::Equal, false),
-        BinaryOperator::NotEqual => Deed::Compares(Comparison::NotEqual, false),
-        BinaryOperator::And | BinaryOperator::AndAnd => Deed::Operates(Operator::And),
-        BinaryOperator::Xor => Deed::Operates(Operator::Xor),
-        BinaryOperator::Or | BinaryOperator::OrOr => Deed::Operates(Operator::Or),
+        BinaryOperator::Multiply => WordOperation::Operates(Operator::Multiply),
+        BinaryOperator::Divide => WordOperation::Operates(division_for(signedness)),
+        BinaryOperator::Remainder => WordOperation::Operates(remainder_for(signedness)),
+        BinaryOperator::Add => WordOperation::Operates(Operator::Add),
+        BinaryOperator::Subtract => WordOperation::Operates(Operator::Subtract),
+        BinaryOperator::ShiftLeft => WordOperation::Operates(Operator::ShiftLeft),
+        BinaryOperator::ShiftRight => WordOperation::Operates(right_shift_for(signedness)),
+        BinaryOperator::Less => WordOperation::Compares(less(signedness), false),
+        BinaryOperator::Greater => WordOperation::Compares(less(signedness), true),
+        BinaryOperator::AtMost => WordOperation::Compares(at_least(signedness), true),
+        BinaryOperator::AtLeast => WordOperation::Compares(at_least(signedness), false),
+        BinaryOperator::Equal => WordOperation::Compares(Comparison::Equal, false),
+        BinaryOperator::NotEqual => WordOperation::Compares(Comparison::NotEqual, false),
+        BinaryOperator::And | BinaryOperator::AndAnd => WordOperation::Operates(Operator::And),
+        BinaryOperator::Xor => WordOperation::Operates(Operator::Xor),
+        BinaryOperator::Or | BinaryOperator::OrOr => WordOperation::Operates(Operator::Or),
     }
 }
 

@@ -7,8 +7,8 @@ ghost use Rattle.dae_types_kinds.specs.Values.{changes, changed, further, scaled
 ghost use Rattle.dae_types_folding.specs.Views.{MakesTree, MakesValue, view_deed, view_value};
 
 use crate::knowing::known_by;
-use crate::operators::Deed;
-use crate::value::{Value, boxed, refilled};
+use crate::operators::WordOperation;
+use crate::value::{TypedValue, boxed, refilled};
 use dae_base::{LoadKind, Place};
 use dae_meaning::Operator;
 use dae_program::{Expression, Target};
@@ -157,7 +157,7 @@ pub fn difference_of(
 pub fn tree_by(
     alloc: Global,
     place: Place,
-    deed: Deed,
+    deed: WordOperation,
     left: Box<Expression>,
     right: Box<Expression>,
 ) -> Result<Box<Expression>, CheckError>
@@ -165,8 +165,8 @@ pub fn tree_by(
         (tree_by place (view_deed deed) (view left.value) (view right.value)) }
 {
     match deed {
-        Deed::Operates(operator) => binary(alloc, place, operator, left, right),
-        Deed::Compares(comparison, turned) => boxed(
+        WordOperation::Operates(operator) => binary(alloc, place, operator, left, right),
+        WordOperation::Compares(comparison, turned) => boxed(
             alloc,
             Expression::Compare(place, comparison, turned, left, right),
         ),
@@ -189,21 +189,21 @@ fn address_tree(tree: Box<Expression>, known: Known) -> Box<Expression>
 pub fn operated(
     alloc: Global,
     place: Place,
-    deed: Deed,
+    deed: WordOperation,
     type_id: usize,
-    x: Value,
-    y: Value,
-) -> Result<Value, CheckError>
+    x: TypedValue,
+    y: TypedValue,
+) -> Result<TypedValue, CheckError>
     ensures { MakesValue result
         (operated place (view_deed deed) type_id (view_value x) (view_value y)) }
 {
     let known = known_by(deed, x.known, y.known);
     let tree = tree_by(alloc, place, deed, x.tree, y.tree)?;
-    Ok(Value::of_known(address_tree(tree, known), type_id, known))
+    Ok(TypedValue::of_known(address_tree(tree, known), type_id, known))
 }
 
 /// What an assignment to an object writes.
-pub fn target_of(x: Value) -> Target
+pub fn target_of(x: TypedValue) -> Target
     ensures { view_target result ≡ target_of (view_value x) x.category }
 {
     match x.category {

@@ -12,7 +12,7 @@ use std::alloc::Global;
 /// A typed expression: its tree, its type by its number, whether the tree gives a value or where an object is, and what is
 /// known of its value before the program runs.
 #[derive(Drop)]
-pub struct Value {
+pub struct TypedValue {
     pub tree: Box<Expression>,
     pub type_id: usize,
     pub category: Category,
@@ -34,12 +34,12 @@ pub fn refilled(mut old: Box<Expression>, tree: Expression) -> Box<Expression>
     old
 }
 
-impl Value {
+impl TypedValue {
     /// A value of which nothing is known.
-    pub fn plain(tree: Box<Expression>, type_id: usize) -> Value
+    pub fn plain(tree: Box<Expression>, type_id: usize) -> TypedValue
         ensures { view_value result ≡ plain (view tree.value) type_id }
     {
-        Value {
+        TypedValue {
             tree,
             type_id,
             category: Category::Plain,
@@ -48,10 +48,10 @@ impl Value {
     }
 
     /// An integer constant expression with this value.
-    pub fn number(alloc: Global, word: u32, type_id: usize) -> Result<Value, CheckError>
+    pub fn number(alloc: Global, word: u32, type_id: usize) -> Result<TypedValue, CheckError>
         ensures { MakesValue result (number word type_id) }
     {
-        Ok(Value {
+        Ok(TypedValue {
             tree: boxed(alloc, Expression::Number(word))?,
             type_id,
             category: Category::Plain,
@@ -60,17 +60,17 @@ impl Value {
     }
 
     /// A value of which this is known. An integer constant expression is one number.
-    pub fn of_known(tree: Box<Expression>, type_id: usize, known: Known) -> Value
+    pub fn of_known(tree: Box<Expression>, type_id: usize, known: Known) -> TypedValue
         ensures { view_value result ≡ valued_by (view tree.value) type_id known }
     {
         match known {
-            Known::Number(word) => Value {
+            Known::Number(word) => TypedValue {
                 tree: refilled(tree, Expression::Number(word)),
                 type_id,
                 category: Category::Plain,
                 known: Known::Number(word),
             },
-            _ => Value {
+            _ => TypedValue {
                 tree,
                 type_id,
                 category: Category::Plain,

@@ -8,11 +8,11 @@ use Rattle.dae_types_kinds.specs.declared.tables.Designation.{Designation}
 use Rattle.dae_types_kinds.specs.declared.tables.Entity.{Entity}
 use Rattle.dae_types_kinds.specs.declared.tables.Tag.{Tag}
 use Rattle.dae_types_kinds.specs.declared.tables.Tagged.{Tagged}
-use Rattle.dae_types_kinds.specs.declared.tables.Object.{Object}
+use Rattle.dae_types_kinds.specs.declared.tables.StaticObject.{StaticObject}
 use Rattle.dae_types_kinds.specs.declared.tables.Local.{Local}
 use Rattle.dae_types_kinds.specs.declared.tables.Routine.{Routine}
 use Rattle.dae_types_kinds.specs.declared.tables.Storage.{Storage}
-use Rattle.dae_types_kinds.specs.declared.tables.Use.{Use}
+use Rattle.dae_types_kinds.specs.declared.tables.EntityUse.{EntityUse}
 use Rattle.dae_types_kinds.specs.declared.tables.Innermost.{Innermost}
 
 -- Types, structures and their members; names and tags in scope, and where the innermost scope starts; the file's objects
@@ -28,11 +28,11 @@ pub record Tables : Type 0 where
   pub innermost : Innermost
   pub kept_names : List Designation
   pub kept_tags : List Tag
-  pub objects : List Object
+  pub objects : List StaticObject
   pub routines : List Routine
   pub locals : List Local
   pub storages : List Storage
-  pub uses : List Use
+  pub uses : List EntityUse
   pub literals : List (List ℕ)
   pub main : Option ℕ
 
@@ -59,10 +59,10 @@ with_local x s = record s { locals = s.locals ++ (x ∷ []) }
 abbrev pub with_use : Entity → Place → Tables → Tables
 with_use e p s = record s { uses = s.uses ++ (record { entity = e; place = p } ∷ []) }
 
-abbrev pub with_uses : List Use → Tables → Tables
+abbrev pub with_uses : List EntityUse → Tables → Tables
 with_uses xs s = record s { uses = xs }
 
-abbrev pub with_object : Object → Tables → Tables
+abbrev pub with_object : StaticObject → Tables → Tables
 with_object x s = record s { objects = s.objects ++ (x ∷ []) }
 
 abbrev pub with_routine : Routine → Tables → Tables
@@ -86,7 +86,7 @@ set_structure n x s = record s { structures = written_at n x s.structures }
 abbrev pub set_local : ℕ → Local → Tables → Tables
 set_local n x s = record s { locals = written_at n x s.locals }
 
-abbrev pub set_object : ℕ → Object → Tables → Tables
+abbrev pub set_object : ℕ → StaticObject → Tables → Tables
 set_object n x s = record s { objects = written_at n x s.objects }
 
 abbrev pub set_routine : ℕ → Routine → Tables → Tables

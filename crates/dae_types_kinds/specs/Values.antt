@@ -28,7 +28,7 @@ use Rattle.dae_types_kinds.specs.declared.values.Known.TheVariants as known
 use Rattle.dae_types_kinds.specs.declared.tables.Component.{Component}
 use Rattle.dae_types_kinds.specs.declared.tables.Entity.{Entity}
 use Rattle.dae_types_kinds.specs.declared.tables.Entity.TheVariants as entity
-use Rattle.dae_types_kinds.specs.declared.tables.Object.{Object}
+use Rattle.dae_types_kinds.specs.declared.tables.StaticObject.{StaticObject}
 use Rattle.dae_types_kinds.specs.declared.tables.Local.{Local}
 use Rattle.dae_types_kinds.specs.declared.tables.Routine.{Routine}
 use Rattle.dae_types_kinds.specs.declared.tables.LibraryFunction.{LibraryFunction}
@@ -105,7 +105,7 @@ is_object _ = false
 
 -- ---- names, constants and literals (C90 6.3.1)
 
-abbrev pub object_type : Option Object → ℕ
+abbrev pub object_type : Option StaticObject → ℕ
 object_type None = int_id
 object_type (Some o) = o.type_id
 
@@ -259,12 +259,12 @@ based _ = known.Nothing
 -- ---- operators on words and pointers (C90 6.3.3 to 6.3.14)
 
 -- an operation, or a comparison with whether its operands are turned
-pub data Deed : Type 0 where
-  Operates : Operator → Deed
-  Compares : Comparison → (turned : Bool) → Deed
+pub data WordOperation : Type 0 where
+  Operates : Operator → WordOperation
+  Compares : Comparison → (turned : Bool) → WordOperation
 
 -- what a binary operator does, where the flag says that its operands are unsigned; `&&` and `||` stand by themselves
-abbrev pub deed : Bool → BinaryOperator → Deed
+abbrev pub deed : Bool → BinaryOperator → WordOperation
 deed u binary.Multiply = Operates operator.Multiply
 deed u binary.Divide = Operates (if u then operator.DivideUnsigned else operator.DivideSigned)
 deed u binary.Remainder = Operates (if u then operator.RemainderUnsigned else operator.RemainderSigned)
@@ -375,25 +375,25 @@ abbrev pub turned_to : Bool → (ℕ → ℕ → Bool) → ℕ → ℕ → Bool
 turned_to true f x y = f y x
 turned_to false f x y = f x y
 
-abbrev pub folded : Deed → ℕ → ℕ → Known
+abbrev pub folded : WordOperation → ℕ → ℕ → Known
 folded (Operates o) x y = if divides o && nat_eq y 0 then known.Division else known.Number (combined o x y)
 folded (Compares c turned) x y = known.Number (bit (turned_to turned (compared c) x y))
 
 -- a constant address and a number, added or subtracted
-abbrev pub address_by : Deed → Known → Known → Known
+abbrev pub address_by : WordOperation → Known → Known → Known
 address_by (Operates operator.Add) (known.Address o k) (known.Number w) = known.Address o (plus k w)
 address_by (Operates operator.Add) (known.Number w) (known.Address o k) = known.Address o (plus w k)
 address_by (Operates operator.Subtract) (known.Address o k) (known.Number w) = known.Address o (minus k w)
 address_by _ _ _ = known.Nothing
 
-abbrev pub known_by : Deed → Known → Known → Known
+abbrev pub known_by : WordOperation → Known → Known → Known
 known_by d (known.Number x) (known.Number y) = folded d x y
 known_by d (known.Number x) known.Division = known.Division
 known_by d known.Division (known.Number y) = known.Division
 known_by d known.Division known.Division = known.Division
 known_by d x y = address_by d x y
 
-abbrev pub tree_by : Place → Deed → program.Expression → program.Expression → program.Expression
+abbrev pub tree_by : Place → WordOperation → program.Expression → program.Expression → program.Expression
 tree_by p (Operates o) e f = program.Binary p o e f
 tree_by p (Compares c turned) e f = program.Compare p c turned e f
 
@@ -409,7 +409,7 @@ is_unsigned_for o t u = is_unsigned t || (not (is_shift o) && is_unsigned u)
 abbrev pub type_for : BinaryOperator → Bool → ℕ
 type_for o u = if not (is_comparison o) && u then unsigned_id else int_id
 
-abbrev pub operated : Place → Deed → ℕ → Typed → Typed → Typed
+abbrev pub operated : Place → WordOperation → ℕ → Typed → Typed → Typed
 operated p d t x y = let k = known_by d x.known y.known in valued_by (address_tree (tree_by p d x.tree y.tree) k) t k
 
 -- a pointer and an index, the flag says which is first; the type of the pointer stays
@@ -541,7 +541,7 @@ abbrev pub assigned : Place → Tables → Typed → Typed → Typed
 assigned p s x y = plain (program.Assign p (load_kind (shape_of s x.type_id)) (target_of x x.category) (converted p s y x.type_id).tree) x.type_id
 
 -- the operation of a compound assignment on the value and the right side
-abbrev pub operator_in : Deed → Operator
+abbrev pub operator_in : WordOperation → Operator
 operator_in (Operates o) = o
 operator_in (Compares c turned) = operator.Add
 

@@ -9,8 +9,8 @@ pub use numbers::{
 pub use routines::{is_printf, library_of, parameters_of, result_of, routine_type};
 pub use rules::{Breach, CheckError, Rule};
 pub use tables::{
-    Component, Context, Designation, Entity, Innermost, LibraryFunction, Local, NamedType, Object,
-    Routine, Storage, Tag, Tagged, Use,
+    Component, Context, Designation, Entity, EntityUse, Innermost, LibraryFunction, Local,
+    NamedType, Routine, StaticObject, Storage, Tag, Tagged,
 };
 pub use types::{Layout, Shape, Structure};
 pub use values::{Addressing, Category, Known, is_indirect};

@@ -46,7 +46,7 @@ pub struct Tag {
 /// An object with static storage: whether it is of this file alone, whether it is initialised, and the first declaration
 /// that gives it room.
 #[derive(Clone, Copy)]
-pub struct Object {
+pub struct StaticObject {
     pub name: u32,
     pub type_id: usize,
     pub own: bool,
@@ -89,7 +89,7 @@ pub enum Storage {
 
 /// A use of a file's object or function.
 #[derive(Clone, Copy)]
-pub struct Use {
+pub struct EntityUse {
     pub entity: Entity,
     pub place: Place,
 }

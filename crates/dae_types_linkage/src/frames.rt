@@ -16,7 +16,7 @@ const MOST_FRAME: u32 = 1 << 31;
 
 /// The next variable, the next offset in the frame in bytes, and how many parameters are still to come.
 #[derive(Clone, Copy)]
-pub struct Room {
+pub struct FrameRoom {
     pub variable: u32,
     pub offset: u32,
     pub parameters: usize,
@@ -39,7 +39,7 @@ fn storages_of(checker: &Checker, parameters: usize) -> Result<Vec<Storage>, Che
         (Ok (kept_from (tables checker.now) 1 0 parameters (tables checker.now).locals)) }
 {
     let mut storages = Vec::new(checker.alloc);
-    let mut room = Room {
+    let mut room = FrameRoom {
         variable: 1,
         offset: 0,
         parameters,
@@ -53,7 +53,7 @@ fn storages_of(checker: &Checker, parameters: usize) -> Result<Vec<Storage>, Che
 }
 
 /// Where a parameter or local object is kept, and the room behind it.
-fn keep(checker: &Checker, room: Room, local: Local) -> (Storage, Room)
+fn keep(checker: &Checker, room: FrameRoom, local: Local) -> (Storage, FrameRoom)
     ensures { (xs : List PlainLocal)
         → result.0 ∷ kept_in (tables checker.now) result.1 xs
         ≡ kept_in (tables checker.now) room (local ∷ xs) }
@@ -62,7 +62,7 @@ fn keep(checker: &Checker, room: Room, local: Local) -> (Storage, Room)
     if is_in_variable(checker, local) {
         let variable = word_behind(room.variable);
         let offset = room.offset;
-        let next = Room {
+        let next = FrameRoom {
             variable,
             offset,
             parameters,
@@ -73,7 +73,7 @@ fn keep(checker: &Checker, room: Room, local: Local) -> (Storage, Room)
     let start = round_up(room.offset, layout.align);
     let offset = end_of(start, layout.size);
     let variable = variable_behind(room);
-    let next = Room {
+    let next = FrameRoom {
         variable,
         offset,
         parameters,
@@ -96,7 +96,7 @@ fn is_in_variable(checker: &Checker, local: Local) -> bool
 }
 
 /// The next variable behind what is in the frame: a parameter takes one all the same.
-fn variable_behind(room: Room) -> u32
+fn variable_behind(room: FrameRoom) -> u32
     ensures { result
         ≡ (if nat_eq room.parameters 0 then room.variable else word_for (suc room.variable)) }
 {

@@ -26,7 +26,7 @@ const ABORT_TYPE: usize = 15;
 
 /// The numbers of the names of the library's functions, where a file has them.
 #[derive(Clone, Copy)]
-pub struct Numbers {
+pub struct LibraryNames {
     pub printf: Option<u32>,
     pub putchar: Option<u32>,
     pub exit: Option<u32>,
@@ -87,7 +87,7 @@ fn declare_library(
 pub fn declare_stdio(
     checker: &mut Checker,
     file: &File,
-    numbers: &Numbers,
+    numbers: &LibraryNames,
 ) -> Result<(), CheckError>
     ensures { Leaves checker.new result
         (with_stdio file.now.stdio (view_numbers numbers.now) (tables checker.old)) }
@@ -113,7 +113,7 @@ pub fn declare_stdio(
 pub fn declare_stdlib(
     checker: &mut Checker,
     file: &File,
-    numbers: &Numbers,
+    numbers: &LibraryNames,
 ) -> Result<(), CheckError>
     ensures { Leaves checker.new result
         (with_stdlib file.now.stdlib (view_numbers numbers.now) (tables checker.old)) }

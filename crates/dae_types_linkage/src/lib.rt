@@ -5,7 +5,7 @@
 pub use blocks::{declare_local, declare_type, own_entity};
 pub use frames::settle_locals;
 pub use functions::{declare_function, define_function, is_main_name};
-pub use headers::{Numbers, begin_file, declare_stdio, declare_stdlib};
+pub use headers::{LibraryNames, begin_file, declare_stdio, declare_stdlib};
 pub use introductions::Introduction;
 pub use objects::{declare_object, is_extern, is_static, set_object_type, type_of_object};
 

@@ -11,7 +11,7 @@ use crate::functions::name_number;
 use crate::introductions::Introduction;
 use dae_base::Place;
 use dae_tree::Keyword;
-use dae_types_kinds::{CheckError, Entity, INT_ID, Object, Rule};
+use dae_types_kinds::{CheckError, Entity, INT_ID, Rule, StaticObject};
 use dae_types_tables::{Checker, broken, is_array, is_void};
 
 /// Declares an object, and gives its number. The word is its storage class.
@@ -88,7 +88,7 @@ fn is_same_object(
     checker: &Checker,
     type_id: usize,
     word: Option<Keyword>,
-    object: Option<Object>,
+    object: Option<StaticObject>,
 ) -> bool
     ensures { result ≡ is_same_object (tables checker.now) type_id word object }
 {
@@ -133,7 +133,7 @@ fn enter_object(
         let composite = checker.composite(object.type_id, type_id)?;
         checker.set_object(
             number,
-            Object {
+            StaticObject {
                 type_id: composite,
                 initialised: object.initialised || introduction.given,
                 placed: first_placed(object.placed, word, introduction),
@@ -183,7 +183,7 @@ fn add_object(
         (tables checker.old)) }
 {
     let name = name_number(introduction.name);
-    let number = checker.add_object(Object {
+    let number = checker.add_object(StaticObject {
         name,
         type_id,
         own: is_static(word),
@@ -211,6 +211,6 @@ pub fn set_object_type(checker: &mut Checker, number: usize, type_id: usize)
         (slice_get (tables checker.old).objects number) }
 {
     if let Some(object) = checker.object(number) {
-        checker.set_object(number, Object { type_id, ..object });
+        checker.set_object(number, StaticObject { type_id, ..object });
     }
 }

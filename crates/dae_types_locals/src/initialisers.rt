@@ -15,8 +15,8 @@ ghost use Rattle.dae_types_locals.specs.Plans.{looked_through, plan_list, plan_w
 use dae_base::Place;
 use dae_tree::{Expression, Initialiser};
 use dae_types_fills::{
-    Content, Enclosing, Filling, Rest, close_list, fill_item, finish_content, is_value_for, land,
-    literal_in, open_list, refuse_value,
+    Content, Enclosing, Filling, Unfilled, close_list, fill_item, finish_content, is_value_for,
+    land, literal_in, open_list, refuse_value,
 };
 use dae_types_kinds::CheckError;
 use dae_types_tables::Checker;
@@ -91,7 +91,7 @@ fn begin_object(alloc: Global, offset: u32, type_id: usize) -> Result<Filling, C
     ensures { Gives view_filling result (Ok (empty_filling (Once offset type_id ∷ []))) }
 {
     let mut rest = Vec::new(alloc);
-    rest.push(Rest::Once(offset, type_id))?;
+    rest.push(Unfilled::Once(offset, type_id))?;
     Ok(Filling {
         rest,
         items: Vec::new(alloc),

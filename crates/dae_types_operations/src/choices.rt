@@ -11,7 +11,7 @@ ghost use Rattle.dae_types_values.specs.Results.{Joins, three, GivesValue, two};
 
 use dae_base::Place;
 use dae_program::Expression;
-use dae_types_folding::{Value, boxed, common, known_and, known_branch, known_or};
+use dae_types_folding::{TypedValue, boxed, common, known_and, known_branch, known_or};
 use dae_types_kinds::{Addressing, Category, CheckError, INT_ID, Known, Rule, Shape, VOID_ID};
 use dae_types_tables::{Checker, broken, is_integer, is_scalar, is_void};
 use dae_types_values::is_null;
@@ -23,9 +23,9 @@ pub fn and(
     checker: &Checker,
     place: Place,
     second: Place,
-    x: Value,
-    y: Value,
-) -> Result<Value, CheckError>
+    x: TypedValue,
+    y: TypedValue,
+) -> Result<TypedValue, CheckError>
     ensures { GivesValue checker.now result (and_at place second (two x y)) checker.now }
 {
     if !is_scalar(checker.shape_of(x.type_id)) {
@@ -36,7 +36,7 @@ pub fn and(
     }
     let known = known_and(x.known, y.known);
     let tree = boxed(checker.alloc, Expression::And(place, x.tree, y.tree))?;
-    Ok(Value::of_known(tree, INT_ID, known))
+    Ok(TypedValue::of_known(tree, INT_ID, known))
 }
 
 /// `||` between two values, at their places.
@@ -46,9 +46,9 @@ pub fn or(
     checker: &Checker,
     place: Place,
     second: Place,
-    x: Value,
-    y: Value,
-) -> Result<Value, CheckError>
+    x: TypedValue,
+    y: TypedValue,
+) -> Result<TypedValue, CheckError>
     ensures { GivesValue checker.now result (or_at place second (two x y)) checker.now }
 {
     if !is_scalar(checker.shape_of(x.type_id)) {
@@ -59,7 +59,7 @@ pub fn or(
     }
     let known = known_or(x.known, y.known);
     let tree = boxed(checker.alloc, Expression::Or(place, x.tree, y.tree))?;
-    Ok(Value::of_known(tree, INT_ID, known))
+    Ok(TypedValue::of_known(tree, INT_ID, known))
 }
 
 /// The type of two pointers that are the branches of a conditional, where they go together.
@@ -85,7 +85,7 @@ fn join_pointers(
 
 /// The type of a conditional by its branches, where they go together.
 #[tactic(auto, unfolding(dae_types_kinds::specs::Values::joined))]
-fn join(checker: &mut Checker, y: &Value, z: &Value) -> Result<Option<usize>, CheckError>
+fn join(checker: &mut Checker, y: &TypedValue, z: &TypedValue) -> Result<Option<usize>, CheckError>
     ensures { Joins checker.new result
         (joined (tables checker.old) (view_value y.now) (view_value z.now)) }
 {
@@ -132,17 +132,22 @@ fn known_if(is_integer: bool, known: Known) -> Known
 }
 
 /// A conditional's value.
-fn conditional_by(tree: Box<Expression>, type_id: usize, category: Category, known: Known) -> Value
+fn conditional_by(
+    tree: Box<Expression>,
+    type_id: usize,
+    category: Category,
+    known: Known,
+) -> TypedValue
     ensures { view_value result ≡ conditional_by (view tree.value) type_id category known }
 {
     match category {
-        Category::Aggregate(_) => Value {
+        Category::Aggregate(_) => TypedValue {
             tree,
             type_id,
             category,
             known: Known::Nothing,
         },
-        _ => Value::of_known(tree, type_id, known),
+        _ => TypedValue::of_known(tree, type_id, known),
     }
 }
 
@@ -151,10 +156,10 @@ fn conditional_by(tree: Box<Expression>, type_id: usize, category: Category, kno
 pub fn conditional(
     checker: &mut Checker,
     place: Place,
-    x: Value,
-    y: Value,
-    z: Value,
-) -> Result<Value, CheckError>
+    x: TypedValue,
+    y: TypedValue,
+    z: TypedValue,
+) -> Result<TypedValue, CheckError>
     ensures { GivesValue checker.new result (conditional_at place (three x y z)) checker.old }
 {
     let Some(type_id) = join(checker, &y, &z)? else {
@@ -179,10 +184,10 @@ fn kept_category(category: Category) -> Category
 }
 
 /// The comma between two values.
-pub fn comma(checker: &Checker, x: Value, y: Value) -> Result<Value, CheckError>
+pub fn comma(checker: &Checker, x: TypedValue, y: TypedValue) -> Result<TypedValue, CheckError>
     ensures { GivesValue checker.now result (comma_at (two x y)) checker.now }
 {
-    Ok(Value {
+    Ok(TypedValue {
         tree: boxed(checker.alloc, Expression::Comma(x.tree, y.tree))?,
         type_id: y.type_id,
         category: kept_category(y.category),

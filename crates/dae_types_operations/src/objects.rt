@@ -16,8 +16,8 @@ use dae_meaning::Operator;
 use dae_program::Expression;
 use dae_tree::{AssignmentOperator, BinaryOperator, MemberOperator, Name};
 use dae_types_folding::{
-    Combination, Deed, Value, based, boxed, deed_of, further, known_further, load_kind,
-    operator_of, scaled, signedness_for, target_of,
+    Combination, TypedValue, WordOperation, based, boxed, deed_of, further, known_further,
+    load_kind, operator_of, scaled, signedness_for, target_of,
 };
 use dae_types_kinds::{
     Addressing, Category, CheckError, Component, Known, Rule, Shape, is_indirect,
@@ -36,7 +36,12 @@ pub fn is_object(category: Category) -> bool
 }
 
 /// What an assignment of a value to an object gives.
-fn assigned(checker: &Checker, place: Place, x: Value, y: Value) -> Result<Value, CheckError>
+fn assigned(
+    checker: &Checker,
+    place: Place,
+    x: TypedValue,
+    y: TypedValue,
+) -> Result<TypedValue, CheckError>
     ensures { MakesValue result
         (assigned place (tables checker.now) (view_value x) (view_value y)) }
 {
@@ -45,12 +50,17 @@ fn assigned(checker: &Checker, place: Place, x: Value, y: Value) -> Result<Value
     let y = convert(checker, place, y, type_id)?;
     let tree = Expression::Assign(place, kind, target_of(x), y.tree);
     let tree = boxed(checker.alloc, tree)?;
-    Ok(Value::plain(tree, type_id))
+    Ok(TypedValue::plain(tree, type_id))
 }
 
 /// `=`
 #[tactic(auto, unfolding(dae_types_rules::specs::Plan::ask_all))]
-fn store(checker: &Checker, place: Place, x: Value, y: Value) -> Result<Value, CheckError>
+fn store(
+    checker: &Checker,
+    place: Place,
+    x: TypedValue,
+    y: TypedValue,
+) -> Result<TypedValue, CheckError>
     ensures { GivesValue checker.now result (assign_at place (two x y)) checker.now }
 {
     if !is_object(x.category) {
@@ -69,12 +79,12 @@ fn store(checker: &Checker, place: Place, x: Value, y: Value) -> Result<Value, C
 }
 
 /// The operation of a compound assignment; a comparison has none, and counts as a sum.
-fn operator_in(deed: Deed) -> Operator
+fn operator_in(deed: WordOperation) -> Operator
     ensures { result ≡ operator_in (view_deed deed) }
 {
     match deed {
-        Deed::Operates(operator) => operator,
-        Deed::Compares(_, _) => Operator::Add,
+        WordOperation::Operates(operator) => operator,
+        WordOperation::Compares(_, _) => Operator::Add,
     }
 }
 
@@ -93,8 +103,8 @@ fn updated_by(
     checker: &Checker,
     place: Place,
     operator: BinaryOperator,
-    x: &Value,
-    y: Value,
+    x: &TypedValue,
+    y: TypedValue,
     combination: Option<Combination>,
 ) -> Result<Box<Expression>, CheckError>
     ensures { MakesTree result
@@ -114,9 +124,9 @@ fn updated(
     checker: &Checker,
     place: Place,
     operator: BinaryOperator,
-    x: Value,
-    y: Value,
-) -> Result<Value, CheckError>
+    x: TypedValue,
+    y: TypedValue,
+) -> Result<TypedValue, CheckError>
     ensures { MakesValue result
         (updated place (tables checker.now) operator (view_value x) (view_value y)) }
 {
@@ -128,7 +138,7 @@ fn updated(
     let right = updated_by(checker, place, operator, &x, y, combination)?;
     let tree = Expression::Update(place, load_kind(left), target_of(x), operation, right);
     let tree = boxed(checker.alloc, tree)?;
-    Ok(Value::plain(tree, type_id))
+    Ok(TypedValue::plain(tree, type_id))
 }
 
 /// `+=` and its kin.
@@ -137,9 +147,9 @@ fn update(
     checker: &Checker,
     place: Place,
     operator: BinaryOperator,
-    x: Value,
-    y: Value,
-) -> Result<Value, CheckError>
+    x: TypedValue,
+    y: TypedValue,
+) -> Result<TypedValue, CheckError>
     ensures { GivesValue checker.now result (update_at place operator (two x y)) checker.now }
 {
     if !is_object(x.category) {
@@ -163,9 +173,9 @@ pub fn assign(
     checker: &Checker,
     place: Place,
     operator: AssignmentOperator,
-    x: Value,
-    y: Value,
-) -> Result<Value, CheckError>
+    x: TypedValue,
+    y: TypedValue,
+) -> Result<TypedValue, CheckError>
     ensures { GivesValue checker.now result (assignment_at place operator (two x y)) checker.now }
 {
     match operator {
@@ -184,7 +194,7 @@ pub fn assign(
 }
 
 /// The structure whose member is meant.
-fn owner(checker: &Checker, operator: MemberOperator, x: &Value) -> Option<usize>
+fn owner(checker: &Checker, operator: MemberOperator, x: &TypedValue) -> Option<usize>
     ensures { result ≡ owner operator (tables checker.now) (view_value x.now) }
 {
     let shape = match (operator, checker.shape_of(x.type_id)) {
@@ -205,13 +215,13 @@ fn member_value(
     tree: Box<Expression>,
     type_id: usize,
     addressing: Addressing,
-) -> Result<Value, CheckError>
+) -> Result<TypedValue, CheckError>
     ensures { MakesValue result
         (member_value place (tables checker.now) (view tree.value) type_id addressing
         (shape_of (tables checker.now) type_id)) }
 {
     match checker.shape_of(type_id) {
-        Shape::Struct(_) | Shape::Array(_, _) => Ok(Value {
+        Shape::Struct(_) | Shape::Array(_, _) => Ok(TypedValue {
             tree,
             type_id,
             category: Category::Aggregate(addressing),
@@ -221,7 +231,7 @@ fn member_value(
             let indirect = is_indirect(addressing);
             let tree = Expression::Read(place, load_kind(shape), indirect, tree);
             let tree = boxed(checker.alloc, tree)?;
-            Ok(Value::plain(tree, type_id))
+            Ok(TypedValue::plain(tree, type_id))
         }
     }
 }
@@ -231,14 +241,14 @@ fn member_in(
     checker: &Checker,
     place: Place,
     operator: MemberOperator,
-    x: Value,
-) -> Result<Value, CheckError>
+    x: TypedValue,
+) -> Result<TypedValue, CheckError>
     ensures { MakesValue result
         (member_in place (tables checker.now) operator (view x.tree.value) x.type_id x.category
         x.known) }
 {
     match (operator, x.category) {
-        (MemberOperator::Arrow, _) => Ok(Value {
+        (MemberOperator::Arrow, _) => Ok(TypedValue {
             tree: x.tree,
             type_id: x.type_id,
             category: Category::At(Addressing::Indirect),
@@ -256,15 +266,15 @@ fn member_by(
     checker: &Checker,
     place: Place,
     operator: MemberOperator,
-    x: Value,
+    x: TypedValue,
     component: Component,
-) -> Result<Value, CheckError>
+) -> Result<TypedValue, CheckError>
     ensures { MakesValue result
         (member_by place (tables checker.now) operator (view_value x) (Some component)) }
 {
     let known = known_further(x.known, component.offset);
     let tree = further(checker.alloc, place, x.tree, component.offset)?;
-    let member = Value {
+    let member = TypedValue {
         tree,
         type_id: component.type_id,
         category: x.category,
@@ -282,8 +292,8 @@ pub fn member(
     place: Place,
     operator: MemberOperator,
     name: Name,
-    x: Value,
-) -> Result<Value, CheckError>
+    x: TypedValue,
+) -> Result<TypedValue, CheckError>
     ensures { GivesValue checker.now result (member_of place operator name (one x)) checker.now }
 {
     let Some(structure) = owner(checker, operator, &x) else {

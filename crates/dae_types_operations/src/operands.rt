@@ -17,7 +17,7 @@ use dae_meaning::Operator;
 use dae_program::Expression;
 use dae_tree::BinaryOperator;
 use dae_types_folding::{
-    Combination, Value, based, boxed, deed_of, difference_of, is_comparison, is_difference,
+    Combination, TypedValue, based, boxed, deed_of, difference_of, is_comparison, is_difference,
     is_equality, is_sum, moved_back, moved_on, operated, scaled, scaled_known, signedness_for,
     sum_of, tree_by, type_for,
 };
@@ -37,7 +37,12 @@ fn points_to_void(checker: &Checker, shape: Shape) -> bool
 }
 
 /// Whether an operator may compare two values of which one is a pointer.
-fn are_comparable(checker: &Checker, operator: BinaryOperator, x: &Value, y: &Value) -> bool
+fn are_comparable(
+    checker: &Checker,
+    operator: BinaryOperator,
+    x: &TypedValue,
+    y: &TypedValue,
+) -> bool
     ensures { result
         ≡ are_comparable (tables checker.now) operator (view_value x.now) (view_value y.now) }
 {
@@ -58,8 +63,8 @@ fn are_comparable(checker: &Checker, operator: BinaryOperator, x: &Value, y: &Va
 fn compared_as(
     checker: &Checker,
     operator: BinaryOperator,
-    x: &Value,
-    y: &Value,
+    x: &TypedValue,
+    y: &TypedValue,
 ) -> Option<Combination>
     ensures { view_combined result
         ≡ compared_as (tables checker.now) operator (view_value x.now) (view_value y.now) }
@@ -76,8 +81,8 @@ fn compared_as(
 pub fn combination_of(
     checker: &Checker,
     operator: BinaryOperator,
-    x: &Value,
-    y: &Value,
+    x: &TypedValue,
+    y: &TypedValue,
 ) -> Option<Combination>
     ensures { view_combined result
         ≡ combination (tables checker.now) operator (view_value x.now) (view_value y.now) }
@@ -131,9 +136,9 @@ fn indexed(
     checker: &Checker,
     place: Place,
     element: usize,
-    x: Value,
-    y: Value,
-) -> Result<Value, CheckError>
+    x: TypedValue,
+    y: TypedValue,
+) -> Result<TypedValue, CheckError>
     ensures { MakesValue result
         (indexed place (tables checker.now) element (view_value x) (view_value y)) }
 {
@@ -141,7 +146,7 @@ fn indexed(
     let known = moved_on(x.known, scaled_known(y.known, size));
     let bytes = scaled(checker.alloc, place, y.tree, size)?;
     let tree = sum_of(checker.alloc, place, x.tree, bytes)?;
-    Ok(Value {
+    Ok(TypedValue {
         tree,
         type_id: x.type_id,
         category: Category::Plain,
@@ -157,9 +162,9 @@ fn indexed_behind(
     checker: &Checker,
     place: Place,
     element: usize,
-    x: Value,
-    y: Value,
-) -> Result<Value, CheckError>
+    x: TypedValue,
+    y: TypedValue,
+) -> Result<TypedValue, CheckError>
     ensures { MakesValue result
         (indexed_behind place (tables checker.now) element (view_value x) (view_value y)) }
 {
@@ -167,7 +172,7 @@ fn indexed_behind(
     let known = moved_on(y.known, scaled_known(x.known, size));
     let bytes = scaled(checker.alloc, place, x.tree, size)?;
     let tree = sum_of(checker.alloc, place, bytes, y.tree)?;
-    Ok(Value {
+    Ok(TypedValue {
         tree,
         type_id: y.type_id,
         category: Category::Plain,
@@ -181,9 +186,9 @@ fn indexed_back(
     checker: &Checker,
     place: Place,
     element: usize,
-    x: Value,
-    y: Value,
-) -> Result<Value, CheckError>
+    x: TypedValue,
+    y: TypedValue,
+) -> Result<TypedValue, CheckError>
     ensures { MakesValue result
         (indexed_back place (tables checker.now) element (view_value x) (view_value y)) }
 {
@@ -191,7 +196,7 @@ fn indexed_back(
     let known = moved_back(x.known, scaled_known(y.known, size));
     let bytes = scaled(checker.alloc, place, y.tree, size)?;
     let tree = difference_of(checker.alloc, place, x.tree, bytes)?;
-    Ok(Value {
+    Ok(TypedValue {
         tree,
         type_id: x.type_id,
         category: Category::Plain,
@@ -201,18 +206,24 @@ fn indexed_back(
 
 /// The distance of two pointers in elements of so many bytes.
 #[inline(never)]
-fn distance(alloc: Global, place: Place, size: u32, x: Value, y: Value) -> Result<Value, CheckError>
+fn distance(
+    alloc: Global,
+    place: Place,
+    size: u32,
+    x: TypedValue,
+    y: TypedValue,
+) -> Result<TypedValue, CheckError>
     ensures { MakesValue result (distance place size (view_value x) (view_value y)) }
 {
     let bytes = Expression::Binary(place, Operator::Subtract, x.tree, y.tree);
     let bytes = boxed(alloc, bytes)?;
     if size == 1 {
-        return Ok(Value::plain(bytes, INT_ID));
+        return Ok(TypedValue::plain(bytes, INT_ID));
     }
     let size = boxed(alloc, Expression::Number(size))?;
     let tree = Expression::Binary(place, Operator::DivideSigned, bytes, size);
     let tree = boxed(alloc, tree)?;
-    Ok(Value::plain(tree, INT_ID))
+    Ok(TypedValue::plain(tree, INT_ID))
 }
 
 /// What an operator gives of two operands that go together.
@@ -221,9 +232,9 @@ fn combine(
     place: Place,
     operator: BinaryOperator,
     combination: Combination,
-    x: Value,
-    y: Value,
-) -> Result<Value, CheckError>
+    x: TypedValue,
+    y: TypedValue,
+) -> Result<TypedValue, CheckError>
     ensures { MakesValue result
         (combined_as place (tables checker.now) operator (view_value x) (view_value y)
         (Some (view_combination combination))) }
@@ -260,7 +271,7 @@ fn combine(
                 x.tree,
                 y.tree,
             )?;
-            Ok(Value::plain(tree, INT_ID))
+            Ok(TypedValue::plain(tree, INT_ID))
         }
     }
 }
@@ -271,9 +282,9 @@ pub fn operate(
     checker: &Checker,
     place: Place,
     operator: BinaryOperator,
-    x: Value,
-    y: Value,
-) -> Result<Value, CheckError>
+    x: TypedValue,
+    y: TypedValue,
+) -> Result<TypedValue, CheckError>
     ensures { GivesValue checker.now result (operands_at place operator (two x y)) checker.now }
 {
     let Some(combination) = combination_of(checker, operator, &x, &y) else {
@@ -289,10 +300,10 @@ pub fn operate(
 fn subscript(
     checker: &Checker,
     place: Place,
-    x: Value,
-    y: Value,
+    x: TypedValue,
+    y: TypedValue,
     combination: Option<Combination>,
-) -> Result<Value, CheckError>
+) -> Result<TypedValue, CheckError>
     ensures { MakesValue result
         (subscripted place (tables checker.now) (view_value x) (view_value y)
         (view_combined combination)) }
@@ -300,7 +311,7 @@ fn subscript(
     match combination {
         Some(Combination::PointerFirst(to)) => {
             let z = indexed(checker, place, to, x, y)?;
-            Ok(Value {
+            Ok(TypedValue {
                 tree: z.tree,
                 type_id: to,
                 category: Category::At(Addressing::Indirect),
@@ -309,7 +320,7 @@ fn subscript(
         }
         Some(Combination::PointerSecond(to)) => {
             let z = indexed_behind(checker, place, to, x, y)?;
-            Ok(Value {
+            Ok(TypedValue {
                 tree: z.tree,
                 type_id: to,
                 category: Category::At(Addressing::Indirect),
@@ -330,7 +341,7 @@ fn index_place(place: Place, second: Place, left: Shape) -> Place
 ghost use Rattle.dae_types_plans.specs.Steps.{index_shape};
 
 /// The type of a subscript's index.
-fn index_shape(checker: &Checker, x: &Value, y: &Value) -> Shape
+fn index_shape(checker: &Checker, x: &TypedValue, y: &TypedValue) -> Shape
     ensures { result ≡ index_shape (tables checker.now) (view_value x.now, view_value y.now) }
 {
     let left = checker.shape_of(x.type_id);
@@ -347,9 +358,9 @@ pub fn index(
     checker: &Checker,
     place: Place,
     second: Place,
-    x: Value,
-    y: Value,
-) -> Result<Value, CheckError>
+    x: TypedValue,
+    y: TypedValue,
+) -> Result<TypedValue, CheckError>
     ensures { GivesValue checker.now result (index_at place second (two x y)) checker.now }
 {
     let left = checker.shape_of(x.type_id);
@@ -374,9 +385,9 @@ pub fn binary(
     place: Place,
     second: Place,
     operator: BinaryOperator,
-    x: Value,
-    y: Value,
-) -> Result<Value, CheckError>
+    x: TypedValue,
+    y: TypedValue,
+) -> Result<TypedValue, CheckError>
     ensures { GivesValue checker.now result
         (binary_at place second operator (two x y)) checker.now }
 {

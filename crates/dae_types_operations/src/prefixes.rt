@@ -18,7 +18,8 @@ use dae_meaning::Operator;
 use dae_program::{Expression, Fixity};
 use dae_tree::{Name, PostfixOperator, PrefixOperator};
 use dae_types_folding::{
-    Deed, Value, based, boxed, known_not, load_kind, operated, pointee, promoted, target_of,
+    TypedValue, WordOperation, based, boxed, known_not, load_kind, operated, pointee, promoted,
+    target_of,
 };
 use dae_types_kinds::{Addressing, Category, CheckError, Entity, INT_ID, Local, Rule, Shape};
 use dae_types_tables::{Checker, broken, is_array, is_scalar, is_void};
@@ -59,8 +60,8 @@ fn address(
     checker: &mut Checker,
     place: Place,
     name: Option<Name>,
-    x: Value,
-) -> Result<Value, CheckError>
+    x: TypedValue,
+) -> Result<TypedValue, CheckError>
     ensures { GivesValue checker.new result (address_at place name (one x)) checker.old }
 {
     if !is_object(x.category) {
@@ -68,7 +69,7 @@ fn address(
     }
     mark(checker, name);
     let type_id = checker.make(Shape::Pointer(x.type_id))?;
-    Ok(Value {
+    Ok(TypedValue {
         tree: x.tree,
         type_id,
         category: Category::Plain,
@@ -78,7 +79,7 @@ fn address(
 
 /// `*` before a value.
 #[tactic(auto, unfolding(dae_types_rules::specs::Plan::ask_all))]
-fn dereference(checker: &Checker, place: Place, x: Value) -> Result<Value, CheckError>
+fn dereference(checker: &Checker, place: Place, x: TypedValue) -> Result<TypedValue, CheckError>
     ensures { GivesValue checker.now result (star_at place (one x)) checker.now }
 {
     let Shape::Pointer(to) = checker.shape_of(x.type_id) else {
@@ -87,7 +88,7 @@ fn dereference(checker: &Checker, place: Place, x: Value) -> Result<Value, Check
     if is_void(checker.shape_of(to)) {
         return Err(broken(Rule::BadDeref, place));
     }
-    Ok(Value {
+    Ok(TypedValue {
         tree: x.tree,
         type_id: to,
         category: Category::At(Addressing::Indirect),
@@ -121,8 +122,8 @@ fn stepped(
     place: Place,
     direction: Direction,
     fixity: Fixity,
-    x: Value,
-) -> Result<Value, CheckError>
+    x: TypedValue,
+) -> Result<TypedValue, CheckError>
     ensures { MakesValue result
         (stepped place (tables checker.now) (is_down direction) (is_prefix fixity)
         (view_value x)) }
@@ -133,7 +134,7 @@ fn stepped(
     let change = change_by(direction, size);
     let tree = Expression::Step(place, load_kind(shape), target_of(x), change, fixity);
     let tree = boxed(checker.alloc, tree)?;
-    Ok(Value::plain(tree, type_id))
+    Ok(TypedValue::plain(tree, type_id))
 }
 
 /// `++` or `--`, before or behind an object.
@@ -143,8 +144,8 @@ fn step(
     place: Place,
     direction: Direction,
     fixity: Fixity,
-    x: Value,
-) -> Result<Value, CheckError>
+    x: TypedValue,
+) -> Result<TypedValue, CheckError>
     ensures { GivesValue checker.now result
         (step_at place (is_down direction) (is_prefix fixity) (one x)) checker.now }
 {
@@ -165,14 +166,19 @@ fn step(
 }
 
 /// A minus sign, which takes a value from 0.
-fn negated(alloc: Global, place: Place, x: Value, type_id: usize) -> Result<Value, CheckError>
+fn negated(
+    alloc: Global,
+    place: Place,
+    x: TypedValue,
+    type_id: usize,
+) -> Result<TypedValue, CheckError>
     ensures { MakesValue result (negated place (view_value x) type_id) }
 {
-    let zero = Value::number(alloc, 0, INT_ID)?;
+    let zero = TypedValue::number(alloc, 0, INT_ID)?;
     operated(
         alloc,
         place,
-        Deed::Operates(Operator::Subtract),
+        WordOperation::Operates(Operator::Subtract),
         type_id,
         zero,
         x,
@@ -180,14 +186,19 @@ fn negated(alloc: Global, place: Place, x: Value, type_id: usize) -> Result<Valu
 }
 
 /// `~`, which differs from the value in each bit.
-fn complemented(alloc: Global, place: Place, x: Value, type_id: usize) -> Result<Value, CheckError>
+fn complemented(
+    alloc: Global,
+    place: Place,
+    x: TypedValue,
+    type_id: usize,
+) -> Result<TypedValue, CheckError>
     ensures { MakesValue result (complemented place (view_value x) type_id) }
 {
-    let ones = Value::number(alloc, u32::MAX, INT_ID)?;
+    let ones = TypedValue::number(alloc, u32::MAX, INT_ID)?;
     operated(
         alloc,
         place,
-        Deed::Operates(Operator::Xor),
+        WordOperation::Operates(Operator::Xor),
         type_id,
         x,
         ones,
@@ -195,12 +206,12 @@ fn complemented(alloc: Global, place: Place, x: Value, type_id: usize) -> Result
 }
 
 /// `!`
-fn inverted(alloc: Global, place: Place, x: Value) -> Result<Value, CheckError>
+fn inverted(alloc: Global, place: Place, x: TypedValue) -> Result<TypedValue, CheckError>
     ensures { MakesValue result (inverted place (view_value x)) }
 {
     let known = known_not(x.known);
     let tree = boxed(alloc, Expression::Not(place, x.tree))?;
-    Ok(Value::of_known(tree, INT_ID, known))
+    Ok(TypedValue::of_known(tree, INT_ID, known))
 }
 
 /// An operator before its operand, which has a place of its own and is this name, perhaps.
@@ -210,8 +221,8 @@ pub fn prefix(
     operand: Place,
     operator: PrefixOperator,
     name: Option<Name>,
-    x: Value,
-) -> Result<Value, CheckError>
+    x: TypedValue,
+) -> Result<TypedValue, CheckError>
     ensures { GivesValue checker.new result
         (prefix_at place operand operator name (one x)) checker.old }
 {
@@ -228,7 +239,7 @@ pub fn prefix(
             let x = scalar(checker, place, x)?;
             let x = integer(checker, place, x)?;
             let type_id = promoted(checker.shape_of(x.type_id));
-            Ok(Value::of_known(x.tree, type_id, x.known))
+            Ok(TypedValue::of_known(x.tree, type_id, x.known))
         }
         PrefixOperator::Minus => {
             let x = value(checker, operand, x)?;
@@ -257,8 +268,8 @@ pub fn postfix(
     checker: &Checker,
     place: Place,
     operator: PostfixOperator,
-    x: Value,
-) -> Result<Value, CheckError>
+    x: TypedValue,
+) -> Result<TypedValue, CheckError>
     ensures { GivesValue checker.now result (postfix_at place operator (one x)) checker.now }
 {
     match operator {

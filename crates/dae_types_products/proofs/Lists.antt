@@ -9,7 +9,7 @@ use Rattle.dae_types_file_plans.specs.Files.{Product, Declares, Data, Body}
 use Rattle.dae_types_file_plans.specs.declared.declarations.FileDeclaration.{FileDeclaration}
 use Rattle.dae_types_typed.specs.declared.files.Datum.{Datum}
 use Rattle.dae_types_typed.specs.declared.files.TypedFunction.{TypedFunction}
-use Rattle.dae_types_typed.specs.Reading.{Written, contents_in, declarations_in, places_in, view_data, view_functions, written_in}
+use Rattle.dae_types_typed.specs.Reading.{WrittenFunction, contents_in, declarations_in, places_in, view_data, view_functions, written_in}
 use Rattle.dae_types_products.specs.declared.products.Product.{Product as ProductInMemory}
 use Rattle.dae_types_products.specs.declared.products.Product.TheVariants as product
 use Rattle.dae_types_products.specs.declared.products.Body.{Body as BodyInMemory}
@@ -95,7 +95,7 @@ abbrev given : {A : Type 0} → A → Result A Breach → A
 given d (Ok x) = x
 given d (Err f) = d
 
-pub functions_further : (s : Tables) (spellings : List (List ℕ)) (fs new : List TypedFunction) (f : TypedFunction) (bs : List BodyInMemory) (b : BodyInMemory) (p : Place) → new ≡ fs ++ f ∷ [] → ◌≡◌ {A = Result (Written × Place) Breach} (Ok (written_of s spellings b, p)) (Ok (view_placed f)) → view_functions fs ≡ written_all s spellings bs → view_functions new ≡ written_all s spellings (bs ++ b ∷ [])
+pub functions_further : (s : Tables) (spellings : List (List ℕ)) (fs new : List TypedFunction) (f : TypedFunction) (bs : List BodyInMemory) (b : BodyInMemory) (p : Place) → new ≡ fs ++ f ∷ [] → ◌≡◌ {A = Result (WrittenFunction × Place) Breach} (Ok (written_of s spellings b, p)) (Ok (view_placed f)) → view_functions fs ≡ written_all s spellings bs → view_functions new ≡ written_all s spellings (bs ++ b ∷ [])
 functions_further s spellings fs new f bs b p is made h =
     let x : written_of s spellings b ≡ view_function f = ap (λ r. let z = given (view_placed f) r in z.0) made in
     ap view_functions is ∙ functions_append fs (f ∷ []) ∙ ap (λ gs. gs ++ view_functions (f ∷ [])) h ∙ ap (λ w. written_all s spellings bs ++ w ∷ []) (sym x) ∙ sym (all_append s spellings bs (b ∷ []))
@@ -104,7 +104,7 @@ places_moved : (xs : List Place) (p : Place) (ys : List Place) → (xs ++ p ∷ 
 places_moved [] p ys = refl
 places_moved (x ∷ xs) p ys = ap (λ zs. x ∷ zs) (places_moved xs p ys)
 
-pub places_further : (w : Written) (fs new : List TypedFunction) (f : TypedFunction) (p : Place) (rest others places : List Place) → new ≡ fs ++ f ∷ [] → ◌≡◌ {A = Result (Written × Place) Breach} (Ok (w, p)) (Ok (view_placed f)) → rest ≡ p ∷ others → places_in fs ++ rest ≡ places → places_in new ++ others ≡ places
+pub places_further : (w : WrittenFunction) (fs new : List TypedFunction) (f : TypedFunction) (p : Place) (rest others places : List Place) → new ≡ fs ++ f ∷ [] → ◌≡◌ {A = Result (WrittenFunction × Place) Breach} (Ok (w, p)) (Ok (view_placed f)) → rest ≡ p ∷ others → places_in fs ++ rest ≡ places → places_in new ++ others ≡ places
 places_further w fs new f p rest others places is made r h =
     let x : p ≡ f.place = ap (λ y. let z = given (view_placed f) y in z.1) made in
     ap (λ gs. places_in gs ++ others) is ∙ ap (λ ps. ps ++ others) (places_append fs (f ∷ [])) ∙ places_moved (places_in fs) f.place others ∙ ap (λ q. places_in fs ++ q ∷ others) (sym x) ∙ ap (λ ps. places_in fs ++ ps) (sym r) ∙ h

@@ -3,7 +3,7 @@ use Rattle.std.proofs.Common.{◌≡◌, ℕ, zero, suc, ◌+◌, ◌<◌, ◌�
 use Rattle.std.proofs.Math.ListN.{get_or}
 use Rattle.std.proofs.Math.Nat.{max-zero}
 use Rattle.std.proofs.lemmas.List.{drop_more, drop_all}
-use Rattle.dae_program.specs.declared.program.Slot.{Slot}
+use Rattle.dae_program.specs.declared.program.FrameSlot.{FrameSlot}
 use Rattle.std.specs.Prelude.{Option}
 use Rattle.dae_base.proofs.Laws.{append_further}
 use Rattle.dae_types_kinds.specs.declared.tables.Local.{Local}
@@ -43,12 +43,12 @@ slots_without_storages s (suc n) [] = refl
 slots_without_storages s (suc n) (x ∷ xs) = refl
 
 -- none are left to be stored
-pub slots_done : (s : Tables) (n : ℕ) (xs : List Local) (rest : List Storage) (done total : List (Option Slot)) → rest ≡ [] → done ++ slots_of s n xs rest ≡ total → total ≡ done
+pub slots_done : (s : Tables) (n : ℕ) (xs : List Local) (rest : List Storage) (done total : List (Option FrameSlot)) → rest ≡ [] → done ++ slots_of s n xs rest ≡ total → total ≡ done
 slots_done s n xs rest done total r h = sym h ∙ ap (λ ys. done ++ slots_of s n xs ys) r ∙ ap (λ zs. done ++ zs) (slots_without_storages s n xs) ∙ append-nil done
 
-pub slots_ended : (s : Tables) (n : ℕ) (xs : List Local) (i : ℕ) (rest : List Storage) (done total : List (Option Slot)) → length xs ≤ i → done ++ slots_of s n (drop i xs) rest ≡ total → total ≡ done
+pub slots_ended : (s : Tables) (n : ℕ) (xs : List Local) (i : ℕ) (rest : List Storage) (done total : List (Option FrameSlot)) → length xs ≤ i → done ++ slots_of s n (drop i xs) rest ≡ total → total ≡ done
 slots_ended s n xs i rest done total l h = sym h ∙ ap (λ ys. done ++ slots_of s n ys rest) (drop_all i xs l) ∙ ap (λ zs. done ++ zs) (slots_without_locals s n rest) ∙ append-nil done
 
-pub slots_further : (s : Tables) (left n : ℕ) (xs : List Local) (i : ℕ) (d : Local) (y : Storage) (rest others : List Storage) (done next total : List (Option Slot)) (slot : Option Slot) → i < length xs → left ≡ suc n → rest ≡ y ∷ others → slot ≡ slot_of s (get_or xs i d) y → next ≡ done ++ slot ∷ [] → done ++ slots_of s left (drop i xs) rest ≡ total → next ++ slots_of s n (drop (i + 1) xs) others ≡ total
+pub slots_further : (s : Tables) (left n : ℕ) (xs : List Local) (i : ℕ) (d : Local) (y : Storage) (rest others : List Storage) (done next total : List (Option FrameSlot)) (slot : Option FrameSlot) → i < length xs → left ≡ suc n → rest ≡ y ∷ others → slot ≡ slot_of s (get_or xs i d) y → next ≡ done ++ slot ∷ [] → done ++ slots_of s left (drop i xs) rest ≡ total → next ++ slots_of s n (drop (i + 1) xs) others ≡ total
 slots_further s left n xs i d y rest others done next total slot h more r is e t =
     rw (e, is) (append_further done (slot_of s (get_or xs i d) y) (slots_of s n (drop (i + 1) xs) others) ∙ both_further (λ zs ys. done ++ slots_of s (suc n) zs ys) xs i d y rest others h r ∙ ap (λ k. done ++ slots_of s k (drop i xs) rest) (sym more) ∙ t)

@@ -12,18 +12,18 @@ use Rattle.dae_types_plans.specs.Steps.{parameter_types}
 use Rattle.dae_types_file_plans.specs.Files.{Product}
 use Rattle.dae_types_typed.specs.declared.files.TypedFunction.{TypedFunction}
 use Rattle.dae_types_typed.specs.Frames.{frame_of, slots_of, variables_of}
-use Rattle.dae_types_typed.specs.Reading.{Written, contents_in, declarations_in, places_in, view_data, view_functions, written_in}
+use Rattle.dae_types_typed.specs.Reading.{WrittenFunction, contents_in, declarations_in, places_in, view_data, view_functions, written_in}
 use Rattle.dae_types_typed.specs.Sound.{routine_named}
 use Rattle.dae_types_products.specs.declared.products.Body.{Body as BodyInMemory}
 use Rattle.dae_types_products.specs.declared.products.Product.{Product as ProductInMemory}
 use Rattle.dae_types_products.specs.declared.sorting.Sorted.{Sorted}
 use Rattle.dae_types_products.specs.Products.{as_products}
 
-abbrev pub view_function : TypedFunction → Written
+abbrev pub view_function : TypedFunction → WrittenFunction
 view_function f = record { routine = f.routine; name = f.name; parameters = f.parameters; variables = f.variables; frame = f.frame; body = view_statements f.body }
 
 -- a function's body, with the tables and names of the file
-abbrev pub written_by : Tables → List (List ℕ) → ℕ → List Local → List Storage → Statements → Written
+abbrev pub written_by : Tables → List (List ℕ) → ℕ → List Local → List Storage → Statements → WrittenFunction
 written_by s spellings f locals storages body =
     let n = length (parameter_types s f) in
     record {
@@ -35,17 +35,17 @@ written_by s spellings f locals storages body =
       body = body;
     }
 
-abbrev pub written_of : Tables → List (List ℕ) → BodyInMemory → Written
+abbrev pub written_of : Tables → List (List ℕ) → BodyInMemory → WrittenFunction
 written_of s spellings b = written_by s spellings b.routine b.locals.items b.storages.items (view_statements b.statements.items)
 
-abbrev pub view_placed : TypedFunction → Written × Place
+abbrev pub view_placed : TypedFunction → WrittenFunction × Place
 view_placed f = (view_function f, f.place)
 
 -- functions in order, with their places
-abbrev pub view_all : Vec TypedFunction Global → List Written × List Place
+abbrev pub view_all : Vec TypedFunction Global → List WrittenFunction × List Place
 view_all fs = (view_functions fs.items, places_in fs.items)
 
-abbrev pub written_all : Tables → List (List ℕ) → List BodyInMemory → List Written
+abbrev pub written_all : Tables → List (List ℕ) → List BodyInMemory → List WrittenFunction
 written_all s spellings [] = []
 written_all s spellings (b ∷ bs) = written_of s spellings b ∷ written_all s spellings bs
 

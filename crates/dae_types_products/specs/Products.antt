@@ -3,7 +3,7 @@ use Rattle.std.specs.Prelude.{ℕ, List, [], ◌∷◌, Vec, Result, Ok}
 use Rattle.std.specs.declared.alloc.Global.{Global}
 use Rattle.dae_program.specs.Views.{view_settings, view_statements}
 use Rattle.dae_types_kinds.specs.declared.rules.CheckError.{CheckError}
-use Rattle.dae_types_rules.specs.Plan.{Plan, Gives}
+use Rattle.dae_types_rules.specs.Plan.{CheckPlan, Gives}
 use Rattle.dae_types_file_plans.specs.Files.{Product, Declares, Data, Body}
 use Rattle.dae_types_tables.specs.declared.checker.Checker.{Checker}
 use Rattle.dae_types_tables.specs.Seen.{FollowsBy}
@@ -31,5 +31,5 @@ abbrev pub MakesProducts : Result (Vec ProductInMemory Global) CheckError → Li
 MakesProducts r xs = Gives as_products r (Ok xs)
 
 -- the products that a plan says, up to the first broken rule
-abbrev pub GivesProducts : Checker → Result (Vec ProductInMemory Global) CheckError → Plan (List Product) → Checker → Type 0
+abbrev pub GivesProducts : Checker → Result (Vec ProductInMemory Global) CheckError → CheckPlan (List Product) → Checker → Type 0
 GivesProducts new r m old = FollowsBy as_products new r m old

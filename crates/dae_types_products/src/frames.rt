@@ -7,7 +7,7 @@ ghost use Rattle.dae_types_rules.specs.Plan.{Gives};
 ghost use Rattle.dae_types_tables.specs.Seen.{tables};
 ghost use Rattle.dae_types_typed.specs.Frames.{end_of, frame_of, is_variable, last_end, slot_of, slots_of, variables_of};
 
-use dae_program::Slot;
+use dae_program::FrameSlot;
 use dae_types_folding::load_kind;
 use dae_types_kinds::{CheckError, Local, Storage, word_behind, word_for};
 use dae_types_tables::Checker;
@@ -65,12 +65,12 @@ pub fn count_variables(parameters: usize, storages: &[Storage]) -> u32
 }
 
 /// Where a parameter is stored at the entry, if it is.
-fn slot_of(checker: &Checker, local: Local, storage: Storage) -> Option<Slot>
+fn slot_of(checker: &Checker, local: Local, storage: Storage) -> Option<FrameSlot>
     ensures { result ≡ slot_of (tables checker.now) local storage }
 {
     match storage {
         Storage::Variable(_) => None,
-        Storage::Frame(offset) => Some(Slot {
+        Storage::Frame(offset) => Some(FrameSlot {
             offset,
             width: load_kind(checker.shape_of(local.type_id)).width(),
         }),
@@ -83,7 +83,7 @@ pub fn slots_of(
     parameters: usize,
     locals: &[Local],
     storages: &[Storage],
-) -> Result<Vec<Option<Slot>>, CheckError>
+) -> Result<Vec<Option<FrameSlot>>, CheckError>
     ensures { Gives (λ slots. slots.items) result
         (Ok (slots_of (tables checker.now) parameters locals.now storages.now)) }
 {

@@ -6,14 +6,14 @@ use Rattle.dae_types_kinds.specs.declared.rules.Breach.{Breach}
 use Rattle.dae_types_kinds.specs.Tables.{Tables}
 use Rattle.dae_types_rules.specs.Sites.{Site, place}
 use Rattle.dae_types_rules.specs.Table.{breaks, asked, any_broken, is_broken}
-use Rattle.dae_types_rules.specs.Plan.{Mark, Plan, pure, both, node, maps, mapped, chain, pardons, settles, unless_spoiled, Walked, or_else, followed, chained, some_broken, kept, at_node, pardoned, settled, walk_of, BrokenIn, IsChecked, ◌>>=◌, ask_in, ask_all, check_of}
+use Rattle.dae_types_rules.specs.Plan.{BrokenName, CheckPlan, pure, both, node, maps, mapped, chain, pardons, settles, unless_spoiled, PlanWalked, or_else, followed, chained, some_broken, kept, at_node, pardoned, settled, walk_of, BrokenIn, IsChecked, ◌>>=◌, ask_in, ask_all, check_of}
 use Rattle.dae_types_rules.proofs.Asking.{is_asked, any_among}
 
 abbrev pub AllQuiet : List Site → Type 0
 AllQuiet [] = Unit {0}
 AllQuiet (s ∷ ss) = (is_broken s ≡ false) × AllQuiet ss
 
-abbrev pub Agrees : {A : Type 0} → Result (Tables × A) Breach → Walked A → Type 0
+abbrev pub Agrees : {A : Type 0} → Result (Tables × A) Breach → PlanWalked A → Type 0
 Agrees (Ok x) w = (w.state ≡ x.0) × (w.value ≡ Some x.1) × AllQuiet w.sites × (w.spoiled ≡ [])
 Agrees (Err f) w = BrokenIn w.sites f.rule f.place
 
@@ -55,58 +55,58 @@ all_asked (s ∷ ss) after = all_by s ss (ask_in (asked s) s (ask_all ss after))
 
 -- ---- the words of plans
 
-node_failed : {A B : Type 0} (f : Tables → A → List Site) (g : Tables → A → Tables × B) (v : Option A) (w : Walked A) (r : Rule) (p : Place) → BrokenIn w.sites r p → BrokenIn (at_node f g v w).sites r p
+node_failed : {A B : Type 0} (f : Tables → A → List Site) (g : Tables → A → Tables × B) (v : Option A) (w : PlanWalked A) (r : Rule) (p : Place) → BrokenIn w.sites r p → BrokenIn (at_node f g v w).sites r p
 node_failed f g None w r p h = h
 node_failed f g (Some x) w r p h = broken_left w.sites (f w.state x) r p h
 
-node_ends : {B : Type 0} (w : List Site) (ms : List Mark) (ss : List Site) (y : Tables × B) (r : Result (Tables × B) Breach) → AllQuiet w → ms ≡ [] → Asked ss r (Ok y) → Agrees r (record { state = y.0; value = kept (some_broken ss) y.1; sites = w ++ ss; spoiled = ms })
+node_ends : {B : Type 0} (w : List Site) (ms : List BrokenName) (ss : List Site) (y : Tables × B) (r : Result (Tables × B) Breach) → AllQuiet w → ms ≡ [] → Asked ss r (Ok y) → Agrees r (record { state = y.0; value = kept (some_broken ss) y.1; sites = w ++ ss; spoiled = ms })
 node_ends w ms ss y r q z (inl h) = rw h.1 (broken_right w ss h.0.rule h.0.place h.2)
 node_ends w ms ss y r q z (inr h) = rw (h.0, h.1) (refl, refl, quiet_append w ss q h.2, z)
 
-agree_node : {A B : Type 0} (f : Tables → A → List Site) (g : Tables → A → Tables × B) (m : Result (Tables × A) Breach) (w : Walked A) → Agrees m w → Agrees (m >>= λ x. ask_all (f x.0 x.1) (Ok (g x.0 x.1))) (at_node f g w.value w)
+agree_node : {A B : Type 0} (f : Tables → A → List Site) (g : Tables → A → Tables × B) (m : Result (Tables × A) Breach) (w : PlanWalked A) → Agrees m w → Agrees (m >>= λ x. ask_all (f x.0 x.1) (Ok (g x.0 x.1))) (at_node f g w.value w)
 agree_node f g (Err e) w h = node_failed f g w.value w e.rule e.place h
 agree_node f g (Ok x) w h = rw (h.1, h.0) (node_ends w.sites w.spoiled (f x.0 x.1) (g x.0 x.1) (ask_all (f x.0 x.1) (Ok (g x.0 x.1))) h.2 h.3 (all_asked (f x.0 x.1) (Ok (g x.0 x.1))))
 
-agree_pair : {A B : Type 0} (x : A) (n : Result (Tables × B) Breach) (w : Walked A) (v : Walked B) → w.value ≡ Some x → AllQuiet w.sites → Agrees n v → Agrees (n >>= λ y. Ok (y.0, (x, y.1))) (followed w v)
+agree_pair : {A B : Type 0} (x : A) (n : Result (Tables × B) Breach) (w : PlanWalked A) (v : PlanWalked B) → w.value ≡ Some x → AllQuiet w.sites → Agrees n v → Agrees (n >>= λ y. Ok (y.0, (x, y.1))) (followed w v)
 agree_pair x (Err e) w v q a h = broken_right w.sites v.sites e.rule e.place h
 agree_pair x (Ok y) w v q a h = (h.0, rw (q, h.1) refl, quiet_append w.sites v.sites a h.2, h.3)
 
-agree_both : {A B : Type 0} (m : Result (Tables × A) Breach) (n : Tables → Result (Tables × B) Breach) (w : Walked A) (v : Tables → List Mark → Walked B) → Agrees m w → ((s : Tables) → Agrees (n s) (v s [])) → Agrees (m >>= λ x. n x.0 >>= λ y. Ok (y.0, (x.1, y.1))) (followed w (v w.state w.spoiled))
+agree_both : {A B : Type 0} (m : Result (Tables × A) Breach) (n : Tables → Result (Tables × B) Breach) (w : PlanWalked A) (v : Tables → List BrokenName → PlanWalked B) → Agrees m w → ((s : Tables) → Agrees (n s) (v s [])) → Agrees (m >>= λ x. n x.0 >>= λ y. Ok (y.0, (x.1, y.1))) (followed w (v w.state w.spoiled))
 agree_both (Err e) n w v h k = broken_left w.sites (v w.state w.spoiled).sites e.rule e.place h
 agree_both (Ok x) n w v h k =
     let one : Agrees (n x.0 >>= λ y. Ok (y.0, (x.1, y.1))) (followed w (v x.0 [])) = agree_pair x.1 (n x.0) w (v x.0 []) h.1 h.2 (k x.0) in
     let two : Agrees (n x.0 >>= λ y. Ok (y.0, (x.1, y.1))) (followed w (v w.state [])) = subst (λ (s : Tables). Agrees (n x.0 >>= λ y. Ok (y.0, (x.1, y.1))) (followed w (v s []))) (sym h.0) one in
-    subst (λ (ms : List Mark). Agrees (n x.0 >>= λ y. Ok (y.0, (x.1, y.1))) (followed w (v w.state ms))) (sym h.3) two
+    subst (λ (ms : List BrokenName). Agrees (n x.0 >>= λ y. Ok (y.0, (x.1, y.1))) (followed w (v w.state ms))) (sym h.3) two
 
-agree_behind : {A B : Type 0} (x : A) (n : Result (Tables × B) Breach) (w : Walked A) (v : Walked B) → w.value ≡ Some x → AllQuiet w.sites → Agrees n v → Agrees n (chained w v)
+agree_behind : {A B : Type 0} (x : A) (n : Result (Tables × B) Breach) (w : PlanWalked A) (v : PlanWalked B) → w.value ≡ Some x → AllQuiet w.sites → Agrees n v → Agrees n (chained w v)
 agree_behind x (Err e) w v q a h = broken_right w.sites v.sites e.rule e.place h
 agree_behind x (Ok y) w v q a h = (h.0, rw (q, h.1) refl, quiet_append w.sites v.sites a h.2, h.3)
 
-agree_chain : {A B : Type 0} (d : A) (m : Result (Tables × A) Breach) (n : A → Tables → Result (Tables × B) Breach) (w : Walked A) (v : A → Tables → List Mark → Walked B) → Agrees m w → ((x : A) (s : Tables) → Agrees (n x s) (v x s [])) → Agrees (m >>= λ x. n x.1 x.0) (chained w (v (or_else d w.value) w.state w.spoiled))
+agree_chain : {A B : Type 0} (d : A) (m : Result (Tables × A) Breach) (n : A → Tables → Result (Tables × B) Breach) (w : PlanWalked A) (v : A → Tables → List BrokenName → PlanWalked B) → Agrees m w → ((x : A) (s : Tables) → Agrees (n x s) (v x s [])) → Agrees (m >>= λ x. n x.1 x.0) (chained w (v (or_else d w.value) w.state w.spoiled))
 agree_chain d (Err e) n w v h k = broken_left w.sites (v (or_else d w.value) w.state w.spoiled).sites e.rule e.place h
 agree_chain {A = A} d (Ok x) n w v h k =
     let one : Agrees (n x.1 x.0) (chained w (v x.1 x.0 [])) = agree_behind x.1 (n x.1 x.0) w (v x.1 x.0 []) h.1 h.2 (k x.1 x.0) in
     let two : Agrees (n x.1 x.0) (chained w (v x.1 w.state [])) = subst (λ (s : Tables). Agrees (n x.1 x.0) (chained w (v x.1 s []))) (sym h.0) one in
-    let three : Agrees (n x.1 x.0) (chained w (v x.1 w.state w.spoiled)) = subst (λ (ms : List Mark). Agrees (n x.1 x.0) (chained w (v x.1 w.state ms))) (sym h.3) two in
+    let three : Agrees (n x.1 x.0) (chained w (v x.1 w.state w.spoiled)) = subst (λ (ms : List BrokenName). Agrees (n x.1 x.0) (chained w (v x.1 w.state ms))) (sym h.3) two in
     subst (λ (y : Option A). Agrees (n x.1 x.0) (chained w (v (or_else d y) w.state w.spoiled))) (sym h.1) three
 
-maps_failed : {A B : Type 0} (g : Tables → A → Tables × B) (v : Option A) (w : Walked A) (r : Rule) (p : Place) → BrokenIn w.sites r p → BrokenIn (mapped g v w).sites r p
+maps_failed : {A B : Type 0} (g : Tables → A → Tables × B) (v : Option A) (w : PlanWalked A) (r : Rule) (p : Place) → BrokenIn w.sites r p → BrokenIn (mapped g v w).sites r p
 maps_failed g None w r p h = h
 maps_failed g (Some x) w r p h = h
 
-agree_maps : {A B : Type 0} (g : Tables → A → Tables × B) (m : Result (Tables × A) Breach) (w : Walked A) → Agrees m w → Agrees (m >>= λ x. Ok (g x.0 x.1)) (mapped g w.value w)
+agree_maps : {A B : Type 0} (g : Tables → A → Tables × B) (m : Result (Tables × A) Breach) (w : PlanWalked A) → Agrees m w → Agrees (m >>= λ x. Ok (g x.0 x.1)) (mapped g w.value w)
 agree_maps g (Err e) w h = maps_failed g w.value w e.rule e.place h
 agree_maps g (Ok x) w h = rw (h.1, h.0) (refl, refl, h.2, h.3)
 
-agree_pardons : {A : Type 0} (d : A) (m : Result (Tables × A) Breach) (w : Walked A) → Agrees m w → Agrees m (pardoned d w)
+agree_pardons : {A : Type 0} (d : A) (m : Result (Tables × A) Breach) (w : PlanWalked A) → Agrees m w → Agrees m (pardoned d w)
 agree_pardons d (Err e) w h = h
 agree_pardons d (Ok x) w h = (h.0, rw h.1 refl, h.2, h.3)
 
-agree_settles : {A : Type 0} (n : Mark) (m : Result (Tables × A) Breach) (w : Walked A) → Agrees m w → Agrees m (settled n w)
+agree_settles : {A : Type 0} (n : BrokenName) (m : Result (Tables × A) Breach) (w : PlanWalked A) → Agrees m w → Agrees m (settled n w)
 agree_settles n (Err e) w h = h
 agree_settles n (Ok x) w h = (h.0, h.1, h.2, rw (h.1, h.3) refl)
 
-pub agree : {A : Type 0} (m : Plan A) (s : Tables) → Agrees (check_of m s) (walk_of m s [])
+pub agree : {A : Type 0} (m : CheckPlan A) (s : Tables) → Agrees (check_of m s) (walk_of m s [])
 agree (pure x) s = (refl, refl, tt, refl)
 agree (both m n) s = agree_both (check_of m s) (check_of n) (walk_of m s []) (walk_of n) (agree m s) (λ t. agree n t)
 agree (node f g m) s = agree_node f g (check_of m s) (walk_of m s []) (agree m s)
@@ -124,9 +124,9 @@ quiet_unbroken (s ∷ ss) r p q (inl h) = let e : true ≡ false = sym (any_amon
 quiet_unbroken (s ∷ ss) r p q (inr h) = quiet_unbroken ss r p q.1 h
 
 -- what a check answers is what the table says
-checked_by : {A : Type 0} (m : Plan A) (s : Tables) (r : Result (Tables × A) Breach) → Agrees r (walk_of m s []) → IsChecked m s r
+checked_by : {A : Type 0} (m : CheckPlan A) (s : Tables) (r : Result (Tables × A) Breach) → Agrees r (walk_of m s []) → IsChecked m s r
 checked_by m s (Ok x) h = ((h.0, h.1), λ r p. quiet_unbroken (walk_of m s []).sites r p h.2)
 checked_by m s (Err f) h = h
 
-pub check_is_table : {A : Type 0} (m : Plan A) (s : Tables) → IsChecked m s (check_of m s)
+pub check_is_table : {A : Type 0} (m : CheckPlan A) (s : Tables) → IsChecked m s (check_of m s)
 check_is_table m s = checked_by m s (check_of m s) (agree m s)

@@ -14,7 +14,7 @@ use Rattle.dae_types_kinds.specs.declared.tables.Entity.{Entity}
 use Rattle.dae_types_kinds.specs.declared.tables.Entity.TheVariants as entity
 use Rattle.dae_types_kinds.specs.declared.tables.Tagged.{Tagged}
 use Rattle.dae_types_kinds.specs.declared.tables.Tagged.TheVariants as tagged
-use Rattle.dae_types_kinds.specs.declared.tables.Object.{Object}
+use Rattle.dae_types_kinds.specs.declared.tables.StaticObject.{StaticObject}
 use Rattle.dae_types_kinds.specs.declared.tables.Routine.{Routine}
 use Rattle.dae_types_kinds.specs.declared.values.Known.{Known}
 use Rattle.dae_types_kinds.specs.declared.values.Known.TheVariants as known
@@ -134,7 +134,7 @@ clashes_with_function s t own (Some (entity.Function n)) = not (is_again s t own
 clashes_with_function s t own (Some e) = true
 
 -- an object may be declared again with the same type and linkage, which extern leaves as it is
-abbrev pub is_same_object : Tables → ℕ → Option Keyword → Option Object → Bool
+abbrev pub is_same_object : Tables → ℕ → Option Keyword → Option StaticObject → Bool
 is_same_object s t k None = false
 is_same_object s t k (Some o) = same s o.type_id t && (is_extern k || (if is_static k then o.own else not o.own))
 
@@ -143,7 +143,7 @@ clashes_with_object s t k None = false
 clashes_with_object s t k (Some (entity.Object n)) = not (is_same_object s t k (slice_get s.objects n))
 clashes_with_object s t k (Some e) = true
 
-abbrev pub initialised_or : Option Object → Bool
+abbrev pub initialised_or : Option StaticObject → Bool
 initialised_or None = false
 initialised_or (Some o) = o.initialised
 

@@ -8,7 +8,7 @@ use Rattle.std.specs.Str.{bytes_eq}
 use Rattle.dae_base.proofs.Laws.{and_first, and_second}
 use Rattle.dae_types_kinds.specs.declared.tables.Entity.{Entity}
 use Rattle.dae_types_kinds.specs.declared.tables.Entity.TheVariants as entity
-use Rattle.dae_types_kinds.specs.declared.tables.Object.{Object}
+use Rattle.dae_types_kinds.specs.declared.tables.StaticObject.{StaticObject}
 use Rattle.dae_types_kinds.specs.declared.tables.Routine.{Routine}
 use Rattle.dae_types_typed.specs.declared.files.FileParts.{FileParts}
 use Rattle.dae_types_typed.specs.Linkage.{name_in, object_name, routine_name, same_name}
@@ -67,7 +67,7 @@ both_new : (done : List (List ℕ)) (xs ys : List (Option (List ℕ))) → are_n
 both_new done [] ys h g = g
 both_new done (x ∷ xs) ys h g = and_from (is_new done x) (are_new (with_name done x) (xs ++ ys)) (and_first _ _ h) (both_new (with_name done x) xs ys (and_second _ _ h) g)
 
-object_at_front : (f : FileParts) (os : List Object) (ys : List (Option (List ℕ))) (n : ℕ) (x : List ℕ) → object_name f (slice_get os n) ≡ Some x → (slice_get (object_names f os ++ ys) n ≡ Some (Some x)) × (n < length os)
+object_at_front : (f : FileParts) (os : List StaticObject) (ys : List (Option (List ℕ))) (n : ℕ) (x : List ℕ) → object_name f (slice_get os n) ≡ Some x → (slice_get (object_names f os ++ ys) n ≡ Some (Some x)) × (n < length os)
 object_at_front f [] ys n x h = absurd cc
 object_at_front f (o ∷ os) ys zero x h = (ap Some h, omega arith)
 object_at_front f (o ∷ os) ys (suc n) x h = let q = object_at_front f os ys n x h in let l = q.1 in (q.0, omega (arith, l))
@@ -77,7 +77,7 @@ routine_there f [] n x h = absurd cc
 routine_there f (r ∷ rs) zero x h = ap Some h
 routine_there f (r ∷ rs) (suc n) x h = routine_there f rs n x h
 
-routine_behind : (f : FileParts) (os : List Object) (ys : List (Option (List ℕ))) (n : ℕ) → slice_get (object_names f os ++ ys) (length os + n) ≡ slice_get ys n
+routine_behind : (f : FileParts) (os : List StaticObject) (ys : List (Option (List ℕ))) (n : ℕ) → slice_get (object_names f os ++ ys) (length os + n) ≡ slice_get ys n
 routine_behind f [] ys n = let z : 0 + n ≡ n = omega arith in ap (slice_get ys) z
 routine_behind f (o ∷ os) ys n = let z : suc (length os) + n ≡ suc (length os + n) = omega arith in ap (slice_get (object_name f (Some o) ∷ (object_names f os ++ ys))) z ∙ routine_behind f os ys n
 

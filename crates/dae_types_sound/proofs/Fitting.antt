@@ -11,7 +11,7 @@ use Rattle.dae_types_kinds.specs.declared.types.Layout.{Layout}
 use Rattle.dae_types_kinds.specs.Types.{layout_at}
 use Rattle.dae_types_kinds.specs.Values.{object_type}
 use Rattle.dae_types_plans.specs.Steps.{parameter_types}
-use Rattle.dae_program.specs.Lawful.{Bounds, adds, number_of, if_number, is_good, is_named, is_checked_or_named, is_sound, is_sound_target, are_sound, is_sound_some, are_sound_items, are_sound_statements, are_sound_arms, are_inside, are_arms_inside, prints_bytes, arms_print_bytes, count, takes, is_word, is_byte, is_label_word, fits_frame, is_sound_slot, is_lawful_body}
+use Rattle.dae_program.specs.Lawful.{FunctionBounds, adds, number_of, if_number, is_good, is_named, is_checked_or_named, is_sound, is_sound_target, are_sound, is_sound_some, are_sound_items, are_sound_statements, are_sound_arms, are_inside, are_arms_inside, prints_bytes, arms_print_bytes, count, takes, is_word, is_byte, is_label_word, fits_frame, is_sound_slot, is_lawful_body}
 use Rattle.dae_program.specs.Views.{view_statements}
 use Rattle.dae_program.specs.Switches.{count_arms}
 use Rattle.dae_program.specs.Trees as tree
@@ -19,10 +19,10 @@ use Rattle.dae_program.specs.Trees.{Expression, Target, Expressions, Setting, St
 use Rattle.dae_types_typed.specs.declared.files.FileParts.{FileParts}
 use Rattle.dae_types_typed.specs.declared.files.TypedFunction.{TypedFunction}
 use Rattle.dae_types_typed.specs.Sound.{tables_of, is_used, is_called_main, is_sound_function, function_at, HasRoom, HaveRoom, AreCallable}
-use Rattle.dae_types_sound.specs.declared.extents.Extent.{Extent}
+use Rattle.dae_types_sound.specs.declared.extents.FunctionExtent.{FunctionExtent}
 use Rattle.dae_types_sound.specs.declared.extents.FileNames.{FileNames}
 use Rattle.dae_types_sound.specs.declared.extents.Jumps.{Jumps}
-use Rattle.dae_types_sound.specs.Fit.{has_bytes, is_in_object, names_bytes, is_checked_or_fit, known_count, parameters_at, is_fit, is_fit_target, are_fit, is_fit_some, is_fit_item, is_fit_aggregate, are_fit_statements, are_fit_arms, loop_jumps, switch_jumps, extent_of, body_jumps, has_parameters, is_fit_function}
+use Rattle.dae_types_sound.specs.Fit.{has_bytes, is_in_object, names_bytes, is_checked_or_fit, known_count, parameters_at, is_fit, is_fit_target, are_fit, is_fit_some, is_fit_item, is_fit_aggregate, are_fit_statements, are_fit_arms, loop_jumps, switch_jumps, function_extent, body_jumps, has_parameters, is_fit_function}
 use Rattle.dae_types_sound.proofs.Numbers.{good_within}
 
 -- the names are those that a file uses
@@ -35,8 +35,8 @@ by_number : (o : Option ℕ) (f g : ℕ → Bool) → ((j : ℕ) → f j ≡ tru
 by_number None f g h i = i
 by_number (Some j) f g h i = h j i
 
-module _ (f : FileParts) (n : FileNames) (are : AreUsed f n) (x : Extent) (memory : ℕ) (address : ℕ → ℕ) (parameters : ℕ → Option ℕ) (small : memory ≤ 2 ^ 26) (room : HaveRoom f memory address) (callable : AreCallable f parameters) where
-  abbrev b : Bounds
+module _ (f : FileParts) (n : FileNames) (are : AreUsed f n) (x : FunctionExtent) (memory : ℕ) (address : ℕ → ℕ) (parameters : ℕ → Option ℕ) (small : memory ≤ 2 ^ 26) (room : HaveRoom f memory address) (callable : AreCallable f parameters) where
+  abbrev b : FunctionBounds
   b = record { variables = x.variables; parameters = parameters; address = address; memory = memory; frame = x.frame }
 
   in_object : (width : Width) (object k : ℕ) → is_in_object n width object k ≡ true → is_good width (plus (address object) k) memory ≡ true
@@ -179,7 +179,7 @@ module _ (f : FileParts) (n : FileNames) (are : AreUsed f n) (x : Extent) (memor
         (and_from (are_sound_statements b t) (are_sound_arms b rest) (sound_statements j t (and_second _ _ here)) (sound_arms j rest (and_second _ _ h)))
 
 -- jumps stand where they may, also where a return may stand besides
-module _ (n : FileNames) (x : Extent) where
+module _ (n : FileNames) (x : FunctionExtent) where
   mutual
     pub inside : (j : Jumps) (returns : Bool) → (j.returns ≡ true → returns ≡ true) → (t : Statements) → are_fit_statements n x j t ≡ true → are_inside j.breaks j.continues returns t ≡ true
     inside j r i tree.Done h = h
@@ -246,22 +246,22 @@ module _ (n : FileNames) (x : Extent) where
 module _ (f : FileParts) (n : FileNames) (are : AreUsed f n) (memory : ℕ) (address : ℕ → ℕ) (parameters : ℕ → Option ℕ) (small : memory ≤ 2 ^ 26) (room : HaveRoom f memory address) (callable : AreCallable f parameters) where
   lawful : (t : TypedFunction) (returns : Bool) → is_fit_function f n t ≡ true → (not (is_called_main f t.routine) ≡ true → returns ≡ true) → is_lawful_body memory t.variables parameters returns (function_at address t) ≡ true
   lawful t returns h i =
-      let head = and_first (has_parameters f t) ((not (is_called_main f t.routine) || nat_eq (length t.parameters) 0) && are_fit_statements n (extent_of t) (body_jumps (not (is_called_main f t.routine))) (view_statements t.body)) h in
+      let head = and_first (has_parameters f t) ((not (is_called_main f t.routine) || nat_eq (length t.parameters) 0) && are_fit_statements n (function_extent t) (body_jumps (not (is_called_main f t.routine))) (view_statements t.body)) h in
       let more = and_second (nat_eq (length t.parameters) (length (parameter_types (tables_of f) t.routine))) ((nat_eq (t.frame % 4) 0 && nat_le (1 + length t.parameters) t.variables) && list_all (is_sound_slot t.frame) t.parameters) head in
-      let body = and_second _ _ (and_second (has_parameters f t) ((not (is_called_main f t.routine) || nat_eq (length t.parameters) 0) && are_fit_statements n (extent_of t) (body_jumps (not (is_called_main f t.routine))) (view_statements t.body)) h) in
-      let sound' = sound_statements f n are (extent_of t) memory address parameters small room callable (body_jumps (not (is_called_main f t.routine))) (view_statements t.body) body in
+      let body = and_second _ _ (and_second (has_parameters f t) ((not (is_called_main f t.routine) || nat_eq (length t.parameters) 0) && are_fit_statements n (function_extent t) (body_jumps (not (is_called_main f t.routine))) (view_statements t.body)) h) in
+      let sound' = sound_statements f n are (function_extent t) memory address parameters small room callable (body_jumps (not (is_called_main f t.routine))) (view_statements t.body) body in
       and_from
-      ((nat_eq (t.frame % 4) 0 && nat_le (1 + length t.parameters) t.variables) && (list_all (is_sound_slot t.frame) t.parameters && are_sound_statements (b f n are (extent_of t) memory address parameters small room callable) (view_statements t.body)))
+      ((nat_eq (t.frame % 4) 0 && nat_le (1 + length t.parameters) t.variables) && (list_all (is_sound_slot t.frame) t.parameters && are_sound_statements (b f n are (function_extent t) memory address parameters small room callable) (view_statements t.body)))
       (are_inside false false returns (view_statements t.body))
-      (and_from (nat_eq (t.frame % 4) 0 && nat_le (1 + length t.parameters) t.variables) (list_all (is_sound_slot t.frame) t.parameters && are_sound_statements (b f n are (extent_of t) memory address parameters small room callable) (view_statements t.body)) (and_first _ _ more)
-      (and_from (list_all (is_sound_slot t.frame) t.parameters) (are_sound_statements (b f n are (extent_of t) memory address parameters small room callable) (view_statements t.body)) (and_second _ _ more) sound'))
-      (inside n (extent_of t) (body_jumps (not (is_called_main f t.routine))) returns i (view_statements t.body) body)
+      (and_from (nat_eq (t.frame % 4) 0 && nat_le (1 + length t.parameters) t.variables) (list_all (is_sound_slot t.frame) t.parameters && are_sound_statements (b f n are (function_extent t) memory address parameters small room callable) (view_statements t.body)) (and_first _ _ more)
+      (and_from (list_all (is_sound_slot t.frame) t.parameters) (are_sound_statements (b f n are (function_extent t) memory address parameters small room callable) (view_statements t.body)) (and_second _ _ more) sound'))
+      (inside n (function_extent t) (body_jumps (not (is_called_main f t.routine))) returns i (view_statements t.body) body)
 
   sound_function : (t : TypedFunction) → is_fit_function f n t ≡ true → is_sound_function f memory address parameters t ≡ true
   sound_function t h =
       let main = is_called_main f t.routine in
-      let rest = and_second (has_parameters f t) ((not (is_called_main f t.routine) || nat_eq (length t.parameters) 0) && are_fit_statements n (extent_of t) (body_jumps (not (is_called_main f t.routine))) (view_statements t.body)) h in
-      let count' = and_first _ _ (and_first (has_parameters f t) ((not (is_called_main f t.routine) || nat_eq (length t.parameters) 0) && are_fit_statements n (extent_of t) (body_jumps (not (is_called_main f t.routine))) (view_statements t.body)) h) in
+      let rest = and_second (has_parameters f t) ((not (is_called_main f t.routine) || nat_eq (length t.parameters) 0) && are_fit_statements n (function_extent t) (body_jumps (not (is_called_main f t.routine))) (view_statements t.body)) h in
+      let count' = and_first _ _ (and_first (has_parameters f t) ((not (is_called_main f t.routine) || nat_eq (length t.parameters) 0) && are_fit_statements n (function_extent t) (body_jumps (not (is_called_main f t.routine))) (view_statements t.body)) h) in
       and_from
       (nat_eq (length t.parameters) (length (parameter_types (tables_of f) t.routine)) && is_lawful_body memory t.variables parameters true (function_at address t))
       (not main || (nat_eq (length t.parameters) 0 && is_lawful_body memory t.variables parameters false (function_at address t)))

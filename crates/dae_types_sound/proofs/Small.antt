@@ -6,9 +6,9 @@ use Rattle.std.specs.List.{list_all, list_any, AllByRecursion}
 use Rattle.dae_base.proofs.Laws.{append_further, and_first, and_second}
 use Rattle.dae_types_kinds.specs.declared.tables.Entity.{Entity}
 use Rattle.dae_types_kinds.specs.declared.tables.Entity.TheVariants as entity
-use Rattle.dae_types_kinds.specs.declared.tables.Object.{Object}
+use Rattle.dae_types_kinds.specs.declared.tables.StaticObject.{StaticObject}
 use Rattle.dae_types_kinds.specs.declared.tables.Routine.{Routine}
-use Rattle.dae_types_kinds.specs.declared.tables.Use.{Use}
+use Rattle.dae_types_kinds.specs.declared.tables.EntityUse.{EntityUse}
 use Rattle.dae_types_kinds.specs.declared.types.Layout.{Layout}
 use Rattle.dae_types_kinds.specs.declared.types.Shape.{Shape}
 use Rattle.dae_types_kinds.specs.declared.types.Shape.TheVariants as shape
@@ -119,7 +119,7 @@ entities_equal (entity.Object m) (entity.Object n) h = ap entity.Object (eqb-tru
 entities_equal (entity.Function m) (entity.Function n) h = ap entity.Function (eqb-true m n h)
 entities_equal x y h = absurd (false≢true h)
 
-used_sound : (f : FileParts) (e : Entity) (us : List Use) → list_all (is_sound_use f) us ≡ true → is_used us e ≡ true → (is_declared f e ≡ true) × (is_callable f e ≡ true)
+used_sound : (f : FileParts) (e : Entity) (us : List EntityUse) → list_all (is_sound_use f) us ≡ true → is_used us e ≡ true → (is_declared f e ≡ true) × (is_callable f e ≡ true)
 used_sound f e [] all h = absurd (false≢true h)
 used_sound f e (u ∷ us) all h = elim (or_cases (is_use_of e u) (list_any (is_use_of e) us) h) [
   | inl g ↦ (let same = entities_equal e u.entity g in
@@ -138,7 +138,7 @@ calls_sound f all n h =
 
 -- ---- what bodies may name
 
-abbrev layouts_from : FileParts → ℕ → List Object → List (Option Layout)
+abbrev layouts_from : FileParts → ℕ → List StaticObject → List (Option Layout)
 layouts_from f o [] = []
 layouts_from f o (x ∷ xs) = used_layout f o x ∷ layouts_from f (suc o) xs
 
@@ -146,7 +146,7 @@ nothing_behind : {A : Type 0} (xs : List A) → xs ≡ xs ++ []
 nothing_behind [] = refl
 nothing_behind (x ∷ xs) = ap (λ k. x ∷ k) (nothing_behind xs)
 
-layouts_behind : (f : FileParts) (done : List (Option Layout)) (o : ℕ) (xs : List Object) → used_layouts f done o xs ≡ done ++ layouts_from f o xs
+layouts_behind : (f : FileParts) (done : List (Option Layout)) (o : ℕ) (xs : List StaticObject) → used_layouts f done o xs ≡ done ++ layouts_from f o xs
 layouts_behind f done o [] = nothing_behind done
 layouts_behind f done o (x ∷ xs) = layouts_behind f (done ++ used_layout f o x ∷ []) (suc o) xs ∙ append_further done (used_layout f o x) (layouts_from f (suc o) xs)
 
@@ -154,7 +154,7 @@ used_if : {A : Type 0} (b : Bool) (x y : A) → (if b then Some x else None) ≡
 used_if true x y h = (refl, (let e : x ≡ y = cc in sym e))
 used_if false x y h = absurd cc
 
-layout_at_number : (f : FileParts) (o k : ℕ) (xs : List Object) (l : Layout) → slice_get (layouts_from f o xs) k ≡ Some (Some l) → (is_used f.uses (entity.Object (o + k)) ≡ true) × (l ≡ layout_at (tables_of f) (object_type (slice_get xs k)))
+layout_at_number : (f : FileParts) (o k : ℕ) (xs : List StaticObject) (l : Layout) → slice_get (layouts_from f o xs) k ≡ Some (Some l) → (is_used f.uses (entity.Object (o + k)) ≡ true) × (l ≡ layout_at (tables_of f) (object_type (slice_get xs k)))
 layout_at_number f o k [] l h = absurd cc
 layout_at_number f o zero (x ∷ xs) l h =
     let z : o + 0 ≡ o = omega arith in

@@ -26,7 +26,7 @@ use Rattle.dae_program.specs.Switches.{count_arms}
 use Rattle.dae_program.specs.Trees as tree
 use Rattle.dae_program.specs.Views.{row_then, statement_then, view, view_arms, view_expressions, view_settings, view_some, view_statements, arms_of}
 use Rattle.dae_program.proofs.LawsOfTrees.{statements_at, view_if, view_loop, view_do, view_switch}
-use Rattle.dae_types_sound.specs.declared.extents.Extent.{Extent}
+use Rattle.dae_types_sound.specs.declared.extents.FunctionExtent.{FunctionExtent}
 use Rattle.dae_types_sound.specs.declared.extents.FileNames.{FileNames}
 use Rattle.dae_types_sound.specs.declared.extents.Jumps.{Jumps}
 use Rattle.dae_types_sound.specs.Fit.{is_fit, is_fit_some, is_fit_item, is_fit_aggregate, are_fit, are_fit_statements, are_fit_arms, loop_jumps, switch_jumps}
@@ -36,7 +36,7 @@ use Rattle.dae_types_sound.specs.Fit.{is_fit, is_fit_some, is_fit_item, is_fit_a
 and_tail : (a c : Bool) → (a && c) ≡ ((a && true) && c)
 and_tail a c = ap (λ b. b && c) (sym (and_nothing a))
 
-fit_first : (n : FileNames) (x : Extent) (j : Jumps) (s : Statement) (k : tree.Statements) → are_fit_statements n x j (statement_then s k) ≡ (are_fit_statements n x j (statement_then s tree.Done) && are_fit_statements n x j k)
+fit_first : (n : FileNames) (x : FunctionExtent) (j : Jumps) (s : Statement) (k : tree.Statements) → are_fit_statements n x j (statement_then s k) ≡ (are_fit_statements n x j (statement_then s tree.Done) && are_fit_statements n x j k)
 fit_first n x j (statement.Evaluate p e) k = and_tail (is_fit n x (view e.value)) (are_fit_statements n x j k)
 fit_first n x j (statement.Initialise p offset size items) k = and_tail (is_fit_aggregate x offset size && list_all (is_fit_item n x) (view_settings items.items)) (are_fit_statements n x j k)
 fit_first n x j (statement.Print p xs pieces) k = and_tail (are_fit n x (view_expressions xs.items) && list_all is_byte pieces.items) (are_fit_statements n x j k)
@@ -48,26 +48,26 @@ fit_first n x j (statement.Break p) k = and_tail (j.breaks) (are_fit_statements 
 fit_first n x j (statement.Continue p) k = and_tail (j.continues) (are_fit_statements n x j k)
 fit_first n x j (statement.Return p e) k = and_tail (j.returns && is_fit_some n x (view_some e)) (are_fit_statements n x j k)
 
-pub statement_fit : (n : FileNames) (x : Extent) (j : Jumps) (xs : List Statement) (i : ℕ) (s : Statement) (b : Bool) → i < length xs → s ≡ get_or xs i s → are_fit_statements n x j (view_statements (drop i xs)) ≡ are_fit_statements n x j (view_statements xs) → b ≡ are_fit_statements n x j (statement_then s tree.Done) → (b && are_fit_statements n x j (view_statements (drop (i + 1) xs))) ≡ are_fit_statements n x j (view_statements xs)
+pub statement_fit : (n : FileNames) (x : FunctionExtent) (j : Jumps) (xs : List Statement) (i : ℕ) (s : Statement) (b : Bool) → i < length xs → s ≡ get_or xs i s → are_fit_statements n x j (view_statements (drop i xs)) ≡ are_fit_statements n x j (view_statements xs) → b ≡ are_fit_statements n x j (statement_then s tree.Done) → (b && are_fit_statements n x j (view_statements (drop (i + 1) xs))) ≡ are_fit_statements n x j (view_statements xs)
 statement_fit n x j xs i s b lt is h e =
     ap (λ c. c && are_fit_statements n x j (view_statements (drop (i + 1) xs))) e ∙ sym (fit_first n x j s (view_statements (drop (i + 1) xs))) ∙ sym (ap (are_fit_statements n x j) (statements_at xs i s lt is)) ∙ h
 
-pub if_fit : (n : FileNames) (x : Extent) (j : Jumps) (p : Place) (a : Box Expression Global) (s t : Vec Statement Global) (u v w : Bool) → u ≡ is_fit n x (view a.value) → v ≡ are_fit_statements n x j (view_statements s.items) → w ≡ are_fit_statements n x j (view_statements t.items) → (u && (v && w)) ≡ are_fit_statements n x j (statement_then (statement.If p a s t) tree.Done)
+pub if_fit : (n : FileNames) (x : FunctionExtent) (j : Jumps) (p : Place) (a : Box Expression Global) (s t : Vec Statement Global) (u v w : Bool) → u ≡ is_fit n x (view a.value) → v ≡ are_fit_statements n x j (view_statements s.items) → w ≡ are_fit_statements n x j (view_statements t.items) → (u && (v && w)) ≡ are_fit_statements n x j (statement_then (statement.If p a s t) tree.Done)
 if_fit n x j p a s t u v w d e f =
     ap (λ z. z && (v && w)) d ∙ ap (λ z. is_fit n x (view a.value) && (z && w)) e ∙ ap (λ z. is_fit n x (view a.value) && (are_fit_statements n x j (view_statements s.items) && z)) f
     ∙ sym (and_nothing (is_fit n x (view a.value) && (are_fit_statements n x j (view_statements s.items) && are_fit_statements n x j (view_statements t.items)))) ∙ sym (ap (are_fit_statements n x j) (view_if p a s t tree.Done))
 
-pub loop_fit : (n : FileNames) (x : Extent) (j : Jumps) (p : Place) (test : Option (Box Expression Global)) (s : Vec Statement Global) (step : Option (Box Expression Global)) (u v w : Bool) → u ≡ is_fit_some n x (view_some test) → v ≡ are_fit_statements n x (loop_jumps j) (view_statements s.items) → w ≡ is_fit_some n x (view_some step) → (u && (v && w)) ≡ are_fit_statements n x j (statement_then (statement.Loop p test s step) tree.Done)
+pub loop_fit : (n : FileNames) (x : FunctionExtent) (j : Jumps) (p : Place) (test : Option (Box Expression Global)) (s : Vec Statement Global) (step : Option (Box Expression Global)) (u v w : Bool) → u ≡ is_fit_some n x (view_some test) → v ≡ are_fit_statements n x (loop_jumps j) (view_statements s.items) → w ≡ is_fit_some n x (view_some step) → (u && (v && w)) ≡ are_fit_statements n x j (statement_then (statement.Loop p test s step) tree.Done)
 loop_fit n x j p test s step u v w d e f =
     ap (λ z. z && (v && w)) d ∙ ap (λ z. is_fit_some n x (view_some test) && (z && w)) e ∙ ap (λ z. is_fit_some n x (view_some test) && (are_fit_statements n x (loop_jumps j) (view_statements s.items) && z)) f
     ∙ sym (and_nothing (is_fit_some n x (view_some test) && (are_fit_statements n x (loop_jumps j) (view_statements s.items) && is_fit_some n x (view_some step)))) ∙ sym (ap (are_fit_statements n x j) (view_loop p test s step tree.Done))
 
-pub do_fit : (n : FileNames) (x : Extent) (j : Jumps) (p : Place) (s : Vec Statement Global) (test : Box Expression Global) (u v : Bool) → u ≡ are_fit_statements n x (loop_jumps j) (view_statements s.items) → v ≡ is_fit n x (view test.value) → (u && (v && true)) ≡ are_fit_statements n x j (statement_then (statement.Do p s test) tree.Done)
+pub do_fit : (n : FileNames) (x : FunctionExtent) (j : Jumps) (p : Place) (s : Vec Statement Global) (test : Box Expression Global) (u v : Bool) → u ≡ are_fit_statements n x (loop_jumps j) (view_statements s.items) → v ≡ is_fit n x (view test.value) → (u && (v && true)) ≡ are_fit_statements n x j (statement_then (statement.Do p s test) tree.Done)
 do_fit n x j p s test u v d e =
     ap (λ z. u && z) (and_nothing v ∙ e) ∙ ap (λ z. z && is_fit n x (view test.value)) d
     ∙ sym (and_nothing (are_fit_statements n x (loop_jumps j) (view_statements s.items) && is_fit n x (view test.value))) ∙ sym (ap (are_fit_statements n x j) (view_do p s test tree.Done))
 
-pub switch_fit : (n : FileNames) (x : Extent) (j : Jumps) (p : Place) (a : Box Expression Global) (arms : Vec Arm Global) (u v w : Bool) → u ≡ is_fit n x (view a.value) → v ≡ is_word (count_arms (arms_of arms.items)) → w ≡ are_fit_arms n x (switch_jumps j) (arms_of arms.items) → (u && (v && w)) ≡ are_fit_statements n x j (statement_then (statement.Switch p a arms) tree.Done)
+pub switch_fit : (n : FileNames) (x : FunctionExtent) (j : Jumps) (p : Place) (a : Box Expression Global) (arms : Vec Arm Global) (u v w : Bool) → u ≡ is_fit n x (view a.value) → v ≡ is_word (count_arms (arms_of arms.items)) → w ≡ are_fit_arms n x (switch_jumps j) (arms_of arms.items) → (u && (v && w)) ≡ are_fit_statements n x j (statement_then (statement.Switch p a arms) tree.Done)
 switch_fit n x j p a arms u v w d e f =
     and_along u v w ∙ ap (λ z. (z && v) && w) d ∙ ap (λ z. (is_fit n x (view a.value) && z) && w) e ∙ ap (λ z. (is_fit n x (view a.value) && is_word (count_arms (arms_of arms.items))) && z) f
     ∙ sym (and_nothing ((is_fit n x (view a.value) && is_word (count_arms (arms_of arms.items))) && are_fit_arms n x (switch_jumps j) (arms_of arms.items))) ∙ sym (ap (are_fit_statements n x j) (view_switch p a arms tree.Done))

@@ -7,7 +7,7 @@ use Rattle.indexmap.specs.IndexSet.{IndexSet, IsEmpty, Updates, contains}
 use Rattle.dae_base.proofs.Laws.{or_nothing}
 use Rattle.dae_types_kinds.specs.declared.tables.Entity.{Entity}
 use Rattle.dae_types_kinds.specs.declared.tables.Entity.TheVariants as entity
-use Rattle.dae_types_kinds.specs.declared.tables.Use.{Use}
+use Rattle.dae_types_kinds.specs.declared.tables.EntityUse.{EntityUse}
 use Rattle.dae_types_typed.specs.Sound.{is_use_of, is_used, same_entity}
 use Rattle.dae_types_sound.specs.Used.{AreUsed, has_number, used_function, used_object}
 
@@ -42,19 +42,19 @@ module _ {S : Type 0} where
   pub none_added : (old : IndexSet ℕ S) (n : ℕ) → contains nat_eq old n ≡ (contains nat_eq old n || false)
   none_added old n = sym (or_nothing (contains nat_eq old n))
 
-  pub used_begin : (uses : List Use) (of : ℕ → Entity) (numbers : IndexSet ℕ S) → IsEmpty numbers → AreUsed (take 0 uses) of numbers
+  pub used_begin : (uses : List EntityUse) (of : ℕ → Entity) (numbers : IndexSet ℕ S) → IsEmpty numbers → AreUsed (take 0 uses) of numbers
   used_begin uses of numbers empty = λ n. ap (list_any (nat_eq n)) empty
 
-  pub used_more : (uses : List Use) (of : ℕ → Entity) (number : Entity → Option ℕ) → ((n : ℕ) (e : Entity) → same_entity (of n) e ≡ has_number (number e) n)
-      → (i : ℕ) (d : Use) (old new : IndexSet ℕ S) → i < length uses → ((n : ℕ) → contains nat_eq new n ≡ (contains nat_eq old n || has_number (number (get_or uses i d).entity) n))
+  pub used_more : (uses : List EntityUse) (of : ℕ → Entity) (number : Entity → Option ℕ) → ((n : ℕ) (e : Entity) → same_entity (of n) e ≡ has_number (number e) n)
+      → (i : ℕ) (d : EntityUse) (old new : IndexSet ℕ S) → i < length uses → ((n : ℕ) → contains nat_eq new n ≡ (contains nat_eq old n || has_number (number (get_or uses i d).entity) n))
       → AreUsed (take i uses) of old → AreUsed (take (i + 1) uses) of new
   used_more uses of number tells i d old new lt step before = λ n.
       let e = (get_or uses i d).entity in
       step n ∙ ap (λ (b : Bool). b || has_number (number e) n) (before n) ∙ ap (λ (b : Bool). is_used (take i uses) (of n) || b) (sym (tells n e))
       ∙ sym (list_any_more (is_use_of (of n)) uses i d lt)
 
-  pub used_end : (uses : List Use) (of : ℕ → Entity) (i : ℕ) (numbers : IndexSet ℕ S) → length uses ≤ i → AreUsed (take i uses) of numbers → AreUsed uses of numbers
-  used_end uses of i numbers le so_far = subst (λ (us : List Use). AreUsed us of numbers) (take_all i uses le) so_far
+  pub used_end : (uses : List EntityUse) (of : ℕ → Entity) (i : ℕ) (numbers : IndexSet ℕ S) → length uses ≤ i → AreUsed (take i uses) of numbers → AreUsed uses of numbers
+  used_end uses of i numbers le so_far = subst (λ (us : List EntityUse). AreUsed us of numbers) (take_all i uses le) so_far
 
 -- ---- what is told of what is used
 

@@ -13,7 +13,7 @@ use Rattle.dae_types_typed.specs.Sound.{defined_routines, function_at, has_compl
 use Rattle.dae_types_sound.specs.declared.extents.FileNames.{FileNames}
 use Rattle.dae_types_sound.specs.Declarations.{is_sound_declaration, is_sound_use, same_numbers}
 use Rattle.dae_types_sound.specs.Distinct.{have_own_names}
-use Rattle.dae_types_sound.specs.Fit.{are_fit_statements, body_jumps, extent_of, has_parameters, is_fit_function}
+use Rattle.dae_types_sound.specs.Fit.{are_fit_statements, body_jumps, function_extent, has_parameters, is_fit_function}
 use Rattle.dae_types_sound.specs.Names.{names_in}
 use Rattle.dae_types_ready.specs.Reads.{is_reading_body}
 use Rattle.dae_types_sound.specs.Shapes.{are_laid_out, are_sound_shapes}
@@ -27,9 +27,9 @@ ready f n [] h g = h
 ready f n (t ∷ ts) h g =
     let main = is_called_main f t.routine in
     let here = and_first (is_fit_function f n t) (list_all (is_fit_function f n) ts) h in
-    let body = and_second (not main || nat_eq (length t.parameters) 0) (are_fit_statements n (extent_of t) (body_jumps (not main)) (view_statements t.body)) (and_second (has_parameters f t) ((not main || nat_eq (length t.parameters) 0) && are_fit_statements n (extent_of t) (body_jumps (not main)) (view_statements t.body)) here) in
+    let body = and_second (not main || nat_eq (length t.parameters) 0) (are_fit_statements n (function_extent t) (body_jumps (not main)) (view_statements t.body)) (and_second (has_parameters f t) ((not main || nat_eq (length t.parameters) 0) && are_fit_statements n (function_extent t) (body_jumps (not main)) (view_statements t.body)) here) in
     and_from (is_ready_function t) (list_all is_ready_function ts)
-    (and_from (is_set_first (function_at (λ n. 0) t)) (prints_bytes (view_statements t.body)) (set_first t (and_first _ _ g)) (print_bytes n (extent_of t) (body_jumps (not main)) (view_statements t.body) body))
+    (and_from (is_set_first (function_at (λ n. 0) t)) (prints_bytes (view_statements t.body)) (set_first t (and_first _ _ g)) (print_bytes n (function_extent t) (body_jumps (not main)) (view_statements t.body) body))
     (ready f n ts (and_second _ _ h) (and_second _ _ g))
 
 pub sound_parts : (f : FileParts) → list_all (is_fit_function f (names_in f)) f.functions ≡ true → list_all is_reading_body f.functions ≡ true

@@ -2,7 +2,7 @@
 use Rattle.std.specs.Prelude.{ℕ, Bool, true, false, ◌&&◌, ◌||◌, not, nat_eq, List, [], ◌∷◌, Option, Some, None, slice_get}
 use Rattle.dae_types_kinds.specs.declared.tables.Entity.{Entity}
 use Rattle.dae_types_kinds.specs.declared.tables.Entity.TheVariants as entity
-use Rattle.dae_types_kinds.specs.declared.tables.Use.{Use}
+use Rattle.dae_types_kinds.specs.declared.tables.EntityUse.{EntityUse}
 use Rattle.dae_types_kinds.specs.Types as types
 use Rattle.dae_types_kinds.specs.Types.{shape_of, is_complete}
 use Rattle.dae_types_file_plans.specs.declared.declarations.FileDeclaration.{FileDeclaration}
@@ -38,5 +38,5 @@ abbrev pub is_callable : FileParts → Entity → Bool
 is_callable f (entity.Function n) = not (is_library (slice_get f.routines n)) && not (is_called_main f n)
 is_callable f _ = true
 
-abbrev pub is_sound_use : FileParts → Use → Bool
+abbrev pub is_sound_use : FileParts → EntityUse → Bool
 is_sound_use f u = is_declared f u.entity && is_callable f u.entity

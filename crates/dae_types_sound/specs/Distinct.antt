@@ -3,7 +3,7 @@ use Rattle.std.specs.Borrow.{Bor}
 use Rattle.std.specs.Prelude.{◌≡◌, map, Bool, true, ◌&&◌, not, ℕ, List, [], ◌∷◌, ◌++◌, Option, Some, None}
 use Rattle.std.specs.List.{list_any}
 use Rattle.std.specs.Str.{bytes_eq}
-use Rattle.dae_types_kinds.specs.declared.tables.Object.{Object}
+use Rattle.dae_types_kinds.specs.declared.tables.StaticObject.{StaticObject}
 use Rattle.dae_types_kinds.specs.declared.tables.Routine.{Routine}
 use Rattle.dae_types_typed.specs.declared.files.FileParts.{FileParts}
 use Rattle.dae_types_typed.specs.Linkage.{object_name, routine_name}
@@ -42,7 +42,7 @@ abbrev pub AreNoted : (old new : List (Bor (List ℕ))) → List (Option (List �
 AreNoted old new xs = bytes_noted new ≡ with_names (bytes_noted old) xs
 
 -- the names of objects and of functions
-abbrev pub object_names : FileParts → List Object → List (Option (List ℕ))
+abbrev pub object_names : FileParts → List StaticObject → List (Option (List ℕ))
 object_names f [] = []
 object_names f (o ∷ os) = object_name f (Some o) ∷ object_names f os
 

@@ -14,7 +14,7 @@ use Rattle.dae_types_typed.specs.Sound.{tables_of, is_called_main}
 use Rattle.dae_program.specs.Switches.{count_arms}
 use Rattle.dae_program.specs.Trees.{Expression, Target, Expressions, Setting, Statements, Arms, Number, Address, Frame, Variable, Read, Convert, Not, Binary, Compare, And, Or, Conditional, Comma, Assign, Update, Step, Call, Putchar, Exit, Abort, InVariable, AtAddress, no_expressions, expression_then, Done, Evaluate, Initialise, Print, If, Loop, Do, Switch, Break, Continue, Return, no_arms, arm_then}
 use Rattle.dae_types_kinds.specs.declared.types.Layout.{Layout}
-use Rattle.dae_types_sound.specs.declared.extents.Extent.{Extent}
+use Rattle.dae_types_sound.specs.declared.extents.FunctionExtent.{FunctionExtent}
 use Rattle.dae_types_sound.specs.declared.extents.FileNames.{FileNames}
 use Rattle.dae_types_sound.specs.declared.extents.Jumps.{Jumps}
 
@@ -32,7 +32,7 @@ is_in_object n width object k =
     nat_le n.literals object && has_bytes width k (slice_get n.objects (object - n.literals))
 
 -- an object of a name, k bytes further
-abbrev pub names_bytes : FileNames → Extent → Width → ℕ → Expression → Bool
+abbrev pub names_bytes : FileNames → FunctionExtent → Width → ℕ → Expression → Bool
 names_bytes n x width k (Address object offset) = is_in_object n width object (plus offset k)
 names_bytes n x width k (Frame p offset) = fits_frame width (plus offset k) x.frame
 names_bytes n x width k (Binary p operator a b) =
@@ -55,7 +55,7 @@ names_bytes n x width k (Putchar p a) = false
 names_bytes n x width k (Exit p a) = false
 names_bytes n x width k (Abort p) = false
 
-abbrev pub is_checked_or_fit : FileNames → Extent → Bool → Width → Expression → Bool
+abbrev pub is_checked_or_fit : FileNames → FunctionExtent → Bool → Width → Expression → Bool
 is_checked_or_fit n x true width a = true
 is_checked_or_fit n x false width a = names_bytes n x width 0 a
 
@@ -70,7 +70,7 @@ abbrev pub parameters_at : FileNames → ℕ → Option ℕ
 parameters_at n f = known_count (slice_get n.functions f)
 
 abbrev mutual
-  pub is_fit : FileNames → Extent → Expression → Bool
+  pub is_fit : FileNames → FunctionExtent → Expression → Bool
   is_fit n x (Number k) = is_word k
   is_fit n x (Address object offset) = is_word offset
   is_fit n x (Frame p offset) = is_word offset
@@ -92,28 +92,28 @@ abbrev mutual
   is_fit n x (Exit p a) = is_fit n x a
   is_fit n x (Abort p) = true
 
-  pub is_fit_target : FileNames → Extent → Width → Target → Bool
+  pub is_fit_target : FileNames → FunctionExtent → Width → Target → Bool
   is_fit_target n x width (InVariable v) = nat_lt 0 v && nat_lt v x.variables
   is_fit_target n x width (AtAddress checked a) = is_checked_or_fit n x checked width a && is_fit n x a
 
-  pub are_fit : FileNames → Extent → Expressions → Bool
+  pub are_fit : FileNames → FunctionExtent → Expressions → Bool
   are_fit n x no_expressions = true
   are_fit n x (expression_then a xs) = is_fit n x a && are_fit n x xs
 
 -- a call of a function that the file uses
-abbrev pub is_fit_call : FileNames → Extent → ℕ → Expressions → Bool
+abbrev pub is_fit_call : FileNames → FunctionExtent → ℕ → Expressions → Bool
 is_fit_call n x f xs = takes (parameters_at n f) (count xs) && are_fit n x xs
 
-abbrev pub is_fit_some : FileNames → Extent → Option Expression → Bool
+abbrev pub is_fit_some : FileNames → FunctionExtent → Option Expression → Bool
 is_fit_some n x None = true
 is_fit_some n x (Some a) = is_fit n x a
 
 -- ---- statements
 
-abbrev pub is_fit_item : FileNames → Extent → Setting → Bool
+abbrev pub is_fit_item : FileNames → FunctionExtent → Setting → Bool
 is_fit_item n x item = (is_word item.offset && fits_frame item.width item.offset x.frame) && is_fit n x item.value
 
-abbrev pub is_fit_aggregate : Extent → (offset bytes : ℕ) → Bool
+abbrev pub is_fit_aggregate : FunctionExtent → (offset bytes : ℕ) → Bool
 is_fit_aggregate x offset bytes = (is_word offset && is_word bytes) && nat_le (offset + bytes) x.frame
 
 -- a loop may be left and continued, and a switch may be left
@@ -125,7 +125,7 @@ switch_jumps j = record { breaks = true; continues = j.continues; returns = j.re
 
 -- statements where these jumps may stand
 abbrev mutual
-  pub are_fit_statements : FileNames → Extent → Jumps → Statements → Bool
+  pub are_fit_statements : FileNames → FunctionExtent → Jumps → Statements → Bool
   are_fit_statements n x j Done = true
   are_fit_statements n x j (Evaluate p a k) = is_fit n x a && are_fit_statements n x j k
   are_fit_statements n x j (Initialise p offset bytes items k) =
@@ -143,15 +143,15 @@ abbrev mutual
   are_fit_statements n x j (Continue p k) = j.continues && are_fit_statements n x j k
   are_fit_statements n x j (Return p a k) = (j.returns && is_fit_some n x a) && are_fit_statements n x j k
 
-  pub are_fit_arms : FileNames → Extent → Jumps → Arms → Bool
+  pub are_fit_arms : FileNames → FunctionExtent → Jumps → Arms → Bool
   are_fit_arms n x j no_arms = true
   are_fit_arms n x j (arm_then labels t rest) =
       (list_all is_label_word labels && are_fit_statements n x j t) && are_fit_arms n x j rest
 
 -- ---- functions
 
-abbrev pub extent_of : TypedFunction → Extent
-extent_of f = record { variables = f.variables; frame = f.frame }
+abbrev pub function_extent : TypedFunction → FunctionExtent
+function_extent f = record { variables = f.variables; frame = f.frame }
 
 -- a body may return, but for that of main
 abbrev pub body_jumps : Bool → Jumps
@@ -167,4 +167,4 @@ abbrev pub is_fit_function : FileParts → FileNames → TypedFunction → Bool
 is_fit_function file n f =
     let main = is_called_main file f.routine in
     has_parameters file f && ((not main || nat_eq (length f.parameters) 0)
-    && are_fit_statements n (extent_of f) (body_jumps (not main)) (view_statements f.body))
+    && are_fit_statements n (function_extent f) (body_jumps (not main)) (view_statements f.body))

@@ -1,7 +1,7 @@
 -- What the bodies of a file may name, by its uses.
 use Rattle.std.specs.Prelude.{ℕ, suc, List, [], ◌∷◌, ◌++◌, length, Option, Some, None, if◌then◌else◌, slice_get}
 use Rattle.dae_types_kinds.specs.declared.tables.Entity.TheVariants as entity
-use Rattle.dae_types_kinds.specs.declared.tables.Object.{Object}
+use Rattle.dae_types_kinds.specs.declared.tables.StaticObject.{StaticObject}
 use Rattle.dae_types_kinds.specs.declared.tables.Routine.{Routine}
 use Rattle.dae_types_kinds.specs.declared.types.Layout.{Layout}
 use Rattle.dae_types_kinds.specs.declared.types.Shape.{Shape}
@@ -15,11 +15,11 @@ use Rattle.dae_types_typed.specs.Sound.{tables_of, is_used}
 use Rattle.dae_types_sound.specs.declared.extents.FileNames.{FileNames}
 
 -- the layout of an object that is used
-abbrev pub used_layout : FileParts → ℕ → Object → Option Layout
+abbrev pub used_layout : FileParts → ℕ → StaticObject → Option Layout
 used_layout f o x = if is_used f.uses (entity.Object o) then Some (layout_at (tables_of f) x.type_id) else None
 
 -- of the objects from number o on
-abbrev pub used_layouts : FileParts → List (Option Layout) → (o : ℕ) → List Object → List (Option Layout)
+abbrev pub used_layouts : FileParts → List (Option Layout) → (o : ℕ) → List StaticObject → List (Option Layout)
 used_layouts f done o [] = done
 used_layouts f done o (x ∷ xs) = used_layouts f (done ++ used_layout f o x ∷ []) (suc o) xs
 

@@ -3,7 +3,7 @@ use Rattle.std.specs.Prelude.{◌≡◌, ℕ, Bool, false, nat_eq, List, Option,
 use Rattle.indexmap.specs.IndexSet.{IndexSet, contains}
 use Rattle.dae_types_kinds.specs.declared.tables.Entity.{Entity}
 use Rattle.dae_types_kinds.specs.declared.tables.Entity.TheVariants as entity
-use Rattle.dae_types_kinds.specs.declared.tables.Use.{Use}
+use Rattle.dae_types_kinds.specs.declared.tables.EntityUse.{EntityUse}
 use Rattle.dae_types_typed.specs.Sound.{is_used}
 
 -- the number of an object, and of a function
@@ -20,5 +20,5 @@ has_number None n = false
 has_number (Some m) n = nat_eq n m
 
 -- of what has a number, those of these numbers are used
-abbrev pub AreUsed : {S : Type 0} → List Use → (ℕ → Entity) → IndexSet ℕ S → Type 0
+abbrev pub AreUsed : {S : Type 0} → List EntityUse → (ℕ → Entity) → IndexSet ℕ S → Type 0
 AreUsed uses of numbers = (n : ℕ) → contains nat_eq numbers n ≡ is_used uses (of n)

@@ -9,7 +9,7 @@ ghost use Rattle.dae_types_sound.specs.Declarations.{defined_routine, is_callabl
 
 use crate::functions::is_called_main;
 use dae_types_file_plans::{FileDeclaration, Role};
-use dae_types_kinds::{Entity, Shape, Use};
+use dae_types_kinds::{Entity, EntityUse, Shape};
 use dae_types_typed::{FileParts, TypedFunction, is_function, is_object, same_entity};
 
 fn is_there(parts: &FileParts, entity: Entity) -> bool
@@ -129,7 +129,7 @@ fn is_callable(parts: &FileParts, entity: Entity) -> bool
     }
 }
 
-fn is_sound_use(parts: &FileParts, used: Use) -> bool
+fn is_sound_use(parts: &FileParts, used: EntityUse) -> bool
     ensures { result ≡ is_sound_use parts.now used }
 {
     is_declared(parts, used.entity) && is_callable(parts, used.entity)

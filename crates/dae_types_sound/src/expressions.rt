@@ -5,7 +5,7 @@ ghost use Rattle.dae_program.specs.Lawful.{is_word, fits_frame, adds, count, num
 ghost use Rattle.dae_program.specs.Views.{view, view_expressions, view_target, view_some};
 ghost use Rattle.dae_types_sound.specs.Fit.{has_bytes, is_in_object, names_bytes, is_checked_or_fit, parameters_at, is_fit, is_fit_call, is_fit_target, are_fit, is_fit_some};
 
-use crate::extents::{Extent, FileNames};
+use crate::extents::{FileNames, FunctionExtent};
 use dae_base::Width;
 use dae_meaning::Operator;
 use dae_program::{Expression, Target};
@@ -73,7 +73,13 @@ fn number_of(e: &Expression) -> Option<u32>
 }
 
 /// Whether an expression names an object, and an access k bytes further is within it.
-fn names_bytes(names: &FileNames, extent: Extent, width: Width, k: u32, e: &Expression) -> bool
+fn names_bytes(
+    names: &FileNames,
+    extent: FunctionExtent,
+    width: Width,
+    k: u32,
+    e: &Expression,
+) -> bool
     ensures { result ≡ names_bytes names.now extent width k (view e.now) }
 {
     match e {
@@ -98,7 +104,7 @@ fn names_bytes(names: &FileNames, extent: Extent, width: Width, k: u32, e: &Expr
 
 fn is_checked_or_fit(
     names: &FileNames,
-    extent: Extent,
+    extent: FunctionExtent,
     checked: bool,
     width: Width,
     e: &Expression,
@@ -120,7 +126,7 @@ fn takes(names: &FileNames, function: u32, arguments: usize) -> bool
 
 /// Whether an expression fits its file and its function.
 #[cycle(fit)]
-pub fn is_fit(names: &FileNames, extent: Extent, e: &Expression) -> bool
+pub fn is_fit(names: &FileNames, extent: FunctionExtent, e: &Expression) -> bool
     ensures { result ≡ is_fit names.now extent (view e.now) }
 {
     match e {
@@ -158,7 +164,7 @@ pub fn is_fit(names: &FileNames, extent: Extent, e: &Expression) -> bool
 }
 
 #[cycle(fit)]
-fn is_fit_target(names: &FileNames, extent: Extent, width: Width, t: &Target) -> bool
+fn is_fit_target(names: &FileNames, extent: FunctionExtent, width: Width, t: &Target) -> bool
     ensures { result ≡ is_fit_target names.now extent width (view_target t.now) }
 {
     match t {
@@ -172,7 +178,7 @@ fn is_fit_target(names: &FileNames, extent: Extent, width: Width, t: &Target) ->
 /// Whether a call fits, of a function that the file uses.
 #[cycle(fit)]
 #[tactic(auto, using(dae_program::proofs::LawsOfTrees::count_expressions))]
-fn is_fit_call(names: &FileNames, extent: Extent, function: u32, xs: &[Expression]) -> bool
+fn is_fit_call(names: &FileNames, extent: FunctionExtent, function: u32, xs: &[Expression]) -> bool
     ensures { result ≡ is_fit_call names.now extent function (view_expressions xs.now) }
 {
     takes(names, function, xs.len()) && are_fit(names, extent, xs)
@@ -180,7 +186,7 @@ fn is_fit_call(names: &FileNames, extent: Extent, function: u32, xs: &[Expressio
 
 /// Whether all of several expressions fit.
 #[cycle(fit)]
-pub fn are_fit(names: &FileNames, extent: Extent, xs: &[Expression]) -> bool
+pub fn are_fit(names: &FileNames, extent: FunctionExtent, xs: &[Expression]) -> bool
     ensures { result ≡ are_fit names.now extent (view_expressions xs.now) }
 {
     for e in xs {
@@ -192,7 +198,7 @@ pub fn are_fit(names: &FileNames, extent: Extent, xs: &[Expression]) -> bool
 }
 
 /// Whether an expression fits, if there is one.
-pub fn is_fit_some(names: &FileNames, extent: Extent, e: &Option<Box<Expression>>) -> bool
+pub fn is_fit_some(names: &FileNames, extent: FunctionExtent, e: &Option<Box<Expression>>) -> bool
     ensures { result ≡ is_fit_some names.now extent (view_some e.now) }
 {
     match e {

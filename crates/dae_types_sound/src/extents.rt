@@ -5,7 +5,7 @@ use dae_types_kinds::Layout;
 
 /// How many variables a function has, and how many bytes its frame.
 #[derive(Clone, Copy)]
-pub struct Extent {
+pub struct FunctionExtent {
     pub variables: u32,
     pub frame: u64,
 }

@@ -4,13 +4,13 @@ ghost use Rattle.std.specs.Prelude.{◌≡◌, ◌<◌, ◌≤◌, ◌^◌, IfOk
 ghost use Rattle.std.specs.List.{list_all};
 ghost use Rattle.dae_program.specs.Lawful.{is_sound_slot};
 ghost use Rattle.dae_types_typed.specs.Sound.{is_called_main};
-ghost use Rattle.dae_types_sound.specs.Fit.{body_jumps, extent_of, has_parameters, is_fit_function};
+ghost use Rattle.dae_types_sound.specs.Fit.{body_jumps, function_extent, has_parameters, is_fit_function};
 
 use crate::expressions::{fits_frame, is_word};
-use crate::extents::{Extent, FileNames, Jumps};
+use crate::extents::{FileNames, FunctionExtent, Jumps};
 use crate::statements::are_fit_statements;
 use crate::tables::count_parameters;
-use dae_program::Slot;
+use dae_program::FrameSlot;
 use dae_types_typed::{FileParts, TypedFunction};
 
 /// Whether a function has the name main.
@@ -26,7 +26,7 @@ pub fn is_called_main(parts: &FileParts, routine: usize) -> bool
     }
 }
 
-fn is_sound_slot(frame: u64, slot: Option<Slot>) -> bool
+fn is_sound_slot(frame: u64, slot: Option<FrameSlot>) -> bool
     ensures { result ≡ is_sound_slot frame slot }
 {
     match slot {
@@ -35,7 +35,7 @@ fn is_sound_slot(frame: u64, slot: Option<Slot>) -> bool
     }
 }
 
-fn are_sound_slots(frame: u64, slots: &[Option<Slot>]) -> bool
+fn are_sound_slots(frame: u64, slots: &[Option<FrameSlot>]) -> bool
     ensures { result ≡ list_all (is_sound_slot frame) slots.now }
 {
     for slot in slots {
@@ -62,7 +62,7 @@ pub fn is_fit_function(parts: &FileParts, names: &FileNames, f: &TypedFunction) 
     ensures { result ≡ is_fit_function parts.now names.now f.now }
 {
     let main = is_called_main(parts, f.routine);
-    let extent = Extent {
+    let extent = FunctionExtent {
         variables: f.variables,
         frame: f.frame,
     };

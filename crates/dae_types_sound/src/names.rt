@@ -4,13 +4,13 @@ ghost use Rattle.std.specs.Prelude.{◌≡◌, [], OnOk, map, option_copied, sli
 ghost use Rattle.dae_types_typed.specs.Linkage.{object_name, routine_name};
 ghost use Rattle.dae_types_sound.specs.Distinct.{AreNew, AreNoted, IsNewName, IsNoted, have_own_names, object_names, routine_names};
 
-use dae_types_kinds::{Object, Routine};
+use dae_types_kinds::{Routine, StaticObject};
 use dae_types_ready::Doubt;
 use dae_types_typed::FileParts;
 use indexmap::IndexSet;
 use std::alloc::Global;
 
-fn object_name(parts: &FileParts, object: Object) -> Option<&[u8]>
+fn object_name(parts: &FileParts, object: StaticObject) -> Option<&[u8]>
     ensures { option_copied result ≡ object_name parts.now (Some object) }
 {
     if object.own {

@@ -9,8 +9,8 @@ ghost use Rattle.dae_program.specs.Views.{statement_then, view_settings, view_st
 ghost use Rattle.dae_types_sound.specs.Fit.{are_fit_arms, are_fit_statements, is_fit_aggregate, is_fit_item, loop_jumps, switch_jumps};
 
 use crate::expressions::{are_fit, fits_frame, is_fit, is_fit_some, is_word};
-use crate::extents::{Extent, FileNames, Jumps};
-use dae_program::{Arm, Piece, Setting, Statement};
+use crate::extents::{FileNames, FunctionExtent, Jumps};
+use dae_program::{Arm, FormatPiece, Setting, Statement};
 
 fn loop_jumps(jumps: Jumps) -> Jumps
     ensures { result ≡ loop_jumps jumps }
@@ -32,13 +32,13 @@ fn switch_jumps(jumps: Jumps) -> Jumps
     }
 }
 
-fn is_fit_aggregate(extent: Extent, offset: u32, bytes: u32) -> bool
+fn is_fit_aggregate(extent: FunctionExtent, offset: u32, bytes: u32) -> bool
     ensures { result ≡ is_fit_aggregate extent offset bytes }
 {
     is_word(offset) && is_word(bytes) && u64::from(offset) + u64::from(bytes) <= extent.frame
 }
 
-fn are_fit_items(names: &FileNames, extent: Extent, items: &[Setting]) -> bool
+fn are_fit_items(names: &FileNames, extent: FunctionExtent, items: &[Setting]) -> bool
     ensures { result ≡ list_all (is_fit_item names.now extent) (view_settings items.now) }
 {
     for item in items {
@@ -50,17 +50,17 @@ fn are_fit_items(names: &FileNames, extent: Extent, items: &[Setting]) -> bool
     true
 }
 
-fn is_byte(piece: Piece) -> bool
+fn is_byte(piece: FormatPiece) -> bool
     ensures { result ≡ is_byte piece }
 {
     match piece {
-        Piece::Byte(byte) => byte <= u8::MAX,
-        Piece::Word(_, _) => true,
-        Piece::String(_) => true,
+        FormatPiece::Byte(byte) => byte <= u8::MAX,
+        FormatPiece::Word(_, _) => true,
+        FormatPiece::String(_) => true,
     }
 }
 
-fn are_bytes(pieces: &[Piece]) -> bool
+fn are_bytes(pieces: &[FormatPiece]) -> bool
     ensures { result ≡ list_all is_byte pieces.now }
 {
     for piece in pieces {
@@ -109,7 +109,7 @@ fn all_three(one: bool, two: bool, three: bool) -> bool
 #[cycle(fit_statements)]
 pub fn are_fit_statements(
     names: &FileNames,
-    extent: Extent,
+    extent: FunctionExtent,
     jumps: Jumps,
     statements: &[Statement],
 ) -> bool
@@ -125,7 +125,7 @@ pub fn are_fit_statements(
 
 #[cycle(fit_statements)]
 #[tactic(auto, using(dae_base::proofs::Laws::and_nothing))]
-fn is_fit_statement(names: &FileNames, extent: Extent, jumps: Jumps, s: &Statement) -> bool
+fn is_fit_statement(names: &FileNames, extent: FunctionExtent, jumps: Jumps, s: &Statement) -> bool
     ensures { result ≡ are_fit_statements names.now extent jumps (statement_then s.now Done) }
 {
     match s {
@@ -164,7 +164,7 @@ fn is_fit_statement(names: &FileNames, extent: Extent, jumps: Jumps, s: &Stateme
 }
 
 #[cycle(fit_statements)]
-fn are_fit_arms(names: &FileNames, extent: Extent, jumps: Jumps, arms: &[Arm]) -> bool
+fn are_fit_arms(names: &FileNames, extent: FunctionExtent, jumps: Jumps, arms: &[Arm]) -> bool
     ensures { result ≡ are_fit_arms names.now extent jumps (arms_of arms.now) }
 {
     for arm in arms {

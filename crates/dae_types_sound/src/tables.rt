@@ -11,7 +11,7 @@ ghost use Rattle.dae_types_sound.specs.Names.{names_in, parameter_list, shorter,
 use crate::extents::FileNames;
 use crate::used::{used_functions, used_objects};
 use dae_base::Items;
-use dae_types_kinds::{INT_ID, Layout, NO_PARAMETERS_ID, Object, Routine, Shape};
+use dae_types_kinds::{INT_ID, Layout, NO_PARAMETERS_ID, Routine, Shape, StaticObject};
 use dae_types_ready::Doubt;
 use dae_types_typed::FileParts;
 use indexmap::IndexSet;
@@ -75,7 +75,7 @@ fn used_layout(
     parts: &FileParts,
     used: &IndexSet<usize>,
     number: usize,
-    object: Object,
+    object: StaticObject,
 ) -> Option<Layout>
     requires { AreUsed parts.now.uses entities.Object used.now }
     ensures { result ≡ used_layout parts.now number object }

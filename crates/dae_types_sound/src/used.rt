@@ -5,13 +5,13 @@ ghost use Rattle.indexmap.specs.IndexSet.{contains};
 ghost use Rattle.dae_types_kinds.specs.declared.tables.Entity.TheVariants as entities;
 ghost use Rattle.dae_types_sound.specs.Used.{AreUsed, has_number, used_function, used_object};
 
-use dae_types_kinds::{Entity, Use};
+use dae_types_kinds::{Entity, EntityUse};
 use dae_types_ready::Doubt;
 use indexmap::IndexSet;
 use std::alloc::Global;
 
 /// The number of the object that is used, if one is.
-fn used_object(used: Use) -> Option<usize>
+fn used_object(used: EntityUse) -> Option<usize>
     ensures { result ≡ used_object used.entity }
 {
     match used.entity {
@@ -24,7 +24,7 @@ fn used_object(used: Use) -> Option<usize>
 }
 
 /// The number of the function that is used, if one is.
-fn used_function(used: Use) -> Option<usize>
+fn used_function(used: EntityUse) -> Option<usize>
     ensures { result ≡ used_function used.entity }
 {
     match used.entity {
@@ -51,7 +51,7 @@ fn add_number(numbers: &mut IndexSet<usize>, number: Option<usize>) -> Result<()
 }
 
 /// The numbers of the objects that are used.
-pub fn used_objects(alloc: Global, uses: &[Use]) -> Result<IndexSet<usize>, Doubt>
+pub fn used_objects(alloc: Global, uses: &[EntityUse]) -> Result<IndexSet<usize>, Doubt>
     ensures { IfOk result (λ numbers. AreUsed uses.now entities.Object numbers) }
 {
     let mut numbers = IndexSet::new(alloc);
@@ -62,7 +62,7 @@ pub fn used_objects(alloc: Global, uses: &[Use]) -> Result<IndexSet<usize>, Doub
 }
 
 /// The numbers of the functions that are used.
-pub fn used_functions(alloc: Global, uses: &[Use]) -> Result<IndexSet<usize>, Doubt>
+pub fn used_functions(alloc: Global, uses: &[EntityUse]) -> Result<IndexSet<usize>, Doubt>
     ensures { IfOk result (λ numbers. AreUsed uses.now entities.Function numbers) }
 {
     let mut numbers = IndexSet::new(alloc);

@@ -14,7 +14,7 @@ use std::alloc::Global;
 
 /// A condition that is done.
 #[derive(Drop)]
-pub struct Condition {
+pub struct TypedCondition {
     pub tree: Box<Expression>,
 }
 

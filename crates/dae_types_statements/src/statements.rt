@@ -14,7 +14,7 @@ ghost use Rattle.dae_types_statements.specs.Plans.{plan_chosen, plan_do, plan_fo
 
 use crate::evaluating::evaluate;
 use crate::making::{
-    Condition, TypedHeading, Written, branch, choose, repeat, repeat_before, repeat_from,
+    TypedCondition, TypedHeading, Written, branch, choose, repeat, repeat_before, repeat_from,
 };
 use crate::values::{
     condition, give_back, label, optional_condition, optional_value, selector, starting_place,
@@ -24,7 +24,7 @@ use dae_program::{Arm, Statement};
 use dae_tree::{Block, Declaration, Expression as Tree, Statement as TreeStatement};
 use dae_types_bodies::{Arming, add_case, add_default, add_statements, append, break_out, go_on};
 use dae_types_file_plans::Surrounding;
-use dae_types_folding::Value;
+use dae_types_folding::TypedValue;
 use dae_types_kinds::{CheckError, Rule};
 use dae_types_locals::declarations;
 use dae_types_tables::{Checker, broken};
@@ -102,17 +102,17 @@ fn statement(
         TreeStatement::Evaluate(e, _) => evaluate(checker, e),
         TreeStatement::If(place, test, t) => {
             let test = condition(checker, &test.expression)?;
-            if_true(checker, around, *place, Condition { tree: test }, t)
+            if_true(checker, around, *place, TypedCondition { tree: test }, t)
         }
         TreeStatement::IfElse(place, test, t, u) => {
             let test = condition(checker, &test.expression)?;
             let statements = statement(checker, around, t)?;
-            let test = Condition { tree: test };
+            let test = TypedCondition { tree: test };
             if_false(checker, around, *place, test, Written { statements }, u)
         }
         TreeStatement::While(place, test, t) => {
             let test = condition(checker, &test.expression)?;
-            while_true(checker, around, *place, Condition { tree: test }, t)
+            while_true(checker, around, *place, TypedCondition { tree: test }, t)
         }
         TreeStatement::Do(place, t, _, test, _) => {
             let body = statement(checker, in_loop(around), t)?;
@@ -194,7 +194,7 @@ fn if_true(
     checker: &mut Checker,
     around: Surrounding,
     place: Place,
-    test: Condition,
+    test: TypedCondition,
     one: &TreeStatement,
 ) -> Result<Vec<Statement>, CheckError>
     ensures { GivesStatements checker.new result
@@ -217,7 +217,7 @@ fn if_false(
     checker: &mut Checker,
     around: Surrounding,
     place: Place,
-    test: Condition,
+    test: TypedCondition,
     yes: Written,
     one: &TreeStatement,
 ) -> Result<Vec<Statement>, CheckError>
@@ -236,7 +236,7 @@ fn while_true(
     checker: &mut Checker,
     around: Surrounding,
     place: Place,
-    test: Condition,
+    test: TypedCondition,
     one: &TreeStatement,
 ) -> Result<Vec<Statement>, CheckError>
     ensures { GivesStatements checker.new result
@@ -285,7 +285,7 @@ fn switch(
     checker: &mut Checker,
     around: Surrounding,
     place: Place,
-    value: Value,
+    value: TypedValue,
     one: &TreeStatement,
 ) -> Result<Vec<Statement>, CheckError>
     ensures { GivesStatements checker.new result

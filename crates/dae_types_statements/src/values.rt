@@ -15,7 +15,7 @@ use dae_program::{Expression, Statement};
 use dae_tree::Expression as Tree;
 use dae_types_bodies::{return_nothing, return_value, test};
 use dae_types_file_plans::Surrounding;
-use dae_types_folding::Value;
+use dae_types_folding::TypedValue;
 use dae_types_kinds::CheckError;
 use dae_types_tables::Checker;
 use dae_types_values::integer;
@@ -72,7 +72,7 @@ pub fn starting_place(place: Place, start: &Option<Box<Tree>>) -> Place
 
 /// The value that a `switch` selects by, an integer.
 #[inline(never)]
-pub fn selector(checker: &mut Checker, e: &Tree) -> Result<Value, CheckError>
+pub fn selector(checker: &mut Checker, e: &Tree) -> Result<TypedValue, CheckError>
     ensures { GivesValue checker.new result (plan_selected (view_tree e.now)) checker.old }
 {
     let x = operand(checker, e)?;

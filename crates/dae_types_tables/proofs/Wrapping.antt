@@ -6,7 +6,7 @@ use Rattle.dae_types_kinds.specs.declared.types.Shape.{Shape}
 use Rattle.dae_types_kinds.specs.declared.types.Shape.TheVariants as shape
 use Rattle.dae_types_kinds.specs.Tables.{Tables}
 use Rattle.dae_types_kinds.specs.Types.{composite_shape, composite_within, either_count, made, make_array, shape_of}
-use Rattle.dae_types_tables.specs.declared.sameness.Pair.{Pair}
+use Rattle.dae_types_tables.specs.declared.sameness.TypesToCompare.{TypesToCompare}
 use Rattle.dae_types_tables.specs.declared.sameness.Layer.{Layer}
 use Rattle.dae_types_tables.specs.declared.sameness.Layer.TheVariants as layer
 use Rattle.dae_types_tables.specs.declared.sameness.Want.{Want}
@@ -53,7 +53,7 @@ wanted : (ls : List Layer) (l : Layer) (s : Tables) (last : ℕ) (w : Want) (ans
 wanted ls l s last w answer is before =
     ap (λ (v : Want). wrapped ls (made_by v s)) is ∙ ap (wrapped ls) (want_makes s last l) ∙ sym (wrap_inside ls l (s, last)) ∙ before
 
-pub parts_wanted : (ls : List Layer) (l outer : Layer) (first : Pair) (s : Tables) (last : ℕ) (answer : Tables × ℕ) → want.Parts outer first ≡ want_of s last l → wrapped (ls ++ l ∷ []) (s, last) ≡ answer → wrapped ((ls ++ outer ∷ []) ++ layer.Composite first ∷ []) (s, last) ≡ answer
+pub parts_wanted : (ls : List Layer) (l outer : Layer) (first : TypesToCompare) (s : Tables) (last : ℕ) (answer : Tables × ℕ) → want.Parts outer first ≡ want_of s last l → wrapped (ls ++ l ∷ []) (s, last) ≡ answer → wrapped ((ls ++ outer ∷ []) ++ layer.Composite first ∷ []) (s, last) ≡ answer
 parts_wanted ls l outer first s last answer is before =
     wrap_inside (ls ++ outer ∷ []) (layer.Composite first) (s, last) ∙ wrap_inside ls outer (composite_of first s) ∙ wanted ls l s last (want.Parts outer first) answer is before
 
@@ -117,7 +117,7 @@ want_lighter : (ls : List Layer) (l : Layer) (s : Tables) (last : ℕ) (w : Want
 want_lighter ls l s last w is =
     rw (is, weight_with ls l) (omega (arith, lighter s last l))
 
-pub parts_lighter : (ls : List Layer) (l outer : Layer) (first : Pair) (s : Tables) (last : ℕ) → want.Parts outer first ≡ want_of s last l → weight ((ls ++ outer ∷ []) ++ layer.Composite first ∷ []) < weight (ls ++ l ∷ [])
+pub parts_lighter : (ls : List Layer) (l outer : Layer) (first : TypesToCompare) (s : Tables) (last : ℕ) → want.Parts outer first ≡ want_of s last l → weight ((ls ++ outer ∷ []) ++ layer.Composite first ∷ []) < weight (ls ++ l ∷ [])
 parts_lighter ls l outer first s last is =
     omega (arith, want_lighter ls l s last (want.Parts outer first) is, weight_with (ls ++ outer ∷ []) (layer.Composite first), weight_with ls outer)
 

@@ -5,16 +5,16 @@ use Rattle.dae_types_kinds.specs.declared.types.Shape.{Shape}
 use Rattle.dae_types_kinds.specs.declared.types.Shape.TheVariants as shape
 use Rattle.dae_types_kinds.specs.Tables.{Tables}
 use Rattle.dae_types_kinds.specs.Types.{composite_within, made, make_array, make_function, make_parameter, make_pointer, shape_of}
-use Rattle.dae_types_tables.specs.declared.sameness.Pair.{Pair}
+use Rattle.dae_types_tables.specs.declared.sameness.TypesToCompare.{TypesToCompare}
 use Rattle.dae_types_tables.specs.declared.sameness.Layer.{Layer}
 use Rattle.dae_types_tables.specs.declared.sameness.Layer.TheVariants as layer
 use Rattle.dae_types_tables.specs.declared.sameness.Want.{Want}
 use Rattle.dae_types_tables.specs.declared.sameness.Want.TheVariants as want
 
-abbrev pub pair : ℕ → ℕ → ℕ → Pair
+abbrev pub pair : ℕ → ℕ → ℕ → TypesToCompare
 pair k m n = record { depth = k; left = m; right = n }
 
-abbrev pub composite_of : Pair → Tables → Tables × ℕ
+abbrev pub composite_of : TypesToCompare → Tables → Tables × ℕ
 composite_of p s = composite_within p.depth s p.left p.right
 
 -- a layer round the type that was made last

@@ -2,12 +2,12 @@
 use Rattle.std.specs.Prelude.{ℕ, List, [], Option, Some, None, Result, Ok, length}
 use Rattle.dae_types_kinds.specs.declared.rules.CheckError.{CheckError}
 use Rattle.dae_types_kinds.specs.declared.tables.Innermost.{Innermost}
-use Rattle.dae_types_kinds.specs.declared.tables.Object.{Object}
+use Rattle.dae_types_kinds.specs.declared.tables.StaticObject.{StaticObject}
 use Rattle.dae_types_kinds.specs.declared.tables.Routine.{Routine}
 use Rattle.dae_types_kinds.specs.declared.types.Structure.{Structure}
 use Rattle.dae_types_kinds.specs.Tables.{Tables, with_structure, with_object, with_routine, reopened}
 use Rattle.dae_types_kinds.specs.Types.{first_shapes}
-use Rattle.dae_types_rules.specs.Plan.{Plan, Gives, check_of}
+use Rattle.dae_types_rules.specs.Plan.{CheckPlan, Gives, check_of}
 use Rattle.dae_types_tables.specs.declared.checker.Checker.{Checker}
 
 abbrev pub tables : Checker → Tables
@@ -61,7 +61,7 @@ literal_or_none (Some bytes) = bytes
 abbrev pub numbered_structure : Structure → Tables → Tables × ℕ
 numbered_structure x s = (with_structure x s, length s.structures)
 
-abbrev pub numbered_object : Object → Tables → Tables × ℕ
+abbrev pub numbered_object : StaticObject → Tables → Tables × ℕ
 numbered_object x s = (with_object x s, length s.objects)
 
 abbrev pub numbered_routine : Routine → Tables → Tables × ℕ
@@ -79,9 +79,9 @@ abbrev pub LeavesAnd : {X : Type 0} → Checker → Result X CheckError → Tabl
 LeavesAnd c r y = Gives (λ x. (tables c, x)) r (Ok y)
 
 -- a function does what this plan says, stopping at the first broken rule
-abbrev pub Follows : {X : Type 0} → Checker → Result X CheckError → Plan X → Checker → Type 0
+abbrev pub Follows : {X : Type 0} → Checker → Result X CheckError → CheckPlan X → Checker → Type 0
 Follows new r m old = Gives (λ x. (tables new, x)) r (check_of m (tables old))
 
 -- the same, where what it gives is seen by a view
-abbrev pub FollowsBy : {X Y : Type 0} → (X → Y) → Checker → Result X CheckError → Plan Y → Checker → Type 0
+abbrev pub FollowsBy : {X Y : Type 0} → (X → Y) → Checker → Result X CheckError → CheckPlan Y → Checker → Type 0
 FollowsBy view new r m old = Gives (λ x. (tables new, view x)) r (check_of m (tables old))

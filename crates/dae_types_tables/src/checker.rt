@@ -4,11 +4,11 @@ ghost use Rattle.std.specs.Prelude.{◌≡◌, IfOk};
 ghost use Rattle.dae_types_tables.specs.Seen.{tables, bare};
 
 use crate::basic::FIRST_SHAPES;
-use crate::names::Names;
+use crate::names::NameTable;
 use dae_base::Items;
 use dae_types_kinds::{
-    CheckError, Component, Designation, Innermost, Local, Object, Routine, Shape, Storage,
-    Structure, Tag, Use,
+    CheckError, Component, Designation, EntityUse, Innermost, Local, Routine, Shape, StaticObject,
+    Storage, Structure, Tag,
 };
 use std::alloc::Global;
 
@@ -20,16 +20,16 @@ pub struct Checker {
     pub(crate) shapes: Vec<Shape>,
     pub(crate) structures: Vec<Structure>,
     pub(crate) components: Vec<Component>,
-    pub(crate) names: Names,
+    pub(crate) names: NameTable,
     pub(crate) tags: Vec<Tag>,
     pub(crate) innermost: Innermost,
     pub(crate) kept_names: Vec<Designation>,
     pub(crate) kept_tags: Vec<Tag>,
-    pub(crate) objects: Vec<Object>,
+    pub(crate) objects: Vec<StaticObject>,
     pub(crate) routines: Vec<Routine>,
     pub(crate) locals: Vec<Local>,
     pub(crate) storages: Vec<Storage>,
-    pub(crate) uses: Vec<Use>,
+    pub(crate) uses: Vec<EntityUse>,
     pub(crate) literals: Items<Items<u8>>,
     pub(crate) main: Option<u32>,
 }
@@ -49,7 +49,7 @@ impl Checker {
             shapes: Vec::from_array(alloc, FIRST_SHAPES)?,
             structures: Vec::new(alloc),
             components: Vec::new(alloc),
-            names: Names::new(alloc),
+            names: NameTable::new(alloc),
             tags: Vec::new(alloc),
             innermost: Innermost { names: 0, tags: 0 },
             kept_names: Vec::new(alloc),

@@ -9,8 +9,8 @@ ghost use Rattle.dae_types_tables.specs.Seen.{tables, Leaves, LeavesAnd, numbere
 use crate::Checker;
 use dae_base::Place;
 use dae_types_kinds::{
-    CheckError, Component, Designation, Entity, Local, Object, Routine, Shape, Storage, Structure,
-    Tag, Tagged, Use,
+    CheckError, Component, Designation, Entity, EntityUse, Local, Routine, Shape, StaticObject,
+    Storage, Structure, Tag, Tagged,
 };
 
 impl Checker {
@@ -68,12 +68,12 @@ impl Checker {
     pub fn add_use(&mut self, entity: Entity, place: Place) -> Result<(), CheckError>
         ensures { Leaves self.new result (with_use entity place (tables self.old)) }
     {
-        self.uses.push(Use { entity, place })?;
+        self.uses.push(EntityUse { entity, place })?;
         Ok(())
     }
 
     /// Adds an object of the file, and gives its number.
-    pub fn add_object(&mut self, object: Object) -> Result<usize, CheckError>
+    pub fn add_object(&mut self, object: StaticObject) -> Result<usize, CheckError>
         ensures { LeavesAnd self.new result (numbered_object object (tables self.old)) }
     {
         let number = self.objects.len();
@@ -109,7 +109,7 @@ impl Checker {
     }
 
     /// Writes an object of the file anew, where there is one of this number.
-    pub fn set_object(&mut self, number: usize, object: Object)
+    pub fn set_object(&mut self, number: usize, object: StaticObject)
         ensures { tables self.new ≡ set_object number object (tables self.old) }
     {
         if let Some(found) = self.objects.get_mut(number) {
@@ -127,14 +127,14 @@ impl Checker {
     }
 
     /// A copy of the uses so far. It costs a step for each, at each `sizeof` of an expression.
-    pub fn copy_uses(&self) -> Result<Vec<Use>, CheckError>
+    pub fn copy_uses(&self) -> Result<Vec<EntityUse>, CheckError>
         ensures { Gives (λ uses. uses.items) result (Ok (tables self.now).uses) }
     {
         Ok(self.uses.clone()?)
     }
 
     /// Puts other uses in the place of those so far.
-    pub fn set_uses(&mut self, uses: Vec<Use>)
+    pub fn set_uses(&mut self, uses: Vec<EntityUse>)
         ensures { tables self.new ≡ with_uses uses.items (tables self.old) }
     {
         self.uses = uses;

@@ -8,7 +8,8 @@ ghost use Rattle.dae_types_tables.specs.Seen.{tables};
 use crate::Checker;
 use dae_base::Items;
 use dae_types_kinds::{
-    CheckError, Component, Designation, Object, Routine, Shape, Storage, Structure, Tag, Use,
+    CheckError, Component, Designation, EntityUse, Routine, Shape, StaticObject, Storage,
+    Structure, Tag,
 };
 
 /// The names and tags that a scope declared.
@@ -24,9 +25,9 @@ pub struct FileTables {
     pub shapes: Vec<Shape>,
     pub structures: Vec<Structure>,
     pub components: Vec<Component>,
-    pub objects: Vec<Object>,
+    pub objects: Vec<StaticObject>,
     pub routines: Vec<Routine>,
-    pub uses: Vec<Use>,
+    pub uses: Vec<EntityUse>,
     pub literals: Items<Items<u8>>,
 }
 
@@ -56,7 +57,7 @@ pub fn storages(checker: &Checker) -> &[Storage]
 }
 
 /// The objects of the file so far.
-pub fn objects(checker: &Checker) -> &[Object]
+pub fn objects(checker: &Checker) -> &[StaticObject]
     ensures { result.now ≡ (tables checker.now).objects }
 {
     checker.objects.as_slice()

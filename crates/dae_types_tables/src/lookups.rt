@@ -8,7 +8,7 @@ ghost use Rattle.dae_types_tables.specs.Seen.{tables, literal_or_none};
 
 use crate::Checker;
 use dae_types_kinds::{
-    Component, Entity, Layout, Local, Object, Routine, Shape, Storage, Structure, Tagged,
+    Component, Entity, Layout, Local, Routine, Shape, StaticObject, Storage, Structure, Tagged,
     word_behind, word_for,
 };
 
@@ -114,7 +114,7 @@ impl Checker {
     }
 
     /// An object of the file, by its number.
-    pub fn object(&self, number: usize) -> Option<Object>
+    pub fn object(&self, number: usize) -> Option<StaticObject>
         ensures { result ≡ slice_get (tables self.now).objects number }
     {
         self.objects.get(number).copied()

@@ -11,12 +11,12 @@ use std::marker::Model;
 
 /// The names in scope and what each stands for, in the order of the text. Clauses see that list.
 #[derive(Drop)]
-pub struct Names {
+pub struct NameTable {
     rows: Vec<Designation>,
     index: NameIndex,
 }
 
-impl Model for Names {
+impl Model for NameTable {
     ghost use Rattle.std.specs.Prelude.{◌≡◌, List};
     ghost use Rattle.dae_types_kinds.specs.declared.tables.Designation.{Designation};
     ghost use Rattle.dae_types_tables.specs.Named.{numbers_of};
@@ -38,14 +38,14 @@ fn first_entity(rows: &[Designation], start: usize, name: u32) -> Option<Entity>
     }
 }
 
-impl Names {
+impl NameTable {
     /// No names. It takes no memory.
-    pub fn new(alloc: Global) -> Names
+    pub fn new(alloc: Global) -> NameTable
         ensures { result ≡ [] }
     {
         let rows = Vec::new(alloc);
         let index = NameIndex::new(alloc);
-        Names { rows, index }
+        NameTable { rows, index }
     }
 
     /// How many names there are.

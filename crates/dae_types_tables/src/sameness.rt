@@ -12,7 +12,7 @@ use dae_types_kinds::{CheckError, Shape};
 
 /// Two types of at most so many shapes within one another.
 #[derive(Clone, Copy)]
-struct Pair {
+struct TypesToCompare {
     depth: usize,
     left: usize,
     right: usize,
@@ -22,17 +22,17 @@ struct Pair {
 #[derive(Clone, Copy)]
 enum Layer {
     /// The composite of two types; what was made last is not needed.
-    Composite(Pair),
+    Composite(TypesToCompare),
     /// A pointer to what was made last.
     Pointer,
     /// An array of what was made last.
     Array(Option<u32>),
     /// A function that gives what was made last, with the composite of these parameters.
-    FunctionWith(Pair),
+    FunctionWith(TypesToCompare),
     /// A function that gives this type, with the parameters that were made last.
     Function(usize),
     /// The parameters that were made last, and behind them one of the composite of these types.
-    ParameterWith(Pair),
+    ParameterWith(TypesToCompare),
     /// These parameters, and behind them one of the type that was made last.
     Parameter(usize),
 }
@@ -41,7 +41,7 @@ enum Layer {
 #[derive(Clone, Copy)]
 enum Want {
     /// First the composite of two types, and then this layer round it.
-    Parts(Layer, Pair),
+    Parts(Layer, TypesToCompare),
     /// A new type of this shape.
     Shape(Shape),
     /// This type.
@@ -104,7 +104,7 @@ impl Checker {
     {
         let depth = self.shapes.len();
         let mut layers = Vec::new(*self.shapes.allocator());
-        layers.push(Layer::Composite(Pair { depth, left, right }))?;
+        layers.push(Layer::Composite(TypesToCompare { depth, left, right }))?;
         let mut last = left;
         while let Some(layer) = layers.pop() {
             match self.want_of(layer, last) {
@@ -144,26 +144,35 @@ impl Checker {
         let depth = depth - 1;
         match (self.shape_of(left), self.shape_of(right)) {
             (Shape::Pointer(left), Shape::Pointer(right)) => {
-                Want::Parts(Layer::Pointer, Pair { depth, left, right })
+                Want::Parts(Layer::Pointer, TypesToCompare { depth, left, right })
             }
             (Shape::Array(left, count), Shape::Array(right, size)) => {
-                Want::Parts(Layer::Array(count.or(size)), Pair { depth, left, right })
+                Want::Parts(
+                    Layer::Array(count.or(size)),
+                    TypesToCompare { depth, left, right },
+                )
             }
             (Shape::Function(one, left), Shape::Function(other, right)) => {
-                let result = Pair {
+                let result = TypesToCompare {
                     depth,
                     left: one,
                     right: other,
                 };
-                Want::Parts(Layer::FunctionWith(Pair { depth, left, right }), result)
+                Want::Parts(
+                    Layer::FunctionWith(TypesToCompare { depth, left, right }),
+                    result,
+                )
             }
             (Shape::Parameter(one, left), Shape::Parameter(other, right)) => {
-                let before = Pair {
+                let before = TypesToCompare {
                     depth,
                     left: one,
                     right: other,
                 };
-                Want::Parts(Layer::ParameterWith(Pair { depth, left, right }), before)
+                Want::Parts(
+                    Layer::ParameterWith(TypesToCompare { depth, left, right }),
+                    before,
+                )
             }
             _ => Want::Type(left),
         }

@@ -3,7 +3,7 @@
 use Rattle.std.specs.Prelude.{ℕ, suc, ◌+◌, ◌*◌, ◌/◌, List, [], ◌∷◌, drop, max, Option, Some, None, Bool, true, false}
 use Rattle.std.specs.List.{count_by}
 use Rattle.dae_base.specs.Words.{width_of}
-use Rattle.dae_program.specs.declared.program.Slot.{Slot}
+use Rattle.dae_program.specs.declared.program.FrameSlot.{FrameSlot}
 use Rattle.dae_types_kinds.specs.declared.tables.Local.{Local}
 use Rattle.dae_types_kinds.specs.declared.tables.Storage.{Storage}
 use Rattle.dae_types_kinds.specs.declared.tables.Storage.TheVariants as storage
@@ -20,11 +20,11 @@ abbrev pub variables_of : (parameters : ℕ) → List Storage → ℕ
 variables_of parameters storages = word_for (suc parameters + count_by is_variable (drop parameters storages))
 
 -- where a parameter is stored at the entry, if it is
-abbrev pub slot_of : Tables → Local → Storage → Option Slot
+abbrev pub slot_of : Tables → Local → Storage → Option FrameSlot
 slot_of s x (storage.Variable v) = None
 slot_of s x (storage.Frame offset) = Some (record { offset = offset; width = width_of (load_kind (shape_of s x.type_id)) })
 
-abbrev pub slots_of : Tables → (parameters : ℕ) → List Local → List Storage → List (Option Slot)
+abbrev pub slots_of : Tables → (parameters : ℕ) → List Local → List Storage → List (Option FrameSlot)
 slots_of s (suc n) (x ∷ xs) (y ∷ ys) = slot_of s x y ∷ slots_of s n xs ys
 slots_of s _ _ _ = []
 

@@ -3,7 +3,7 @@ use Rattle.std.specs.Prelude.{ℕ, Bool, true, false, ◌||◌, List, Option, So
 use Rattle.std.specs.Str.{bytes_eq}
 use Rattle.dae_types_kinds.specs.declared.tables.Entity.{Entity}
 use Rattle.dae_types_kinds.specs.declared.tables.Entity.TheVariants as entity
-use Rattle.dae_types_kinds.specs.declared.tables.Object.{Object}
+use Rattle.dae_types_kinds.specs.declared.tables.StaticObject.{StaticObject}
 use Rattle.dae_types_kinds.specs.declared.tables.Routine.{Routine}
 use Rattle.dae_types_kinds.specs.Types.{void_id}
 use Rattle.dae_types_kinds.specs.Values.{object_type}
@@ -29,7 +29,7 @@ is_library (Some r) = is_some r.library
 
 -- ---- names
 
-abbrev pub object_name : FileParts → Option Object → Option (List ℕ)
+abbrev pub object_name : FileParts → Option StaticObject → Option (List ℕ)
 object_name f None = None
 object_name f (Some o) = if o.own then None else slice_get f.names o.name
 

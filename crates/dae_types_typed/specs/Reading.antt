@@ -3,7 +3,7 @@ use Rattle.std.specs.Prelude.{◌≡◌, ℕ, List, [], ◌∷◌, length, slice
 use Rattle.dae_base.specs.declared.Place.{Place}
 use Rattle.dae_program.specs.Trees as program
 use Rattle.dae_program.specs.Views.{view_settings, view_statements}
-use Rattle.dae_program.specs.declared.program.Slot.{Slot}
+use Rattle.dae_program.specs.declared.program.FrameSlot.{FrameSlot}
 use Rattle.dae_types_kinds.specs.Tables.{Tables}
 use Rattle.dae_types_kinds.specs.declared.tables.Entity.TheVariants as entity
 use Rattle.dae_types_plans.specs.Steps.{parameter_types}
@@ -25,26 +25,26 @@ declarations_in (Data o items ∷ xs) = declarations_in xs
 declarations_in (Body f locals storages body ∷ xs) = declarations_in xs
 
 -- the content of an object
-pub record Content : Type 0 where
+pub record ObjectContent : Type 0 where
   pub object : ℕ
   pub settings : List program.Setting
 
-abbrev pub contents_in : List Product → List Content
+abbrev pub contents_in : List Product → List ObjectContent
 contents_in [] = []
 contents_in (Declares d ∷ xs) = contents_in xs
 contents_in (Data o items ∷ xs) = record { object = o; settings = items } ∷ contents_in xs
 contents_in (Body f locals storages body ∷ xs) = contents_in xs
 
 -- a function with its body. Its parameters come first among its locals
-pub record Written : Type 0 where
+pub record WrittenFunction : Type 0 where
   pub routine : ℕ
   pub name : List ℕ
-  pub parameters : List (Option Slot)
+  pub parameters : List (Option FrameSlot)
   pub variables : ℕ
   pub frame : ℕ
   pub body : program.Statements
 
-abbrev pub written_in : Tables → (spellings : List (List ℕ)) → List Product → List Written
+abbrev pub written_in : Tables → (spellings : List (List ℕ)) → List Product → List WrittenFunction
 written_in s spellings [] = []
 written_in s spellings (Declares d ∷ xs) = written_in s spellings xs
 written_in s spellings (Data o items ∷ xs) = written_in s spellings xs
@@ -69,11 +69,11 @@ places_of_bodies (d ∷ ds) = place_if d (places_of_bodies ds)
 
 -- ---- the file in memory
 
-abbrev pub view_data : List Datum → List Content
+abbrev pub view_data : List Datum → List ObjectContent
 view_data [] = []
 view_data (d ∷ ds) = record { object = d.object; settings = view_settings d.settings } ∷ view_data ds
 
-abbrev pub view_functions : List TypedFunction → List Written
+abbrev pub view_functions : List TypedFunction → List WrittenFunction
 view_functions [] = []
 view_functions (f ∷ fs) =
     record { routine = f.routine; name = f.name; parameters = f.parameters; variables = f.variables; frame = f.frame; body = view_statements f.body } ∷ view_functions fs

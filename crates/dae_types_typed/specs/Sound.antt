@@ -14,7 +14,7 @@ use Rattle.dae_types_kinds.specs.declared.tables.Component.{Component}
 use Rattle.dae_types_kinds.specs.declared.tables.Entity.{Entity}
 use Rattle.dae_types_kinds.specs.declared.tables.Entity.TheVariants as entity
 use Rattle.dae_types_kinds.specs.declared.tables.Routine.{Routine}
-use Rattle.dae_types_kinds.specs.declared.tables.Use.{Use}
+use Rattle.dae_types_kinds.specs.declared.tables.EntityUse.{EntityUse}
 use Rattle.dae_types_kinds.specs.Tables.{Tables}
 use Rattle.dae_types_kinds.specs.declared.types.Shape.TheVariants as shape
 use Rattle.dae_types_kinds.specs.Types as types
@@ -69,10 +69,10 @@ same_entity (entity.Object m) (entity.Object n) = nat_eq m n
 same_entity (entity.Function m) (entity.Function n) = nat_eq m n
 same_entity _ _ = false
 
-abbrev pub is_use_of : Entity → Use → Bool
+abbrev pub is_use_of : Entity → EntityUse → Bool
 is_use_of e u = same_entity e u.entity
 
-abbrev pub is_used : List Use → Entity → Bool
+abbrev pub is_used : List EntityUse → Entity → Bool
 is_used uses e = list_any (is_use_of e) uses
 
 -- ---- what the joiner owes

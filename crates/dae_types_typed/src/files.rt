@@ -4,9 +4,9 @@ ghost use Rattle.std.specs.Prelude.{◌≡◌};
 ghost use Rattle.dae_types_typed.specs.Sound.{IsSound};
 
 use dae_base::{Items, Place, Text};
-use dae_program::{Setting, Slot, Statement};
+use dae_program::{FrameSlot, Setting, Statement};
 use dae_types_file_plans::FileDeclaration;
-use dae_types_kinds::{Component, Object, Routine, Shape, Structure, Use};
+use dae_types_kinds::{Component, EntityUse, Routine, Shape, StaticObject, Structure};
 use std::marker::Model;
 
 /// The content of an initialised object with static storage, by the object's number: what is set, in the order of the text.
@@ -25,7 +25,7 @@ pub struct TypedFunction {
     pub routine: usize,
     pub name: Text,
     pub place: Place,
-    pub parameters: Items<Option<Slot>>,
+    pub parameters: Items<Option<FrameSlot>>,
     pub variables: u32,
     pub frame: u64,
     pub body: Items<Statement>,
@@ -39,12 +39,12 @@ pub struct FileParts {
     pub shapes: Items<Shape>,
     pub structures: Items<Structure>,
     pub components: Items<Component>,
-    pub objects: Items<Object>,
+    pub objects: Items<StaticObject>,
     pub routines: Items<Routine>,
     pub declarations: Items<FileDeclaration>,
     pub contents: Items<Datum>,
     pub functions: Items<TypedFunction>,
-    pub uses: Items<Use>,
+    pub uses: Items<EntityUse>,
     pub names: Items<Items<u8>>,
     pub literals: Items<Items<u8>>,
 }

@@ -7,26 +7,26 @@ use Rattle.dae_program.specs.declared.expressions.Expression.{Expression}
 use Rattle.dae_types_kinds.specs.declared.rules.CheckError.{CheckError}
 use Rattle.dae_types_kinds.specs.Tables.{Tables}
 use Rattle.dae_types_kinds.specs.Values.{Typed}
-use Rattle.dae_types_rules.specs.Plan.{Plan, pure, Gives}
+use Rattle.dae_types_rules.specs.Plan.{CheckPlan, pure, Gives}
 use Rattle.dae_types_plans.specs.Steps.{parameter_types}
 use Rattle.dae_types_tables.specs.declared.checker.Checker.{Checker}
 use Rattle.dae_types_tables.specs.Seen.{tables, FollowsBy}
-use Rattle.dae_types_folding.specs.declared.value.Value.{Value}
+use Rattle.dae_types_folding.specs.declared.value.TypedValue.{TypedValue}
 use Rattle.dae_types_folding.specs.Views.{view_value}
 
 -- ---- parts that are done
 
-abbrev pub one : Value → Plan Typed
+abbrev pub one : TypedValue → CheckPlan Typed
 one x = pure (view_value x)
 
-abbrev pub two : Value → Value → Plan (Typed × Typed)
+abbrev pub two : TypedValue → TypedValue → CheckPlan (Typed × Typed)
 two x y = pure (view_value x, view_value y)
 
-abbrev pub three : Value → Value → Value → Plan (Typed × (Typed × Typed))
+abbrev pub three : TypedValue → TypedValue → TypedValue → CheckPlan (Typed × (Typed × Typed))
 three x y z = pure (view_value x, (view_value y, view_value z))
 
 -- a type, and what is cast to it
-abbrev pub cast_of : ℕ → Value → Plan (ℕ × Typed)
+abbrev pub cast_of : ℕ → TypedValue → CheckPlan (ℕ × Typed)
 cast_of t x = pure (t, view_value x)
 
 -- arguments in their order
@@ -36,7 +36,7 @@ views es = map view es.items
 -- ---- what functions give
 
 -- the value that a plan says, up to the first broken rule
-abbrev pub GivesValue : Checker → Result Value CheckError → Plan Typed → Checker → Type 0
+abbrev pub GivesValue : Checker → Result TypedValue CheckError → CheckPlan Typed → Checker → Type 0
 GivesValue new r m old = FollowsBy view_value new r m old
 
 -- a type with the tables that it stands in, where there is one

@@ -17,7 +17,7 @@ use crate::converting::{convert, fits};
 use dae_base::Place;
 use dae_program::Expression;
 use dae_tree::Name;
-use dae_types_folding::{Value, boxed};
+use dae_types_folding::{TypedValue, boxed};
 use dae_types_kinds::{
     CheckError, Entity, LibraryFunction, Rule, Shape, is_printf, library_of, parameters_of,
     result_of, routine_type, word_for,
@@ -84,7 +84,7 @@ fn parameter_type(
 }
 
 /// Whether a value may be passed to a parameter of a type, if there is one.
-fn fits_some(checker: &Checker, x: &Value, type_id: Option<usize>) -> bool
+fn fits_some(checker: &Checker, x: &TypedValue, type_id: Option<usize>) -> bool
     ensures { result ≡ fits_some (tables checker.now) (view_value x.now) type_id }
 {
     match type_id {
@@ -97,7 +97,7 @@ fn fits_some(checker: &Checker, x: &Value, type_id: Option<usize>) -> bool
 fn passed(
     checker: &Checker,
     place: Place,
-    x: Value,
+    x: TypedValue,
     type_id: Option<usize>,
 ) -> Result<Box<Expression>, CheckError>
     ensures { MakesTree result (passed place (tables checker.now) (view_value x) type_id) }
@@ -119,7 +119,7 @@ pub fn add_argument(
     function: Option<usize>,
     number: usize,
     mut done: Vec<Expression>,
-    x: Value,
+    x: TypedValue,
 ) -> Result<Vec<Expression>, CheckError>
     ensures { FollowsBy views checker.now result
         (argument_at place function number (views done) (one x)) checker.now }
@@ -244,12 +244,12 @@ pub fn call(
     place: Place,
     function: usize,
     arguments: Vec<Expression>,
-) -> Result<Value, CheckError>
+) -> Result<TypedValue, CheckError>
     ensures { MakesValue result (called place (tables checker.now) function (views arguments)) }
 {
     let routine = checker.routine(function);
     let type_id = result_of(checker.shape_of(routine_type(routine)));
     let number = word_for(function);
     let tree = call_tree(checker.alloc, place, number, library_of(routine), arguments)?;
-    Ok(Value::plain(tree, type_id))
+    Ok(TypedValue::plain(tree, type_id))
 }

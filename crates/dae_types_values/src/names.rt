@@ -11,7 +11,7 @@ ghost use Rattle.dae_types_values.specs.Results.{GivesValue};
 use dae_base::Place;
 use dae_program::Expression;
 use dae_tree::{Constant, Name};
-use dae_types_folding::{Value, boxed};
+use dae_types_folding::{TypedValue, boxed};
 use dae_types_kinds::{
     Addressing, CHAR_ID, Category, CheckError, Entity, INT_ID, Known, Rule, Shape, Storage,
     UNSIGNED_ID, word_for,
@@ -20,11 +20,11 @@ use dae_types_tables::{Checker, broken};
 use std::alloc::Global;
 
 /// An integer constant.
-pub fn constant_number(alloc: Global, constant: Constant) -> Result<Value, CheckError>
+pub fn constant_number(alloc: Global, constant: Constant) -> Result<TypedValue, CheckError>
     ensures { MakesValue result
         (number constant.value (if constant.unsigned then unsigned_id else int_id)) }
 {
-    Value::number(
+    TypedValue::number(
         alloc,
         constant.value,
         if constant.unsigned {
@@ -36,10 +36,10 @@ pub fn constant_number(alloc: Global, constant: Constant) -> Result<Value, Check
 }
 
 /// The object with static storage of a number, of a type.
-fn object_at(alloc: Global, number: u32, type_id: usize) -> Result<Value, CheckError>
+fn object_at(alloc: Global, number: u32, type_id: usize) -> Result<TypedValue, CheckError>
     ensures { MakesValue result (object_at number type_id) }
 {
-    Ok(Value {
+    Ok(TypedValue {
         tree: boxed(alloc, Expression::Address(number, 0))?,
         type_id,
         category: Category::At(Addressing::Direct),
@@ -48,7 +48,7 @@ fn object_at(alloc: Global, number: u32, type_id: usize) -> Result<Value, CheckE
 }
 
 /// A string literal, by its number: an array of its bytes and a zero byte.
-pub fn literal(checker: &mut Checker, number: u32) -> Result<Value, CheckError>
+pub fn literal(checker: &mut Checker, number: u32) -> Result<TypedValue, CheckError>
     ensures { GivesValue checker.new result (does (λ s x. literal number s) nothing) checker.old }
 {
     let size = checker.literal_size(number as usize);
@@ -57,7 +57,7 @@ pub fn literal(checker: &mut Checker, number: u32) -> Result<Value, CheckError>
 }
 
 /// An object of the file, behind the literals.
-fn object(checker: &Checker, number: usize) -> Result<Value, CheckError>
+fn object(checker: &Checker, number: usize) -> Result<TypedValue, CheckError>
     ensures { MakesValue result
         (object_at (object_number (tables checker.now) number)
         (object_type (slice_get (tables checker.now).objects number))) }
@@ -75,23 +75,23 @@ fn stored_in(
     place: Place,
     type_id: usize,
     storage: Option<Storage>,
-) -> Result<Value, CheckError>
+) -> Result<TypedValue, CheckError>
     ensures { MakesValue result (stored_in place type_id storage) }
 {
     match storage {
-        Some(Storage::Variable(variable)) => Ok(Value {
+        Some(Storage::Variable(variable)) => Ok(TypedValue {
             tree: boxed(alloc, Expression::Variable(place, variable))?,
             type_id,
             category: Category::InVariable(variable),
             known: Known::Nothing,
         }),
-        Some(Storage::Frame(offset)) => Ok(Value {
+        Some(Storage::Frame(offset)) => Ok(TypedValue {
             tree: boxed(alloc, Expression::Frame(place, offset))?,
             type_id,
             category: Category::At(Addressing::Direct),
             known: Known::Nothing,
         }),
-        None => Ok(Value {
+        None => Ok(TypedValue {
             tree: boxed(alloc, Expression::Frame(place, 0))?,
             type_id,
             category: Category::At(Addressing::Direct),
@@ -112,7 +112,7 @@ fn local_type(checker: &Checker, number: usize) -> usize
 
 /// A use of a name.
 #[tactic(auto, unfolding(dae_types_rules::specs::Plan::ask_all))]
-pub fn name(checker: &mut Checker, name: Name) -> Result<Value, CheckError>
+pub fn name(checker: &mut Checker, name: Name) -> Result<TypedValue, CheckError>
     ensures { GivesValue checker.new result (name_at name) checker.old }
 {
     match checker.found_name(name.number) {
@@ -128,7 +128,7 @@ pub fn name(checker: &mut Checker, name: Name) -> Result<Value, CheckError>
             let storage = checker.storage(number);
             stored_in(checker.alloc, name.place, type_id, storage)
         }
-        Some(Entity::Enumerator(word)) => Value::number(checker.alloc, word, INT_ID),
+        Some(Entity::Enumerator(word)) => TypedValue::number(checker.alloc, word, INT_ID),
         Some(Entity::Type(_)) => Err(broken(Rule::TypedefMisuse, name.place)),
     }
 }

@@ -27,11 +27,11 @@ use Rattle.dae_types_kinds.specs.declared.tables.NamedType.{NamedType}
 use Rattle.dae_types_kinds.specs.Tables.{Tables, found_name}
 use Rattle.dae_types_kinds.specs.Types.{no_parameters_id}
 use Rattle.dae_types_kinds.specs.Values.{Typed, called}
-use Rattle.dae_types_rules.specs.Plan.{Plan, pure, both, Fails, Gives, check_of, ◌>>=◌}
+use Rattle.dae_types_rules.specs.Plan.{CheckPlan, pure, both, Fails, Gives, check_of, ◌>>=◌}
 use Rattle.dae_types_plans.specs.Steps.{call_at, call_by, call_of, cast_at, count_of, does, function, name_in, routine_in, scoped, sizeof_at, value_at}
 use Rattle.dae_types_plans.specs.Expressions.{plan, plan_specifier, plan_declarator, plan_parameters, plan_value}
 use Rattle.dae_program.specs.Trees as program
-use Rattle.dae_types_folding.specs.declared.value.Value.{Value}
+use Rattle.dae_types_folding.specs.declared.value.TypedValue.{TypedValue}
 use Rattle.dae_types_folding.specs.Views.{MakesValue, view_value}
 use Rattle.dae_types_walk.specs.Plans.{beside_name, function_named, plan_all, plan_call, plan_no_call, plan_type_name}
 
@@ -46,14 +46,14 @@ abbrev beside : Tables → Result Typed Breach → Result (Tables × Typed) Brea
 beside s (Ok x) = Ok (s, x)
 beside s (Err f) = Err f
 
-with_tables : (s : Tables) (r : Result Value CheckError) (x : Typed) → MakesValue r x → Gives {Y = Tables × Typed} (λ v. (s, view_value v)) r (Ok (s, x))
+with_tables : (s : Tables) (r : Result TypedValue CheckError) (x : Typed) → MakesValue r x → Gives {Y = Tables × Typed} (λ v. (s, view_value v)) r (Ok (s, x))
 with_tables s (Ok v) x h = ap (beside s) h
 with_tables s (Err errors.Memory) x h = h
 with_tables s (Err errors.Unsound) x h = h
 with_tables s (Err (errors.Rule f)) x h = ap (beside s) h
 
 -- a call behind what its site says, and behind its arguments
-abbrev after_site : Place → ℕ → Plan (List program.Expression) → Result (Tables × Unit {0}) Breach → Result (Tables × Typed) Breach
+abbrev after_site : Place → ℕ → CheckPlan (List program.Expression) → Result (Tables × Unit {0}) Breach → Result (Tables × Typed) Breach
 after_site p f args y = y >>= λ x. check_of (does (λ s es. (s, called p s f es)) args) x.0
 
 abbrev after_arguments : Place → ℕ → Result (Tables × List program.Expression) Breach → Result (Tables × Typed) Breach
@@ -69,7 +69,7 @@ call_broken errors.Memory p n f xs s begun h g = g
 call_broken errors.Unsound p n f xs s begun h g = g
 call_broken (errors.Rule b) p n f xs s begun h g = ap (after_site p f (plan_all (Some f) xs)) h ∙ ap (after_arguments p f) g
 
-pub call_done : (r : Result Value CheckError) (p : Place) (n : Name) (f : ℕ) (xs : List Expression) (s begun after : Tables) (es : List program.Expression) → check_of (call_at p n f (length xs)) s ≡ Ok (begun, tt {0}) → check_of (plan_all (Some f) xs) begun ≡ Ok (after, es) → MakesValue r (called p after f es) → Gives {Y = Tables × Typed} (λ v. (after, view_value v)) r (check_of (plan_call p n f xs) s)
+pub call_done : (r : Result TypedValue CheckError) (p : Place) (n : Name) (f : ℕ) (xs : List Expression) (s begun after : Tables) (es : List program.Expression) → check_of (call_at p n f (length xs)) s ≡ Ok (begun, tt {0}) → check_of (plan_all (Some f) xs) begun ≡ Ok (after, es) → MakesValue r (called p after f es) → Gives {Y = Tables × Typed} (λ v. (after, view_value v)) r (check_of (plan_call p n f xs) s)
 call_done r p n f xs s begun after es h g made =
     subst (λ (y : Result (Tables × Typed) Breach). Gives {Y = Tables × Typed} (λ v. (after, view_value v)) r y) (sym (ap (after_site p f (plan_all (Some f) xs)) h ∙ ap (after_arguments p f) g)) (with_tables after r (called p after f es) made)
 
@@ -78,19 +78,19 @@ abbrev CallGives : {X : Type 0} → (X → Tables × Typed) → Result X CheckEr
 CallGives see r q xs s None = Unit {0}
 CallGives see r q xs s (Some x) = Gives see r (check_of (plan_call q x.0 x.1 xs) s)
 
-found_by : {X : Type 0} (see : X → Tables × Typed) (r : Result X CheckError) (q : Place) (n : Name) (m : Plan Typed) (xs : List Expression) (s : Tables) (x : Name × ℕ) (f : Option ℕ) → beside_name n f ≡ Some x → Gives see r (check_of (plan_call q x.0 x.1 xs) s) → Gives see r (check_of (call_by q q n (count_of (views xs)) f m (plan_all f xs)) s)
+found_by : {X : Type 0} (see : X → Tables × Typed) (r : Result X CheckError) (q : Place) (n : Name) (m : CheckPlan Typed) (xs : List Expression) (s : Tables) (x : Name × ℕ) (f : Option ℕ) → beside_name n f ≡ Some x → Gives see r (check_of (plan_call q x.0 x.1 xs) s) → Gives see r (check_of (call_by q q n (count_of (views xs)) f m (plan_all f xs)) s)
 found_by see r q n m xs s x None h g = absurd cc
 found_by see r q n m xs s x (Some f) h g = rw (arguments_counted xs) (subst (CallGives see r q xs s) (sym h) g)
 
-found : {X : Type 0} (see : X → Tables × Typed) (r : Result X CheckError) (q : Place) (n : Option Name) (m : Plan Typed) (xs : List Expression) (s : Tables) (x : Name × ℕ) → function_named s n ≡ Some x → Gives see r (check_of (plan_call q x.0 x.1 xs) s) → Gives see r (check_of (call_of q q n (count_of (views xs)) m (λ f. plan_all f xs)) s)
+found : {X : Type 0} (see : X → Tables × Typed) (r : Result X CheckError) (q : Place) (n : Option Name) (m : CheckPlan Typed) (xs : List Expression) (s : Tables) (x : Name × ℕ) → function_named s n ≡ Some x → Gives see r (check_of (plan_call q x.0 x.1 xs) s) → Gives see r (check_of (call_of q q n (count_of (views xs)) m (λ f. plan_all f xs)) s)
 found see r q None m xs s x h g = absurd cc
 found see r q (Some n) m xs s x h g = found_by see r q n m xs s x (routine_in (found_name s n.number)) h g
 
-missed_by : {X : Type 0} (see : X → Tables × Typed) (r : Result X CheckError) (q : Place) (n : Name) (m : Plan Typed) (xs : List Expression) (s : Tables) (f : Option ℕ) → beside_name n f ≡ None → Gives see r (check_of (plan_no_call q (value_at q m) xs) s) → Gives see r (check_of (call_by q q n (count_of (views xs)) f m (plan_all f xs)) s)
+missed_by : {X : Type 0} (see : X → Tables × Typed) (r : Result X CheckError) (q : Place) (n : Name) (m : CheckPlan Typed) (xs : List Expression) (s : Tables) (f : Option ℕ) → beside_name n f ≡ None → Gives see r (check_of (plan_no_call q (value_at q m) xs) s) → Gives see r (check_of (call_by q q n (count_of (views xs)) f m (plan_all f xs)) s)
 missed_by see r q n m xs s None h g = g
 missed_by see r q n m xs s (Some f) h g = absurd cc
 
-missed : {X : Type 0} (see : X → Tables × Typed) (r : Result X CheckError) (q : Place) (n : Option Name) (m : Plan Typed) (xs : List Expression) (s : Tables) → function_named s n ≡ None → Gives see r (check_of (plan_no_call q (value_at q m) xs) s) → Gives see r (check_of (call_of q q n (count_of (views xs)) m (λ f. plan_all f xs)) s)
+missed : {X : Type 0} (see : X → Tables × Typed) (r : Result X CheckError) (q : Place) (n : Option Name) (m : CheckPlan Typed) (xs : List Expression) (s : Tables) → function_named s n ≡ None → Gives see r (check_of (plan_no_call q (value_at q m) xs) s) → Gives see r (check_of (call_of q q n (count_of (views xs)) m (λ f. plan_all f xs)) s)
 missed see r q None m xs s h g = g
 missed see r q (Some n) m xs s h g = missed_by see r q n m xs s (routine_in (found_name s n.number)) h g
 
@@ -125,7 +125,7 @@ sizeof_type_gives see r e p q t name s is same g =
     let by : Gives see r (check_of (sizeof_at p (plan_type_name t.value p)) s) = subst (λ (k : TypeName). Gives see r (check_of (sizeof_at p (plan_type_name k p)) s)) same g in
     subst (λ x. Gives see r (check_of (plan x) s)) (sym (ap view is ∙ view_sizeof_type p q t)) by
 
-pub sizeof_then : {X : Type 0} (see : X → Tables × Typed) (r : Result X CheckError) (p : Place) (m : Plan ℕ) (s after : Tables) (t : ℕ) → check_of m s ≡ Ok (after, t) → Gives see r (check_of (sizeof_at p (pure t)) after) → Gives see r (check_of (sizeof_at p m) s)
+pub sizeof_then : {X : Type 0} (see : X → Tables × Typed) (r : Result X CheckError) (p : Place) (m : CheckPlan ℕ) (s after : Tables) (t : ℕ) → check_of m s ≡ Ok (after, t) → Gives see r (check_of (sizeof_at p (pure t)) after) → Gives see r (check_of (sizeof_at p m) s)
 sizeof_then see r p m s after t h g = rw h g
 
 pub cast_gives : {X : Type 0} (see : X → Tables × Typed) (r : Result X CheckError) (e : Expression) (p : Place) (t : Box TypeName Global) (a : Box Expression Global) (name : TypeName) (x : Expression) (s : Tables) → e ≡ code.Cast p t a → name ≡ t.value → x ≡ a.value → Gives see r (check_of (cast_at p (both (plan_type_name name p) (plan_value (view x)))) s) → Gives see r (check_of (plan (view e)) s)
@@ -134,7 +134,7 @@ cast_gives see r e p t a name x s is same alike g =
     subst (λ x. Gives see r (check_of (plan x) s)) (sym (ap view is ∙ view_cast p t a)) (subst (λ (k : Expression). Gives see r (check_of (cast_at p (both (plan_type_name t.value p) (plan_value (view k)))) s)) alike by)
 
 -- the type, and then the rest of a cast
-pub cast_then : {X : Type 0} (see : X → Tables × Typed) (r : Result X CheckError) (p : Place) (m : Plan ℕ) (n : Plan Typed) (s after : Tables) (t : ℕ) → check_of m s ≡ Ok (after, t) → Gives see r (check_of (cast_at p (both (pure t) n)) after) → Gives see r (check_of (cast_at p (both m n)) s)
+pub cast_then : {X : Type 0} (see : X → Tables × Typed) (r : Result X CheckError) (p : Place) (m : CheckPlan ℕ) (n : CheckPlan Typed) (s after : Tables) (t : ℕ) → check_of m s ≡ Ok (after, t) → Gives see r (check_of (cast_at p (both (pure t) n)) after) → Gives see r (check_of (cast_at p (both m n)) s)
 cast_then see r p m n s after t h g = rw h g
 
 -- ---- specifiers and declarators

@@ -21,7 +21,7 @@ use dae_tree::{
     AssignmentOperator, BinaryOperator, Declarator, Enumerator, Expression, Member, MemberOperator,
     Name, Parameter, PostfixOperator, PrefixOperator, Seen, Specifier, TypeName,
 };
-use dae_types_folding::Value;
+use dae_types_folding::TypedValue;
 use dae_types_kinds::{CheckError, Context, INT_ID, Layout, NO_PARAMETERS_ID, NamedType, Rule};
 use dae_types_sites::{Adjustment, TagScope};
 use dae_types_tables::{Checker, broken};
@@ -29,7 +29,7 @@ use dae_types_tables::{Checker, broken};
 /// The typed tree of an expression, as an object where it is one. Each kind has a function of its
 /// own, so that a level of a nest takes no more of the stack than its kind needs.
 #[cycle(tree)]
-pub fn expression(checker: &mut Checker, e: &Expression) -> Result<Value, CheckError>
+pub fn expression(checker: &mut Checker, e: &Expression) -> Result<TypedValue, CheckError>
     ensures { GivesValue checker.new result (plan (view e.now)) checker.old }
 {
     match e {
@@ -65,7 +65,7 @@ pub fn expression(checker: &mut Checker, e: &Expression) -> Result<Value, CheckE
 /// A subscript, which is an operator between two values.
 #[cycle(tree)]
 #[inline(never)]
-fn subscript(checker: &mut Checker, e: &Expression) -> Result<Value, CheckError>
+fn subscript(checker: &mut Checker, e: &Expression) -> Result<TypedValue, CheckError>
     requires { IsIndex e.now }
     ensures { GivesValue checker.new result (plan (view e.now)) checker.old }
 {
@@ -82,7 +82,7 @@ fn subscript(checker: &mut Checker, e: &Expression) -> Result<Value, CheckError>
 /// A call of a function by its name; a call of anything else is refused, behind its arguments.
 #[cycle(tree)]
 #[inline(never)]
-fn call_or_refuse(checker: &mut Checker, e: &Expression) -> Result<Value, CheckError>
+fn call_or_refuse(checker: &mut Checker, e: &Expression) -> Result<TypedValue, CheckError>
     requires { IsCall e.now }
     ensures { GivesValue checker.new result (plan (view e.now)) checker.old }
 {
@@ -101,7 +101,7 @@ fn call_or_refuse(checker: &mut Checker, e: &Expression) -> Result<Value, CheckE
 /// A member of a structure.
 #[cycle(tree)]
 #[inline(never)]
-fn dot(checker: &mut Checker, a: &Expression, name: Name) -> Result<Value, CheckError>
+fn dot(checker: &mut Checker, a: &Expression, name: Name) -> Result<TypedValue, CheckError>
     ensures { GivesValue checker.new result (plan_member a.now signs.Dot name) checker.old }
 {
     let x = expression(checker, a)?;
@@ -111,7 +111,7 @@ fn dot(checker: &mut Checker, a: &Expression, name: Name) -> Result<Value, Check
 /// A member of the structure that a pointer points to.
 #[cycle(tree)]
 #[inline(never)]
-fn arrow(checker: &mut Checker, a: &Expression, name: Name) -> Result<Value, CheckError>
+fn arrow(checker: &mut Checker, a: &Expression, name: Name) -> Result<TypedValue, CheckError>
     ensures { GivesValue checker.new result (plan_member a.now signs.Arrow name) checker.old }
 {
     let x = operand(checker, a)?;
@@ -121,7 +121,7 @@ fn arrow(checker: &mut Checker, a: &Expression, name: Name) -> Result<Value, Che
 /// `++` behind an object.
 #[cycle(tree)]
 #[inline(never)]
-fn increment(checker: &mut Checker, a: &Expression) -> Result<Value, CheckError>
+fn increment(checker: &mut Checker, a: &Expression) -> Result<TypedValue, CheckError>
     ensures { GivesValue checker.new result (plan_postfix a.now postfix.Increment) checker.old }
 {
     let x = expression(checker, a)?;
@@ -131,7 +131,7 @@ fn increment(checker: &mut Checker, a: &Expression) -> Result<Value, CheckError>
 /// `--` behind an object.
 #[cycle(tree)]
 #[inline(never)]
-fn decrement(checker: &mut Checker, a: &Expression) -> Result<Value, CheckError>
+fn decrement(checker: &mut Checker, a: &Expression) -> Result<TypedValue, CheckError>
     ensures { GivesValue checker.new result (plan_postfix a.now postfix.Decrement) checker.old }
 {
     let x = expression(checker, a)?;
@@ -142,7 +142,7 @@ fn decrement(checker: &mut Checker, a: &Expression) -> Result<Value, CheckError>
 #[cycle(tree)]
 #[inline(never)]
 #[tactic(auto, using(crate::proofs::Steps::binary_follows, crate::proofs::Steps::binary_stops))]
-fn operation(checker: &mut Checker, e: &Expression) -> Result<Value, CheckError>
+fn operation(checker: &mut Checker, e: &Expression) -> Result<TypedValue, CheckError>
     requires { IsBinary e.now }
     ensures { GivesValue checker.new result (plan (view e.now)) checker.old }
 {
@@ -158,7 +158,7 @@ fn operation(checker: &mut Checker, e: &Expression) -> Result<Value, CheckError>
 /// `?:` between three expressions.
 #[cycle(tree)]
 #[inline(never)]
-fn choice(checker: &mut Checker, e: &Expression) -> Result<Value, CheckError>
+fn choice(checker: &mut Checker, e: &Expression) -> Result<TypedValue, CheckError>
     requires { IsConditional e.now }
     ensures { GivesValue checker.new result (plan (view e.now)) checker.old }
 {
@@ -177,7 +177,7 @@ fn choice(checker: &mut Checker, e: &Expression) -> Result<Value, CheckError>
 #[cycle(tree)]
 #[inline(never)]
 #[tactic(auto, using(crate::proofs::Steps::assignment_follows, crate::proofs::Steps::assignment_stops))]
-fn assign_to(checker: &mut Checker, e: &Expression) -> Result<Value, CheckError>
+fn assign_to(checker: &mut Checker, e: &Expression) -> Result<TypedValue, CheckError>
     requires { IsAssignment e.now }
     ensures { GivesValue checker.new result (plan (view e.now)) checker.old }
 {
@@ -193,7 +193,7 @@ fn assign_to(checker: &mut Checker, e: &Expression) -> Result<Value, CheckError>
 /// A comma between two expressions.
 #[cycle(tree)]
 #[inline(never)]
-fn comma(checker: &mut Checker, e: &Expression) -> Result<Value, CheckError>
+fn comma(checker: &mut Checker, e: &Expression) -> Result<TypedValue, CheckError>
     requires { IsComma e.now }
     ensures { GivesValue checker.new result (plan (view e.now)) checker.old }
 {
@@ -210,7 +210,7 @@ fn comma(checker: &mut Checker, e: &Expression) -> Result<Value, CheckError>
 /// The value of an expression.
 #[cycle(tree)]
 #[inline(never)]
-pub fn operand(checker: &mut Checker, e: &Expression) -> Result<Value, CheckError>
+pub fn operand(checker: &mut Checker, e: &Expression) -> Result<TypedValue, CheckError>
     ensures { GivesValue checker.new result (plan_value (view e.now)) checker.old }
 {
     let x = expression(checker, e)?;
@@ -220,7 +220,11 @@ pub fn operand(checker: &mut Checker, e: &Expression) -> Result<Value, CheckErro
 /// A value, and the value of an expression behind it.
 #[cycle(tree)]
 #[inline(never)]
-fn pair(checker: &mut Checker, x: Value, b: &Expression) -> Result<(Value, Value), CheckError>
+fn pair(
+    checker: &mut Checker,
+    x: TypedValue,
+    b: &Expression,
+) -> Result<(TypedValue, TypedValue), CheckError>
     ensures { FollowsBy view_pair checker.new result (plan_behind x b.now) checker.old }
 {
     let y = operand(checker, b)?;
@@ -236,7 +240,7 @@ fn prefix(
     place: Place,
     operator: PrefixOperator,
     a: &Expression,
-) -> Result<Value, CheckError>
+) -> Result<TypedValue, CheckError>
     ensures { GivesValue checker.new result
         (plan (Prefix place operator (view a.now))) checker.old }
 {
@@ -247,7 +251,7 @@ fn prefix(
 /// `sizeof` before an expression, which isn't used.
 #[cycle(tree)]
 #[inline(never)]
-fn sizeof(checker: &mut Checker, place: Place, a: &Expression) -> Result<Value, CheckError>
+fn sizeof(checker: &mut Checker, place: Place, a: &Expression) -> Result<TypedValue, CheckError>
     ensures { GivesValue checker.new result
         (plan (SizeofExpression place (view a.now))) checker.old }
 {
@@ -265,7 +269,7 @@ fn cast(
     place: Place,
     type_id: usize,
     a: &Expression,
-) -> Result<Value, CheckError>
+) -> Result<TypedValue, CheckError>
     ensures { GivesValue checker.new result (plan_cast place type_id a.now) checker.old }
 {
     let x = operand(checker, a)?;
@@ -280,9 +284,9 @@ fn binary(
     checker: &mut Checker,
     place: Place,
     operator: BinaryOperator,
-    x: Value,
+    x: TypedValue,
     b: &Expression,
-) -> Result<Value, CheckError>
+) -> Result<TypedValue, CheckError>
     ensures { GivesValue checker.new result (plan_binary place operator x b.now) checker.old }
 {
     let y = operand(checker, b)?;
@@ -295,10 +299,10 @@ fn binary(
 fn conditional(
     checker: &mut Checker,
     place: Place,
-    x: Value,
-    y: Value,
+    x: TypedValue,
+    y: TypedValue,
     b: &Expression,
-) -> Result<Value, CheckError>
+) -> Result<TypedValue, CheckError>
     ensures { GivesValue checker.new result (plan_conditional place x y b.now) checker.old }
 {
     let z = operand(checker, b)?;
@@ -313,9 +317,9 @@ fn assignment(
     checker: &mut Checker,
     place: Place,
     operator: AssignmentOperator,
-    x: Value,
+    x: TypedValue,
     b: &Expression,
-) -> Result<Value, CheckError>
+) -> Result<TypedValue, CheckError>
     ensures { GivesValue checker.new result (plan_assignment place operator x b.now) checker.old }
 {
     let y = operand(checker, b)?;
@@ -331,7 +335,7 @@ fn call(
     name: Name,
     function: usize,
     list: &[Expression],
-) -> Result<Value, CheckError>
+) -> Result<TypedValue, CheckError>
     ensures { GivesValue checker.new result (plan_call place name function list.now) checker.old }
 {
     dae_types_values::begin_call(checker, place, name, function, list.len())?;
@@ -346,9 +350,9 @@ fn call(
 fn no_call(
     checker: &mut Checker,
     place: Place,
-    x: Value,
+    x: TypedValue,
     list: &[Expression],
-) -> Result<Value, CheckError>
+) -> Result<TypedValue, CheckError>
     ensures { GivesValue checker.new result (plan_no_call place (one x) list.now) checker.old }
 {
     arguments(checker, None, list)?;

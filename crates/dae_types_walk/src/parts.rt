@@ -11,7 +11,7 @@ ghost use Rattle.dae_types_walk.specs.Plans.{function_named};
 
 use dae_base::Place;
 use dae_tree::{Declarator, Expression, Name, Specifier};
-use dae_types_folding::Value;
+use dae_types_folding::TypedValue;
 use dae_types_kinds::CheckError;
 use dae_types_sites::Adjustment;
 use dae_types_tables::Checker;
@@ -110,14 +110,14 @@ pub fn called_function(checker: &Checker, callee: &Expression) -> Option<(Name, 
 }
 
 /// The word of an enumerator's or label's value.
-pub fn constant_value(checker: &Checker, place: Place, x: Value) -> Result<u32, CheckError>
+pub fn constant_value(checker: &Checker, place: Place, x: TypedValue) -> Result<u32, CheckError>
     ensures { Follows checker.now result (constant_at place (one x)) checker.now }
 {
     dae_types_sites::constant_value(checker, place, x.type_id, x.known)
 }
 
 /// The number of elements that an array's size says.
-pub fn element_count(checker: &Checker, place: Place, x: Value) -> Result<u32, CheckError>
+pub fn element_count(checker: &Checker, place: Place, x: TypedValue) -> Result<u32, CheckError>
     ensures { Follows checker.now result (count_at place (one x)) checker.now }
 {
     dae_types_sites::element_count(checker, place, x.type_id, x.known)

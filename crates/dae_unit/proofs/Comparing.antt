@@ -18,11 +18,11 @@ use Rattle.dae_types_typed.specs.declared.files.FileParts.{FileParts}
 use Rattle.dae_types_typed.specs.Sound.{tables_of, bytes_of, members_of}
 use Rattle.dae_unit.specs.declared.couples.Couple.{Couple}
 use Rattle.dae_unit.specs.declared.couples.Goal.{Goal}
-use Rattle.dae_unit.specs.declared.couples.Task.{Task}
-use Rattle.dae_unit.specs.declared.couples.Task.TheVariants.{Compare, Note}
+use Rattle.dae_unit.specs.declared.couples.CoupleTask.{CoupleTask}
+use Rattle.dae_unit.specs.declared.couples.CoupleTask.TheVariants.{Compare, Note}
 use Rattle.dae_unit.specs.Across.{same_tag, tag_of, same_members, same_bodies, same_structure, shape_across, same_within_files}
-use Rattle.dae_unit.specs.declared.couples.Verdict.{Verdict}
-use Rattle.dae_unit.specs.declared.couples.Verdict.TheVariants.{Same, Other}
+use Rattle.dae_unit.specs.declared.couples.CoupleVerdict.{CoupleVerdict}
+use Rattle.dae_unit.specs.declared.couples.CoupleVerdict.TheVariants.{Same, Other}
 use Rattle.dae_unit.specs.Couples.{shape_in, agree_within, all_agree, AreOther, Needs, IsSo, same_couple, AreKnown, levels_of, depth_of, goals_at, holds, all_hold, cost, weight}
 
 -- ---- tests
@@ -39,7 +39,7 @@ pub plain_last : (a p s : Bool) → p ≡ s → (p && a) ≡ (a && s)
 plain_last true p s h = and_unit p ∙ h
 plain_last false p s h = and_false p
 
-pub known_moved : (f g : FileParts) (old new : List (Couple × Verdict)) → old ≡ new → AreKnown f g old → AreKnown f g new
+pub known_moved : (f g : FileParts) (old new : List (Couple × CoupleVerdict)) → old ≡ new → AreKnown f g old → AreKnown f g new
 known_moved f g old new h all = subst (λ z. AreKnown f g z) h all
 
 -- ---- more levels
@@ -102,7 +102,7 @@ couples_same c d h =
     let right : c.right ≡ d.right = grind (arith, nat_tests, e.1) in
     λ i. record { structures = structures i; behind = behind i; left = left i; right = right i }
 
-known_further : (known : List (Couple × Verdict)) (k j : ℕ) (cs : List Couple) → depth_of known k cs ≡ Some j → k ≤ j
+known_further : (known : List (Couple × CoupleVerdict)) (k j : ℕ) (cs : List Couple) → depth_of known k cs ≡ Some j → k ≤ j
 known_further known k j [] h = let e : k ≡ j = cc in omega arith
 known_further known k j (c ∷ cs) h = by (levels_of (lookup (same_couple c) known)) (λ i e. known_further known (max k i) j cs e) h
   where
@@ -110,12 +110,12 @@ known_further known k j (c ∷ cs) h = by (levels_of (lookup (same_couple c) kno
     by None rest e = absurd cc
     by (Some i) rest e = let most = rest i e in omega arith
 
-levels_known : (o : Option Verdict) (k : ℕ) → levels_of o ≡ Some k → o ≡ Some (Same k)
+levels_known : (o : Option CoupleVerdict) (k : ℕ) → levels_of o ≡ Some k → o ≡ Some (Same k)
 levels_known None k h = absurd cc
 levels_known (Some Other) k h = absurd cc
 levels_known (Some (Same j)) k h = let e : j ≡ k = cc in ap (λ i. Some (Same i)) e
 
-pub known_agree : (f g : FileParts) (known : List (Couple × Verdict)) → AreKnown f g known → (k j : ℕ) (cs : List Couple) → depth_of known k cs ≡ Some j → all_agree j f g cs ≡ true
+pub known_agree : (f g : FileParts) (known : List (Couple × CoupleVerdict)) → AreKnown f g known → (k j : ℕ) (cs : List Couple) → depth_of known k cs ≡ Some j → all_agree j f g cs ≡ true
 known_agree f g known all k j [] h = refl
 known_agree f g known all k j (c ∷ cs) h = by (levels_of (lookup (same_couple c) known)) refl (λ i e. known_agree f g known all (max k i) j cs e) h
   where
@@ -126,7 +126,7 @@ known_agree f g known all k j (c ∷ cs) h = by (levels_of (lookup (same_couple 
         let found = levels_known (lookup (same_couple c) known) i is in
         and_from (agree_within j f g c) (all_agree j f g cs) (agrees_further i j f g c (omega arith) (all c (Same i) found)) (rest i e)
 
-pub noted : (f g : FileParts) (old new : List (Couple × Verdict)) (c : Couple) (v : Verdict) → IsSo f g c v
+pub noted : (f g : FileParts) (old new : List (Couple × CoupleVerdict)) (c : Couple) (v : CoupleVerdict) → IsSo f g c v
     → ((q : Couple) → lookup (same_couple q) new ≡ cond (same_couple c q) (Some v) (lookup (same_couple q) old)) → AreKnown f g old → AreKnown f g new
 noted f g old new c v is_so put all q w found = by (same_couple c q) refl (sym (put q) ∙ found)
   where
@@ -144,13 +144,13 @@ goals_hold f g k [] = refl
 goals_hold f g k (c ∷ cs) = ap (λ z. agree_within k f g c && z) (goals_hold f g k cs)
 
 -- the parts are to be compared, and the couple noted
-pub parts_hold : (f g : FileParts) (k : ℕ) (c : Couple) (old : List Task) (cs : List Couple) (whole : Bool) → all_agree k f g cs ≡ whole → all_hold f g ((old ++ Note c ∷ []) ++ goals_at k cs) ≡ (all_hold f g old && whole)
+pub parts_hold : (f g : FileParts) (k : ℕ) (c : Couple) (old : List CoupleTask) (cs : List Couple) (whole : Bool) → all_agree k f g cs ≡ whole → all_hold f g ((old ++ Note c ∷ []) ++ goals_at k cs) ≡ (all_hold f g old && whole)
 parts_hold f g k c old cs whole h =
     list_all-append (holds f g) (old ++ Note c ∷ []) (goals_at k cs)
     ∙ ap (λ z. z && all_hold f g (goals_at k cs)) (list_all-append (holds f g) old (Note c ∷ []) ∙ and_unit (all_hold f g old))
     ∙ ap (λ z. all_hold f g old && z) (goals_hold f g k cs ∙ h)
 
-weight_behind : (n : ℕ) (xs ys : List Task) → weight n (xs ++ ys) ≡ weight n xs + weight n ys
+weight_behind : (n : ℕ) (xs ys : List CoupleTask) → weight n (xs ++ ys) ≡ weight n xs + weight n ys
 weight_behind n [] ys = omega arith
 weight_behind n (Compare x ∷ xs) ys = let rest = weight_behind n xs ys in omega arith
 weight_behind n (Note c ∷ xs) ys = let rest = weight_behind n xs ys in omega arith
@@ -159,7 +159,7 @@ goals_weight : (n k : ℕ) (cs : List Couple) → weight n (goals_at k cs) ≡ l
 goals_weight n k [] = omega arith
 goals_weight n k (c ∷ cs) = let rest = goals_weight n k cs in omega arith
 
-pub parts_weigh : (n k : ℕ) (c : Couple) (old : List Task) (cs : List Couple) → length cs ≤ n → weight n ((old ++ Note c ∷ []) ++ goals_at k cs) < weight n old + cost n (suc k)
+pub parts_weigh : (n k : ℕ) (c : Couple) (old : List CoupleTask) (cs : List Couple) → length cs ≤ n → weight n ((old ++ Note c ∷ []) ++ goals_at k cs) < weight n old + cost n (suc k)
 parts_weigh n k c old cs few =
     let a = weight_behind n (old ++ Note c ∷ []) (goals_at k cs) in
     let b = weight_behind n old (Note c ∷ []) in
@@ -174,7 +174,7 @@ pub never_holds : (f g : FileParts) (c : Couple) (d : ℕ) → AreOther f g c �
 never_holds f g c d other whole = sym (ap (λ z. whole && z) (other d) ∙ and_false whole)
 
 -- it is known to be the same
-pub known_holds : (f g : FileParts) (known : List (Couple × Verdict)) → AreKnown f g known → (c : Couple) (k d : ℕ) → lookup (same_couple c) known ≡ Some (Same k) → k ≤ d → (whole : Bool) → whole ≡ (whole && agree_within d f g c)
+pub known_holds : (f g : FileParts) (known : List (Couple × CoupleVerdict)) → AreKnown f g known → (c : Couple) (k d : ℕ) → lookup (same_couple c) known ≡ Some (Same k) → k ≤ d → (whole : Bool) → whole ≡ (whole && agree_within d f g c)
 known_holds f g known all c k d at le whole = sym (ap (λ z. whole && z) (agrees_further k d f g c le (all c (Same k) at)) ∙ and_unit whole)
 
 module _ (f g : FileParts) (c : Couple) (start cs : List Couple) (none : start ≡ []) (b : Bool) (same : (k : ℕ) → (b && all_agree k f g cs) ≡ (all_agree k f g start && agree_within (suc k) f g c)) where
@@ -209,7 +209,7 @@ module _ (f g : FileParts) (c : Couple) (start cs : List Couple) (none : start �
           next_level k ∙ ap (λ z. b && z) among ∙ and_false b
 
   -- it is the same if its parts are
-  pub parts_decide : b ≡ true → (d : ℕ) → (d ≡ 0 → ⊥) → (old new : List Task) → new ≡ (old ++ Note c ∷ []) ++ goals_at (d - 1) cs → all_hold f g new ≡ (all_hold f g old && agree_within d f g c)
+  pub parts_decide : b ≡ true → (d : ℕ) → (d ≡ 0 → ⊥) → (old new : List CoupleTask) → new ≡ (old ++ Note c ∷ []) ++ goals_at (d - 1) cs → all_hold f g new ≡ (all_hold f g old && agree_within d f g c)
   parts_decide agree d h old new is =
       ap (all_hold f g) is
       ∙ parts_hold f g (d - 1) c old cs (agree_within d f g c) (sym (ap (λ z. z && all_agree (d - 1) f g cs) agree) ∙ parts_tell d h)
@@ -219,7 +219,7 @@ module _ (f g : FileParts) (c : Couple) (start cs : List Couple) (none : start �
       let e : k + 1 ≡ suc k = omega arith in
       rw e (sym (ap (λ z. all_agree k f g z && agree_within (suc k) f g c) none) ∙ sym (same k) ∙ ap (λ z. z && all_agree k f g cs) agree ∙ h)
 
-pub steps_less : (n : ℕ) (c : Couple) (cs : List Couple) → length cs ≤ n → (d : ℕ) → (d ≡ 0 → ⊥) → (old new : List Task) → new ≡ (old ++ Note c ∷ []) ++ goals_at (d - 1) cs → weight n new < weight n old + cost n d
+pub steps_less : (n : ℕ) (c : Couple) (cs : List Couple) → length cs ≤ n → (d : ℕ) → (d ≡ 0 → ⊥) → (old new : List CoupleTask) → new ≡ (old ++ Note c ∷ []) ++ goals_at (d - 1) cs → weight n new < weight n old + cost n d
 steps_less n c cs few zero h old new is = absurd (h refl)
 steps_less n c cs few (suc k) h old new is =
     let e : suc k - 1 ≡ k = omega arith in
@@ -227,20 +227,20 @@ steps_less n c cs few (suc k) h old new is =
 
 -- ---- the last task is done
 
-last_weighs : (n : ℕ) (xs ys : List Task) (x : Task) → ys ≡ xs ++ x ∷ [] → weight n ys ≡ weight n xs + weight n (x ∷ [])
+last_weighs : (n : ℕ) (xs ys : List CoupleTask) (x : CoupleTask) → ys ≡ xs ++ x ∷ [] → weight n ys ≡ weight n xs + weight n (x ∷ [])
 last_weighs n xs ys x h = ap (weight n) h ∙ weight_behind n xs (x ∷ [])
 
-pub comparing_lessens : (n : ℕ) (ys xs new : List Task) (x : Task) (goal : Goal) → ys ≡ xs ++ x ∷ [] → x ≡ Compare goal → weight n new < weight n xs + cost n goal.depth → weight n new < weight n ys
+pub comparing_lessens : (n : ℕ) (ys xs new : List CoupleTask) (x : CoupleTask) (goal : Goal) → ys ≡ xs ++ x ∷ [] → x ≡ Compare goal → weight n new < weight n xs + cost n goal.depth → weight n new < weight n ys
 comparing_lessens n ys xs new x goal h is less =
     let all = last_weighs n xs ys x h in
     let one = ap (λ z. weight n (z ∷ [])) is in
     omega arith
 
-pub noting_holds : (f g : FileParts) (ys xs : List Task) (x : Task) (c : Couple) (whole : Bool) → ys ≡ xs ++ x ∷ [] → x ≡ Note c → all_hold f g ys ≡ whole → all_hold f g xs ≡ whole
+pub noting_holds : (f g : FileParts) (ys xs : List CoupleTask) (x : CoupleTask) (c : Couple) (whole : Bool) → ys ≡ xs ++ x ∷ [] → x ≡ Note c → all_hold f g ys ≡ whole → all_hold f g xs ≡ whole
 noting_holds f g ys xs x c whole h is e =
     sym (ap (all_hold f g) (h ∙ ap (λ z. xs ++ z ∷ []) is) ∙ list_all-append (holds f g) xs (Note c ∷ []) ∙ and_unit (all_hold f g xs)) ∙ e
 
-pub noting_lessens : (n : ℕ) (ys xs : List Task) (x : Task) (c : Couple) → ys ≡ xs ++ x ∷ [] → x ≡ Note c → weight n xs < weight n ys
+pub noting_lessens : (n : ℕ) (ys xs : List CoupleTask) (x : CoupleTask) (c : Couple) → ys ≡ xs ++ x ∷ [] → x ≡ Note c → weight n xs < weight n ys
 noting_lessens n ys xs x c h is =
     let all = last_weighs n xs ys x h in
     let one = ap (λ z. weight n (z ∷ [])) is in

@@ -5,8 +5,8 @@ use Rattle.dae_base.proofs.Laws.{all_join}
 use Rattle.dae_types_typed.specs.declared.files.FileParts.{FileParts}
 use Rattle.dae_unit.specs.declared.couples.Couple.{Couple}
 use Rattle.dae_unit.specs.declared.couples.Goal.{Goal}
-use Rattle.dae_unit.specs.declared.couples.Task.{Task}
-use Rattle.dae_unit.specs.declared.couples.Task.TheVariants.{Compare, Note}
+use Rattle.dae_unit.specs.declared.couples.CoupleTask.{CoupleTask}
+use Rattle.dae_unit.specs.declared.couples.CoupleTask.TheVariants.{Compare, Note}
 use Rattle.dae_unit.specs.Couples.{AreOther, Needs, goals_at, couple_of, AreEnclosed, IsNotedOther}
 
 -- ---- lists
@@ -28,13 +28,13 @@ module _ (f g : FileParts) where
   goals_enclosed k (p ∷ cs) = goals_enclosed k cs
 
   -- the last task is done
-  pub enclosed_before : (rest : List Task) (t : Task) → AreEnclosed f g (rest ++ t ∷ []) → AreEnclosed f g rest
+  pub enclosed_before : (rest : List CoupleTask) (t : CoupleTask) → AreEnclosed f g (rest ++ t ∷ []) → AreEnclosed f g rest
   enclosed_before [] t h = tt
   enclosed_before (Compare x ∷ rest) t h = enclosed_before rest t h
   enclosed_before (Note c ∷ rest) t h = (let all = before_last (λ t. Needs f g c (couple_of t)) rest t h.0 in all.0, enclosed_before rest t h.1)
 
   -- the last is a couple, which is to be noted behind its parts
-  pub enclosed_further : (x : Goal) (k : ℕ) (cs : List Couple) → AllByRecursion (λ p. Needs f g x.couple p) cs → (rest : List Task) → AreEnclosed f g (rest ++ Compare x ∷ []) → AreEnclosed f g ((rest ++ Note x.couple ∷ []) ++ goals_at k cs)
+  pub enclosed_further : (x : Goal) (k : ℕ) (cs : List Couple) → AllByRecursion (λ p. Needs f g x.couple p) cs → (rest : List CoupleTask) → AreEnclosed f g (rest ++ Compare x ∷ []) → AreEnclosed f g ((rest ++ Note x.couple ∷ []) ++ goals_at k cs)
   enclosed_further x k cs parts [] h = (goals_needed x.couple x.couple k cs (λ other. other) parts, goals_enclosed k cs)
   enclosed_further x k cs parts (Compare y ∷ rest) h = enclosed_further x k cs parts rest h
   enclosed_further x k cs parts (Note c ∷ rest) h =
@@ -46,10 +46,10 @@ module _ (f g : FileParts) where
       )
 
   -- the last differs, so that all that are to be noted do
-  around_differ : (x : Goal) → AreOther f g x.couple → (rest : List Task) → AreEnclosed f g (rest ++ Compare x ∷ []) → AllByRecursion (IsNotedOther f g) rest
+  around_differ : (x : Goal) → AreOther f g x.couple → (rest : List CoupleTask) → AreEnclosed f g (rest ++ Compare x ∷ []) → AllByRecursion (IsNotedOther f g) rest
   around_differ x other [] h = tt
   around_differ x other (Compare y ∷ rest) h = (tt, around_differ x other rest h)
   around_differ x other (Note c ∷ rest) h = (let all = before_last (λ t. Needs f g c (couple_of t)) rest (Compare x) h.0 in all.1 other, around_differ x other rest h.1)
 
-  pub noted_differ : (x : Goal) → AreOther f g x.couple → (rest : List Task) → AreEnclosed f g (rest ++ Compare x ∷ []) → AllByRecursion (IsNotedOther f g) (rest ++ Note x.couple ∷ [])
+  pub noted_differ : (x : Goal) → AreOther f g x.couple → (rest : List CoupleTask) → AreEnclosed f g (rest ++ Compare x ∷ []) → AllByRecursion (IsNotedOther f g) (rest ++ Note x.couple ∷ [])
   noted_differ x other rest h = all_join (IsNotedOther f g) rest (Note x.couple ∷ []) (around_differ x other rest h) (other, tt)

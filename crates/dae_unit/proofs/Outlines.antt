@@ -5,9 +5,9 @@ use Rattle.std.specs.Prelude.{find, slice_get, option_map}
 use Rattle.dae_types_kinds.specs.declared.tables.Component.{Component}
 use Rattle.dae_types_kinds.specs.declared.tables.Entity.{Entity}
 use Rattle.dae_types_kinds.specs.declared.tables.Entity.TheVariants as entity
-use Rattle.dae_types_kinds.specs.declared.tables.Object.{Object}
+use Rattle.dae_types_kinds.specs.declared.tables.StaticObject.{StaticObject}
 use Rattle.dae_types_kinds.specs.declared.tables.Routine.{Routine}
-use Rattle.dae_types_kinds.specs.declared.tables.Use.{Use}
+use Rattle.dae_types_kinds.specs.declared.tables.EntityUse.{EntityUse}
 use Rattle.dae_types_kinds.specs.declared.types.Layout.{Layout}
 use Rattle.dae_types_kinds.specs.declared.types.Shape.{Shape}
 use Rattle.dae_types_kinds.specs.declared.types.Shape.TheVariants as shape
@@ -34,7 +34,7 @@ rows_alike : (done : List FileRow) (k : ℕ) (fs : List FileParts) → rows_from
 rows_alike done k [] = refl
 rows_alike done k (f ∷ fs) = rows_alike (rows_of_file done k f.declarations) (suc k) fs
 
-object_alike : (f : FileParts) (o : Option Object) → object_name (outline f) o ≡ object_name f o
+object_alike : (f : FileParts) (o : Option StaticObject) → object_name (outline f) o ≡ object_name f o
 object_alike f None = refl
 object_alike f (Some o) = refl
 
@@ -103,11 +103,11 @@ name_or_none e None = None
 name_or_none e (Some f) = name_in f e
 
 -- the first of two
-abbrev earlier : Option Use → Option Use → Option Use
+abbrev earlier : Option EntityUse → Option EntityUse → Option EntityUse
 earlier None v = v
 earlier (Some u) v = Some u
 
-first_is : (o v : Option Use) → ◌≡◌ {A = Option Use} (elim o [ None ↦ v | Some u ↦ Some u ]) (earlier o v)
+first_is : (o v : Option EntityUse) → ◌≡◌ {A = Option EntityUse} (elim o [ None ↦ v | Some u ↦ Some u ]) (earlier o v)
 first_is None v = refl
 first_is (Some u) v = refl
 
@@ -145,7 +145,7 @@ module _ (files : List FileParts) where
   unfolding gives
   gives_alike k e d = rw (one_alike k e d.file (entity_of d)) refl
 
-  is_missing_alike : (rows : List FileRow) (k : ℕ) (u : Use) → is_missing outlines rows k u ≡ is_missing files rows k u
+  is_missing_alike : (rows : List FileRow) (k : ℕ) (u : EntityUse) → is_missing outlines rows k u ≡ is_missing files rows k u
   unfolding is_missing
   is_missing_alike rows k u =
       rw (slice_get-map outline files k, library_alike (slice_get files k) u.entity, any_alike (gives outlines k u.entity) (gives files k u.entity) (gives_alike k u.entity) rows) refl

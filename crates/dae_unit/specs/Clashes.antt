@@ -3,7 +3,7 @@ use Rattle.std.specs.Prelude.{ℕ, suc, Bool, true, false, ◌&&◌, not, List, 
 use Rattle.std.specs.List.{list_any}
 use Rattle.dae_types_kinds.specs.declared.tables.Entity.{Entity}
 use Rattle.dae_types_kinds.specs.declared.tables.Entity.TheVariants as entity
-use Rattle.dae_types_kinds.specs.declared.tables.Use.{Use}
+use Rattle.dae_types_kinds.specs.declared.tables.EntityUse.{EntityUse}
 use Rattle.dae_types_typed.specs.declared.files.FileParts.{FileParts}
 use Rattle.dae_types_typed.specs.Linkage.{is_function, is_library, same_name, type_in}
 use Rattle.dae_unit.specs.declared.errors.Clash.{Clash}
@@ -47,10 +47,10 @@ is_library_in _ e = false
 unfoldable pub gives : List FileParts → (file : ℕ) → Entity → FileRow → Bool
 gives files k e d = not (refers d) && is_one files k e d.file (entity_of d)
 
-unfoldable pub is_missing : List FileParts → List FileRow → (file : ℕ) → Use → Bool
+unfoldable pub is_missing : List FileParts → List FileRow → (file : ℕ) → EntityUse → Bool
 is_missing files rows k u = not (is_library_in (slice_get files k) u.entity) && not (list_any (gives files k u.entity) rows)
 
-abbrev pub first_missing : List FileParts → List FileRow → (file : ℕ) → List FileParts → Option Use
+abbrev pub first_missing : List FileParts → List FileRow → (file : ℕ) → List FileParts → Option EntityUse
 first_missing files rows k [] = None
 first_missing files rows k (f ∷ fs) = elim (find (is_missing files rows k) f.uses) [ None ↦ first_missing files rows (suc k) fs | Some u ↦ Some u ]
 

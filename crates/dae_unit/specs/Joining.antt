@@ -2,7 +2,7 @@
 use Rattle.std.specs.Prelude.{ℕ, Bool, true, false, List, Option, Some, None, nat_le, if◌then◌else◌}
 use Rattle.std.specs.List.{list_any}
 use Rattle.dae_base.specs.declared.Place.{Place}
-use Rattle.dae_types_kinds.specs.declared.tables.Use.{Use}
+use Rattle.dae_types_kinds.specs.declared.tables.EntityUse.{EntityUse}
 use Rattle.dae_types_typed.specs.declared.files.FileParts.{FileParts}
 use Rattle.dae_unit.specs.declared.errors.Clash.TheVariants.{Definitions, Types}
 use Rattle.dae_unit.specs.declared.errors.JoinError.{JoinError}
@@ -23,7 +23,7 @@ abbrev pub differing : Option (FileRow × FileRow) → Option JoinError
 differing None = None
 differing (Some x) = Some (TypesDiffer (place_of x.0) (place_of x.1))
 
-abbrev pub missing : Option Use → Option JoinError
+abbrev pub missing : Option EntityUse → Option JoinError
 missing None = None
 missing (Some u) = Some (NotDefined u.place)
 

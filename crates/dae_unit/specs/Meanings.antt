@@ -5,7 +5,7 @@ use Rattle.dae_program.specs.declared.program.Function.{Function}
 use Rattle.dae_program.specs.declared.program.Links.{Links}
 use Rattle.dae_types_kinds.specs.declared.tables.Entity.{Entity}
 use Rattle.dae_types_kinds.specs.declared.tables.Entity.TheVariants as entity
-use Rattle.dae_types_kinds.specs.declared.tables.Object.{Object}
+use Rattle.dae_types_kinds.specs.declared.tables.StaticObject.{StaticObject}
 use Rattle.dae_types_kinds.specs.declared.tables.Routine.{Routine}
 use Rattle.dae_types_file_plans.specs.declared.declarations.Role.TheVariants.{Definition}
 use Rattle.dae_types_typed.specs.declared.files.FileParts.{FileParts}
@@ -27,7 +27,7 @@ object_place files placed places k e =
     let n = number_from files 0 k e placed in
     if nat_lt n (length placed) then slice_index places n else 0
 
-abbrev pub object_places : List FileParts → List FileRow → (places : List ℕ) → (file : ℕ) → List ℕ → (object : ℕ) → List Object → List ℕ
+abbrev pub object_places : List FileParts → List FileRow → (places : List ℕ) → (file : ℕ) → List ℕ → (object : ℕ) → List StaticObject → List ℕ
 object_places files placed places k done o [] = done
 object_places files placed places k done o (x ∷ xs) =
     object_places files placed places k (done ++ object_place files placed places k (entity.Object o) ∷ []) (suc o) xs

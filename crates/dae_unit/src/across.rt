@@ -6,9 +6,9 @@ ghost use Rattle.dae_types_kinds.specs.Types.{counts_agree, layout_of};
 ghost use Rattle.dae_types_typed.specs.Sound.{bytes_of, is_member_of, tables_of};
 ghost use Rattle.dae_unit.specs.Across.{same_tag, tag_of, members_within, structures_within, shapes_within, same_plain, same_within_files, same_across};
 ghost use Rattle.dae_unit.specs.Couples.{AreEnclosed, AreKnown, IsFound, IsNotedOther, agree_within, all_agree, all_hold, cost, depth_of, goals_at, goes_on, shape_in, weight};
-ghost use Rattle.dae_unit.specs.declared.couples.Task.TheVariants.{Compare};
+ghost use Rattle.dae_unit.specs.declared.couples.CoupleTask.TheVariants.{Compare};
 
-use crate::couples::{Compared, Couple, Goal, Task, Verdict, Verdicts};
+use crate::couples::{Compared, Couple, CoupleTask, CoupleVerdict, Goal, Verdicts};
 use dae_types_kinds::{Component, Shape};
 use dae_types_typed::FileParts;
 use std::alloc::{AllocError, Global};
@@ -257,11 +257,11 @@ fn push_parts(
 }
 
 /// Puts couples that are to be compared within so many levels behind other tasks.
-fn push_goals(tasks: &mut Vec<Task>, parts: &[Couple], depth: usize) -> Result<(), AllocError>
+fn push_goals(tasks: &mut Vec<CoupleTask>, parts: &[Couple], depth: usize) -> Result<(), AllocError>
     ensures { OnOk result (tasks.new.items ≡ tasks.old.items ++ goals_at depth parts.now) }
 {
     for part in parts {
-        tasks.push(Task::Compare(Goal {
+        tasks.push(CoupleTask::Compare(Goal {
             couple: *part,
             depth,
         }))?;
@@ -275,7 +275,7 @@ fn compare(
     f: &FileParts,
     g: &FileParts,
     known: &Verdicts,
-    tasks: &mut Vec<Task>,
+    tasks: &mut Vec<CoupleTask>,
     goal: Goal,
 ) -> Result<Compared, AllocError>
     requires { AreKnown f.now g.now known.now.entries }
@@ -295,8 +295,8 @@ fn compare(
 {
     if let Some(verdict) = known.get(&goal.couple) {
         match *verdict {
-            Verdict::Other => return Ok(Compared::Differs),
-            Verdict::Same(enough) => {
+            CoupleVerdict::Other => return Ok(Compared::Differs),
+            CoupleVerdict::Same(enough) => {
                 if enough <= goal.depth {
                     return Ok(Compared::Further);
                 }
@@ -310,7 +310,7 @@ fn compare(
     if !push_parts(f, g, goal.couple, &mut parts)? {
         return Ok(Compared::Differs);
     }
-    tasks.push(Task::Note(goal.couple))?;
+    tasks.push(CoupleTask::Note(goal.couple))?;
     push_goals(tasks, parts.as_slice(), goal.depth - 1)?;
     Ok(Compared::Further)
 }
@@ -322,7 +322,7 @@ fn depth_of(known: &Verdicts, couples: &[Couple]) -> Option<usize>
     let mut depth = 0;
     for couple in couples {
         match known.get(couple) {
-            Some(Verdict::Same(enough)) => depth = depth.max(*enough),
+            Some(CoupleVerdict::Same(enough)) => depth = depth.max(*enough),
             _ => return None,
         }
     }
@@ -346,24 +346,24 @@ fn note(
     }
     if let Some(depth) = depth_of(known, parts.as_slice()) {
         if depth < usize::MAX {
-            known.insert(couple, Verdict::Same(depth + 1))?;
+            known.insert(couple, CoupleVerdict::Same(depth + 1))?;
         }
     }
     Ok(())
 }
 
 /// Notes that the types of the couples that were to be noted differ.
-fn note_differing(known: &mut Verdicts, tasks: &[Task]) -> Result<(), AllocError>
+fn note_differing(known: &mut Verdicts, tasks: &[CoupleTask]) -> Result<(), AllocError>
     ensures { OnOk result
         ((f g : FileParts) → AreKnown f g known.old.entries
         → AllByRecursion (IsNotedOther f g) tasks.now → AreKnown f g known.new.entries) }
 {
     for task in tasks {
         match *task {
-            Task::Note(couple) => {
-                known.insert(couple, Verdict::Other)?;
+            CoupleTask::Note(couple) => {
+                known.insert(couple, CoupleVerdict::Other)?;
             }
-            Task::Compare(_) => {}
+            CoupleTask::Compare(_) => {}
         }
     }
     Ok(())
@@ -390,22 +390,22 @@ pub fn same_across(
         right: types.1,
     };
     let mut tasks = Vec::new(alloc);
-    tasks.push(Task::Compare(Goal {
+    tasks.push(CoupleTask::Compare(Goal {
         couple: by_structures(f, g, couple),
         depth: f.shapes.len(),
     }))?;
     while let Some(task) = tasks.pop() {
         match task {
-            Task::Compare(goal) => match compare(alloc, f, g, known, &mut tasks, goal)? {
+            CoupleTask::Compare(goal) => match compare(alloc, f, g, known, &mut tasks, goal)? {
                 Compared::Further => {}
                 Compared::Differs => {
-                    tasks.push(Task::Note(goal.couple))?;
+                    tasks.push(CoupleTask::Note(goal.couple))?;
                     note_differing(known, tasks.as_slice())?;
                     return Ok(false);
                 }
                 Compared::TooDeep => return Ok(false),
             },
-            Task::Note(couple) => note(alloc, f, g, known, couple)?,
+            CoupleTask::Note(couple) => note(alloc, f, g, known, couple)?,
         }
     }
     Ok(true)

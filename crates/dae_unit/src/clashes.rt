@@ -20,7 +20,7 @@ use crate::givers::{givers_of, is_given};
 use crate::identities::Identity;
 use crate::linkage::{declares_same, defines, external_name, same_name};
 use crate::rows::FileRow;
-use dae_types_kinds::{Entity, Use};
+use dae_types_kinds::{Entity, EntityUse};
 use dae_types_typed::{TypedFile, is_function};
 use indexmap::{IndexMap, IndexSet};
 use std::alloc::{AllocError, Global};
@@ -278,7 +278,7 @@ fn is_missing(
     rows: &[FileRow],
     givers: &IndexSet<Identity<'_>>,
     file: usize,
-    used: Use,
+    used: EntityUse,
 ) -> bool
     requires { AreGivers files.now rows.now givers.now.keys }
     ensures { result ≡ is_missing files.now rows.now file used }
@@ -291,8 +291,8 @@ fn find_missing(
     rows: &[FileRow],
     givers: &IndexSet<Identity<'_>>,
     file: usize,
-    uses: &[Use],
-) -> Option<Use>
+    uses: &[EntityUse],
+) -> Option<EntityUse>
     requires { AreGivers files.now rows.now givers.now.keys }
     ensures { result ≡ find (is_missing files.now rows.now file) uses.now }
 {
@@ -309,7 +309,7 @@ pub fn first_missing(
     alloc: Global,
     files: &[TypedFile],
     rows: &[FileRow],
-) -> Result<Option<Use>, AllocError>
+) -> Result<Option<EntityUse>, AllocError>
     ensures { IfOk result (λ used. used ≡ first_missing files.now rows.now 0 files.now) }
 {
     let givers = givers_of(alloc, files, rows)?;

@@ -21,7 +21,7 @@ pub struct Goal {
 
 /// A couple is to be compared; or it is to be noted as the same, once what it is made of has been compared.
 #[derive(Clone, Copy)]
-pub enum Task {
+pub enum CoupleTask {
     Compare(Goal),
     Note(Couple),
 }
@@ -37,13 +37,13 @@ pub enum Compared {
 
 /// What is known of a couple: its types are the same, as so many levels tell, or others.
 #[derive(Clone, Copy)]
-pub enum Verdict {
+pub enum CoupleVerdict {
     Same(usize),
     Other,
 }
 
 /// What is known of couples.
-pub type Verdicts = IndexMap<Couple, Verdict>;
+pub type Verdicts = IndexMap<Couple, CoupleVerdict>;
 
 /// What is known of the types of two files, by the files' numbers.
 pub type KnownTypes = IndexMap<(usize, usize), Verdicts>;

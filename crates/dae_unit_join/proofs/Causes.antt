@@ -3,7 +3,7 @@ use Rattle.std.proofs.Common.{◌≡◌, ℕ, ◌≤◌, Bool, true, false, List
 use Rattle.std.proofs.lemmas.Bool.Decides.{nat_tests}
 use Rattle.std.specs.Prelude.{nat_le, if◌then◌else◌}
 use Rattle.std.specs.List.{list_any}
-use Rattle.dae_types_kinds.specs.declared.tables.Use.{Use}
+use Rattle.dae_types_kinds.specs.declared.tables.EntityUse.{EntityUse}
 use Rattle.dae_types_typed.specs.declared.files.FileParts.{FileParts}
 use Rattle.dae_unit.specs.declared.errors.Clash.TheVariants.{Definitions, Types}
 use Rattle.dae_unit.specs.declared.errors.JoinError.{JoinError}
@@ -22,7 +22,7 @@ none_differs : (x : Option (FileRow × FileRow)) → differing x ≡ None → x 
 none_differs None h = refl
 none_differs (Some x) h = absurd cc
 
-none_missing : (x : Option Use) → missing x ≡ None → x ≡ None
+none_missing : (x : Option EntityUse) → missing x ≡ None → x ≡ None
 none_missing None h = refl
 none_missing (Some x) h = absurd cc
 

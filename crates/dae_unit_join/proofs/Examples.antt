@@ -8,9 +8,9 @@ use Rattle.dae_program.specs.declared.program.Links.{Links}
 use Rattle.dae_types_kinds.specs.declared.types.Shape.{Shape}
 use Rattle.dae_types_kinds.specs.declared.types.Shape.TheVariants as shape
 use Rattle.dae_types_kinds.specs.declared.tables.Entity.TheVariants as entity
-use Rattle.dae_types_kinds.specs.declared.tables.Object.{Object}
+use Rattle.dae_types_kinds.specs.declared.tables.StaticObject.{StaticObject}
 use Rattle.dae_types_kinds.specs.declared.tables.Routine.{Routine}
-use Rattle.dae_types_kinds.specs.declared.tables.Use.{Use}
+use Rattle.dae_types_kinds.specs.declared.tables.EntityUse.{EntityUse}
 use Rattle.dae_types_kinds.specs.Types.{first_shapes, shape_of, layout_of, layout_at}
 use Rattle.dae_types_file_plans.specs.declared.declarations.FileDeclaration.{FileDeclaration}
 use Rattle.dae_types_file_plans.specs.declared.declarations.Role.{Role}
@@ -32,7 +32,7 @@ use Rattle.dae_unit_join.specs.Joined.{placed_in, places_in, objects_end}
 abbrev at : (file line column : ℕ) → Place
 at f n k = record { file = f; line = n; col = k }
 
-abbrev object : (name type : ℕ) → (own : Bool) → Object
+abbrev object : (name type : ℕ) → (own : Bool) → StaticObject
 object n t own = record { name = n; type_id = t; own = own; initialised = false; placed = None }
 
 abbrev routine : (name type : ℕ) → Routine
@@ -53,7 +53,7 @@ abbrev body : (routine : ℕ) → List ℕ → Place → TypedFunction
 body r name p = record { routine = r; name = name; place = p; parameters = []; variables = 1; frame = 0; body = [] }
 
 -- a file of the types that are there from the start and of others
-abbrev file : List Shape → List Object → List Routine → List FileDeclaration → List Datum → List TypedFunction → List Use → List (List ℕ) → List (List ℕ) → FileParts
+abbrev file : List Shape → List StaticObject → List Routine → List FileDeclaration → List Datum → List TypedFunction → List EntityUse → List (List ℕ) → List (List ℕ) → FileParts
 file shapes objects routines declarations contents functions uses names literals =
     record {
       shapes = (first_shapes ++ header_shapes) ++ shapes;

@@ -9,7 +9,7 @@ use Rattle.dae_program.specs.declared.program.Links.{Links}
 use Rattle.dae_program.specs.Lawful.{spares}
 use Rattle.dae_types_kinds.specs.declared.tables.Entity.{Entity}
 use Rattle.dae_types_kinds.specs.declared.tables.Entity.TheVariants as entity
-use Rattle.dae_types_kinds.specs.declared.tables.Object.{Object}
+use Rattle.dae_types_kinds.specs.declared.tables.StaticObject.{StaticObject}
 use Rattle.dae_types_kinds.specs.declared.tables.Routine.{Routine}
 use Rattle.dae_types_typed.specs.declared.files.FileParts.{FileParts}
 use Rattle.dae_unit.specs.declared.rows.FileRow.{FileRow}
@@ -17,21 +17,21 @@ use Rattle.dae_unit.specs.Meanings.{object_place, object_places, function_number
 
 module _ (files : List FileParts) (placed : List FileRow) (places : List ℕ) (k : ℕ) where
   -- addresses without those so far
-  abbrev addresses_behind : ℕ → List Object → List ℕ
+  abbrev addresses_behind : ℕ → List StaticObject → List ℕ
   addresses_behind o [] = []
   addresses_behind o (x ∷ xs) = object_place files placed places k (entity.Object o) ∷ addresses_behind (suc o) xs
 
-  addresses_apart : (done : List ℕ) (o : ℕ) (xs : List Object) → object_places files placed places k done o xs ≡ done ++ addresses_behind o xs
+  addresses_apart : (done : List ℕ) (o : ℕ) (xs : List StaticObject) → object_places files placed places k done o xs ≡ done ++ addresses_behind o xs
   addresses_apart done o [] = sym (append-nil done)
   addresses_apart done o (x ∷ xs) = addresses_apart (done ++ object_place files placed places k (entity.Object o) ∷ []) (suc o) xs ∙ append_assoc done (object_place files placed places k (entity.Object o) ∷ []) (addresses_behind (suc o) xs)
 
-  address_behind : (o : ℕ) (xs : List Object) (i : ℕ) → i < length xs → slice_index (addresses_behind o xs) i ≡ object_place files placed places k (entity.Object (o + i))
+  address_behind : (o : ℕ) (xs : List StaticObject) (i : ℕ) → i < length xs → slice_index (addresses_behind o xs) i ≡ object_place files placed places k (entity.Object (o + i))
   address_behind o [] i h = absurd (omega arith)
   address_behind o (x ∷ xs) zero h = let e : o ≡ o + 0 = omega arith in ap (λ n. object_place files placed places k (entity.Object n)) e
   address_behind o (x ∷ xs) (suc i) h = let e : suc o + i ≡ o + suc i = omega arith in address_behind (suc o) xs i (omega arith) ∙ ap (λ n. object_place files placed places k (entity.Object n)) e
 
   -- an object's address stands behind those of the literals
-  pub address_at : (literals : List ℕ) (xs : List Object) (i : ℕ) → i < length xs → slice_index (object_places files placed places k literals 0 xs) (length literals + i) ≡ object_place files placed places k (entity.Object i)
+  pub address_at : (literals : List ℕ) (xs : List StaticObject) (i : ℕ) → i < length xs → slice_index (object_places files placed places k literals 0 xs) (length literals + i) ≡ object_place files placed places k (entity.Object i)
   address_at literals xs i h =
       let e : 0 + i ≡ i = omega arith in
       ap (λ ns. slice_index ns (length literals + i)) (addresses_apart literals 0 xs)

@@ -4,7 +4,7 @@ use Rattle.std.proofs.lemmas.Bool.{and_parts, not-true}
 use Rattle.std.specs.Prelude.{slice_get, find, not}
 use Rattle.std.specs.List.{list_any}
 use Rattle.dae_types_kinds.specs.declared.tables.Entity.{Entity}
-use Rattle.dae_types_kinds.specs.declared.tables.Use.{Use}
+use Rattle.dae_types_kinds.specs.declared.tables.EntityUse.{EntityUse}
 use Rattle.dae_types_file_plans.specs.declared.declarations.FileDeclaration.{FileDeclaration}
 use Rattle.dae_types_typed.specs.declared.files.FileParts.{FileParts}
 use Rattle.dae_types_typed.specs.Linkage.{is_function}
@@ -51,12 +51,12 @@ missing_from : (files : List FileParts) (rows : List FileRow) (k : ℕ) (fs : Li
 missing_from files rows k [] i f none h = absurd cc
 missing_from files rows k (g ∷ gs) i f none h = by (find (is_missing files rows k) g.uses) refl none i h (missing_from files rows (suc k) gs)
   where
-    by : (o : Option Use) → find (is_missing files rows k) g.uses ≡ o → (let u : Option Use = elim o [ None ↦ first_missing files rows (suc k) gs | Some u ↦ Some u ] in u ≡ None) → (i : ℕ) → slice_get (g ∷ gs) i ≡ Some f → ((i : ℕ) (f : FileParts) → first_missing files rows (suc k) gs ≡ None → slice_get gs i ≡ Some f → find (is_missing files rows (suc k + i)) f.uses ≡ None) → find (is_missing files rows (k + i)) f.uses ≡ None
+    by : (o : Option EntityUse) → find (is_missing files rows k) g.uses ≡ o → (let u : Option EntityUse = elim o [ None ↦ first_missing files rows (suc k) gs | Some u ↦ Some u ] in u ≡ None) → (i : ℕ) → slice_get (g ∷ gs) i ≡ Some f → ((i : ℕ) (f : FileParts) → first_missing files rows (suc k) gs ≡ None → slice_get gs i ≡ Some f → find (is_missing files rows (suc k + i)) f.uses ≡ None) → find (is_missing files rows (k + i)) f.uses ≡ None
     by (Some u) e none i h later = absurd cc
     by None e none zero h later = let q : g ≡ f = cc in let n : k ≡ k + 0 = omega arith in subst (λ z. find (is_missing files rows z) f.uses ≡ None) n (subst (λ (z : FileParts). find (is_missing files rows k) z.uses ≡ None) q e)
     by None e none (suc i) h later = let n : suc k + i ≡ k + suc i = omega arith in subst (λ z. find (is_missing files rows z) f.uses ≡ None) n (later i f none h)
 
-is_given : (files : List FileParts) (rows : List FileRow) (k : ℕ) (u : Use) (f : FileParts) → slice_get files k ≡ Some f → is_library_in (Some f) u.entity ≡ false → is_missing files rows k u ≡ false → list_any (gives files k u.entity) rows ≡ true
+is_given : (files : List FileParts) (rows : List FileRow) (k : ℕ) (u : EntityUse) (f : FileParts) → slice_get files k ≡ Some f → is_library_in (Some f) u.entity ≡ false → is_missing files rows k u ≡ false → list_any (gives files k u.entity) rows ≡ true
 unfolding is_missing
 is_given files rows k u f h library none =
     then_second (is_library_in (slice_get files k) u.entity) (list_any (gives files k u.entity) rows) (ap (λ o. is_library_in o u.entity) h ∙ library) none

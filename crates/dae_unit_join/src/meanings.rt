@@ -7,7 +7,7 @@ ghost use Rattle.dae_unit.specs.Meanings.{object_place, object_places, body_rows
 use dae_base::Items;
 use dae_program::{Function, Links};
 use dae_types_file_plans::{FileDeclaration, Role};
-use dae_types_kinds::{Entity, Object, Routine};
+use dae_types_kinds::{Entity, Routine, StaticObject};
 use dae_types_typed::{FileParts, TypedFile, TypedFunction};
 use dae_unit::{FileRow, NumberedRows, external_name, is_main, number_of, same_name};
 use std::alloc::{AllocError, Global};
@@ -48,7 +48,7 @@ fn push_places(
     files: &[TypedFile],
     rooms: Rooms,
     file: usize,
-    objects: &[Object],
+    objects: &[StaticObject],
 ) -> Result<(), AllocError>
     requires { IsIndexed files.now rooms.placed }
     ensures { OnOk result

@@ -8,7 +8,7 @@ use Rattle.dae_base.proofs.Laws.{all_join}
 use Rattle.dae_tree.specs.declared.words.Keyword.{Keyword}
 use Rattle.dae_tree.specs.declared.expressions.Name.{Name}
 use Rattle.dae_tree.specs.Trees as tree
-use Rattle.dae_tree.specs.Trees.{Specifiers, Declarator, Parameters, Initialiser, Item, Declaration, Statements, External}
+use Rattle.dae_tree.specs.Trees.{Specifiers, Declarator, Parameters, Initialiser, BlockItem, Declaration, Statements, External}
 use Rattle.dae_tree.specs.Depth.{place_of_specifiers}
 use Rattle.dae_tree.specs.Names.{declared_name, has_typedef, function_part}
 use Rattle.dae_program.specs.Trees as program
@@ -17,19 +17,19 @@ use Rattle.dae_types_kinds.specs.declared.tables.Entity.{Entity}
 use Rattle.dae_types_kinds.specs.declared.tables.Entity.TheVariants as entity
 use Rattle.dae_types_kinds.specs.declared.tables.LibraryFunction.{LibraryFunction}
 use Rattle.dae_types_kinds.specs.declared.tables.LibraryFunction.TheVariants as library
-use Rattle.dae_types_kinds.specs.declared.tables.Object.{Object}
+use Rattle.dae_types_kinds.specs.declared.tables.StaticObject.{StaticObject}
 use Rattle.dae_types_kinds.specs.declared.tables.Routine.{Routine}
 use Rattle.dae_types_kinds.specs.declared.types.Shape.{Shape}
 use Rattle.dae_types_kinds.specs.Tables.{Tables, closed, reopened}
 use Rattle.dae_types_kinds.specs.Types.{shape_of, is_function, first_shapes, composite}
 use Rattle.dae_types_kinds.specs.Values.{result_of}
-use Rattle.dae_types_rules.specs.Plan.{Plan, pure, maps}
+use Rattle.dae_types_rules.specs.Plan.{CheckPlan, pure, maps}
 use Rattle.dae_types_rules.specs.Table.{is_extern, is_static}
 use Rattle.dae_types_plans.specs.Steps.{declared_place}
 use Rattle.dae_types_file_plans.specs.declared.declarations.Role.{Role}
 use Rattle.dae_types_file_plans.specs.declared.declarations.Role.TheVariants.{Reference, Definition}
 use Rattle.dae_types_file_plans.specs.Statements.{own_of, is_alone}
-use Rattle.dae_types_file_plans.specs.Files.{Product, Numbers, is_main_name, name_number, retyped, new_routine, declared_function, function_at, replaced, declared_object, object_at, role_of, declares_object, declares_function, produced, type_of_object, with_object_type, plan_data, plan_either, plan_typed, plan_item_at, plan_items, storage_of, plan_declared, defined_or, define, second_at, started, parameters_in, count_parameters, settled_locals, in_body, keep_scope, first_time, body_product, second_time, twice, surrounding, plan_body_of, plan_defined_as, plan_defined, plan_external, plan_externals, plan_file, header_shapes, printf_type, putchar_type, exit_type, abort_type, empty_tables, with_library, with_stdio, with_stdlib, start_of}
+use Rattle.dae_types_file_plans.specs.Files.{Product, LibraryNames, is_main_name, name_number, retyped, new_routine, declared_function, function_at, replaced, declared_object, object_at, role_of, declares_object, declares_function, produced, type_of_object, with_object_type, plan_data, plan_either, plan_typed, plan_item_at, plan_items, storage_of, plan_declared, defined_or, define, second_at, started, parameters_in, count_parameters, settled_locals, in_body, keep_scope, first_time, body_product, second_time, twice, surrounding, plan_body_of, plan_defined_as, plan_defined, plan_external, plan_externals, plan_file, header_shapes, printf_type, putchar_type, exit_type, abort_type, empty_tables, with_library, with_stdio, with_stdlib, start_of}
 use Rattle.dae_lower_bounds.specs.Voids.{void_statements}
 use Rattle.dae_void_laws.specs.Tested.{BodyTestsValues, BodiesTestValues}
 use Rattle.dae_void_laws.proofs.Kept.{IfThere, all_written, all_at, all_more, shape_is, Extends, IsNameIn, names_on, Returns, IsRoutineIn, Kept, Come, Leads, Any, Anything, leads_pure, leads_maps, leads_node, leads_chain, leads_before, leads_carry, leads_given, leads_if, leads_named, come_same, leads_reads, leads_sites, leads_nothing, leads_looks, leads_ends, Wider, wide, come_wider, closed_wider, kept_name}
@@ -50,7 +50,7 @@ function_good : (p : Place) (r : Role) (f : Option ℕ) → AllByRecursion BodyT
 function_good p r None = tt
 function_good p r (Some f) = (tt, tt)
 
-produced_leads : {Before : List Shape → Type 0} {m : Plan (List Product)} (done : List Product) → AllByRecursion BodyTestsValues done → Leads Before Good m → Leads Before Good (produced done m)
+produced_leads : {Before : List Shape → Type 0} {m : CheckPlan (List Product)} (done : List Product) → AllByRecursion BodyTestsValues done → Leads Before Good m → Leads Before Good (produced done m)
 produced_leads done d h = leads_reads h (λ s xs k l. all_join BodyTestsValues done xs d l)
 
 -- ---- tables at file scope
@@ -89,7 +89,7 @@ function_wider : (n : Option Name) (own : Bool) (t : ℕ) (e : Option Entity) (s
 function_wider n own t (Some (entity.Function f)) s = retyped_wider f t s (slice_get s.routines f) (λ k. all_at (IsRoutineIn s.shapes) s.routines f k.routines)
 function_wider n own t e s = new_routine_wider n own t s
 
-replaced_wider : (p : Place) (w : Option Keyword) (given : Bool) (o t : ℕ) (s : Tables) (r : Option Object) → Wider s (replaced p w given o t s r)
+replaced_wider : (p : Place) (w : Option Keyword) (given : Bool) (o t : ℕ) (s : Tables) (r : Option StaticObject) → Wider s (replaced p w given o t s r)
 replaced_wider p w given o t s None = wide s
 replaced_wider p w given o t s (Some r) = let z = composite_wider s r.type_id t in record { on = z.on; kept = z.kept }
 
@@ -97,7 +97,7 @@ object_wider : (p : Place) (n : Option Name) (w : Option Keyword) (given : Bool)
 object_wider p n w given t (Some (entity.Object o)) s = replaced_wider p w given o t s (slice_get s.objects o)
 object_wider p n w given t e s = let z = wide s in record { on = z.on; kept = λ k. kept_name (name_number n) (entity.Object (length s.objects)) s tt k }
 
-object_type_wider : (o t : ℕ) (s : Tables) (r : Option Object) → Wider s (with_object_type o t s r)
+object_type_wider : (o t : ℕ) (s : Tables) (r : Option StaticObject) → Wider s (with_object_type o t s r)
 object_type_wider o t s None = wide s
 object_type_wider o t s (Some r) = let z = wide s in record { on = z.on; kept = λ k. k }
 
@@ -133,22 +133,22 @@ data_leads p (Some x) (Some o) =
     leads_chain {Between = Anything} (leads_looks (λ s. type_of_object s o) (λ s k b. tt))
     (λ t. leads_maps (content_leads p 0 t x.1) (λ s y k l. come_wider (object_type_wider o y.type_id s (slice_get s.objects o)) k (tt, tt)))
 
-either_leads : (p : Place) (w : Option Keyword) (i : Item) (t : ℕ) (b : Bool) → Leads Any Good (plan_either p w i t b)
+either_leads : (p : Place) (w : Option Keyword) (i : BlockItem) (t : ℕ) (b : Bool) → Leads Any Good (plan_either p w i t b)
 either_leads p w i t true = leads_reads (function_at_leads p (is_static w) (is_some i.initialiser) (declared_name i.declarator) t) (λ s f k l. function_good p Reference f)
 either_leads p w i t false =
     leads_chain {Between = Anything} (object_at_leads p w (is_some i.initialiser) (declared_name i.declarator) t)
     (λ o. produced_leads (declares_object p (role_of (is_some i.initialiser) (not (is_extern w))) o) (object_good p (role_of (is_some i.initialiser) (not (is_extern w))) o) (data_leads p i.initialiser o))
 
-typed_leads : (p : Place) (w : Option Keyword) (i : Item) (t : Option ℕ) → Leads Any Good (plan_typed p w i t)
+typed_leads : (p : Place) (w : Option Keyword) (i : BlockItem) (t : Option ℕ) → Leads Any Good (plan_typed p w i t)
 typed_leads p w i None = data_leads p i.initialiser None
 typed_leads p w i (Some t) = leads_chain {Between = Anything} (leads_looks (λ s. is_function (shape_of s t)) (λ s k b. tt)) (λ b. either_leads p w i t b)
 
-item_leads : (is_typedef : Bool) (p : Place) (w : Option Keyword) (b : ℕ) (i : Item) → Leads (λ xs. There xs b) Good (plan_item_at is_typedef p w b i)
+item_leads : (is_typedef : Bool) (p : Place) (w : Option Keyword) (b : ℕ) (i : BlockItem) → Leads (λ xs. There xs b) Good (plan_item_at is_typedef p w b i)
 item_leads true p w b i = leads_reads (typedef_leads p false (is_some i.initialiser) (declared_name i.declarator) (declarator_leads p false b i.declarator)) (λ s x k l. tt)
 item_leads false p w b i =
     leads_chain {Between = Anything} (leads_named (declared_name i.declarator) (leads_reads (declarator_leads p false b i.declarator) (λ s x k l. tt))) (λ t. typed_leads p w i t)
 
-items_lead : (is_typedef : Bool) (q : Place) (w : Option Keyword) (b : ℕ) (done : List Product) (items : List Item) → AllByRecursion BodyTestsValues done → Leads (λ xs. There xs b) Good (plan_items is_typedef q w b done items)
+items_lead : (is_typedef : Bool) (q : Place) (w : Option Keyword) (b : ℕ) (done : List Product) (items : List BlockItem) → AllByRecursion BodyTestsValues done → Leads (λ xs. There xs b) Good (plan_items is_typedef q w b done items)
 items_lead is_typedef q w b done [] d = leads_pure done (λ xs l h. d)
 items_lead is_typedef q w b done (i ∷ items) d =
     leads_chain {Between = λ xs more. There xs b × Good xs more} (leads_carry (λ xs ys. there_lasts xs ys b) (produced_leads done d (item_leads is_typedef (declared_place i.declarator q) w b i)))
@@ -177,10 +177,10 @@ reopened_leads {Before} =
       so = tt;
     }))
 
-first_leads : {m : Plan program.Statements} (n : ℕ) → Leads Any Free m → Leads Any Anything (first_time n m)
+first_leads : {m : CheckPlan program.Statements} (n : ℕ) → Leads Any Free m → Leads Any Anything (first_time n m)
 first_leads n h = leads_chain {Between = Anything} reopened_leads (λ outer. leads_reads (leads_ends (closed outer) free_lasts (closed_wider outer) h) (λ s x k l. tt))
 
-in_body_leads : {m : Plan program.Statements} → Leads Any Free m → Leads Any Free (in_body m)
+in_body_leads : {m : CheckPlan program.Statements} → Leads Any Free m → Leads Any Free (in_body m)
 in_body_leads h = leads_chain {Between = Anything} reopened_leads (λ outer. leads_ends (closed outer) free_lasts (closed_wider outer) h)
 
 least : (n : ℕ) → n ≤ 0 → n ≡ 0
@@ -190,14 +190,14 @@ body_good : (f : Option ℕ) (s : Tables) (y : program.Statements) → void_stat
 body_good None s y h = tt
 body_good (Some g) s y h = (least (void_statements y) h, tt)
 
-second_leads : {m : Plan program.Statements} (f : Option ℕ) → Leads Any Free m → Leads Any Good (second_time f m)
+second_leads : {m : CheckPlan program.Statements} (f : Option ℕ) → Leads Any Free m → Leads Any Good (second_time f m)
 second_leads f h = leads_reads (in_body_leads h) (λ s y k l. body_good f s y l)
 
 settled_come : (n : ℕ) (olds : List Tables) (s : Tables) → Kept s → Olds s.shapes olds → Come Anything s (settled_locals n (elim olds [ [] ↦ s | old ∷ rest ↦ keep_scope old s ]), tt {0})
 settled_come n [] s k b = let w = wide s in record { kept = k; on = w.on; so = tt }
 settled_come n (old ∷ rest) s k b = let w = wide s in record { kept = record { many = k.many; void = k.void; names = k.names; kept = b.0; routines = k.routines }; on = w.on; so = tt }
 
-twice_leads : {m : Plan program.Statements} (n : ℕ) (f : Option ℕ) → Leads Any Free m → Leads Any Good (twice n f m)
+twice_leads : {m : CheckPlan program.Statements} (n : ℕ) (f : Option ℕ) → Leads Any Free m → Leads Any Good (twice n f m)
 twice_leads n f h =
     leads_chain {Between = Olds} (leads_looks (λ s. s ∷ []) (λ s k b. (k.kept, tt)))
     (λ olds. leads_chain {Between = λ xs u. Olds xs olds × Anything xs u} (leads_carry (olds_last olds) (leads_before (λ xs b. tt) (first_leads n h)))
@@ -209,7 +209,7 @@ body_of_leads p name ps ds ss t f =
     (λ u. leads_chain {Between = Anything} (leads_looks (λ s. surrounding s (is_main_name s name) t) (λ s k b. tt))
     (λ round. twice_leads (count_parameters ps) f (block_leads round ds ss)))
 
-second_at_leads : (p : Place) {m : Plan (Option ℕ)} → Leads Any Anything m → Leads Any Anything (second_at p m)
+second_at_leads : (p : Place) {m : CheckPlan (Option ℕ)} → Leads Any Anything m → Leads Any Anything (second_at p m)
 second_at_leads p h = leads_node h (λ s f k l u. define_come f s k)
 
 defined_as_leads : (p : Place) (word : Option Keyword) (name : Option Name) (ps : Parameters) (ds : List Declaration) (ss : Statements) (t : Option ℕ) → Leads Any Good (plan_defined_as p word name ps ds ss t)
@@ -262,15 +262,15 @@ library_begins l t (Some name) s r h =
       shapes = h.shapes;
     }
 
-stdio_begins : (b : Bool) (n : Numbers) (s : Tables) → Begins s → Begins (with_stdio b n s)
+stdio_begins : (b : Bool) (n : LibraryNames) (s : Tables) → Begins s → Begins (with_stdio b n s)
 stdio_begins false n s h = h
 stdio_begins true n s h = library_begins library.Putchar putchar_type n.putchar _ tt (library_begins library.Printf printf_type n.printf s tt h)
 
-stdlib_begins : (b : Bool) (n : Numbers) (s : Tables) → Begins s → Begins (with_stdlib b n s)
+stdlib_begins : (b : Bool) (n : LibraryNames) (s : Tables) → Begins s → Begins (with_stdlib b n s)
 stdlib_begins false n s h = h
 stdlib_begins true n s h = library_begins library.Abort abort_type n.abort _ refl (library_begins library.Exit exit_type n.exit s refl h)
 
-start_begins : (stdio stdlib : Bool) (n : Numbers) (literals : List (List ℕ)) → Begins (start_of stdio stdlib n literals)
+start_begins : (stdio stdlib : Bool) (n : LibraryNames) (literals : List (List ℕ)) → Begins (start_of stdio stdlib n literals)
 start_begins stdio stdlib n ls = stdlib_begins stdlib n _ (stdio_begins stdio n (empty_tables ls n.main) (empty_begins ls n.main))
 
 pub bodies_test_values : BodiesTestValues

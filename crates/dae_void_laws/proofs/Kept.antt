@@ -22,7 +22,7 @@ use Rattle.dae_types_kinds.specs.declared.types.Shape.TheVariants as shape
 use Rattle.dae_types_kinds.specs.Tables.{Tables, with_shape, with_name, closed, with_uses, written_at}
 use Rattle.dae_types_kinds.specs.Types.{void_id, shape_of, shape_or}
 use Rattle.dae_types_kinds.specs.Values.{result_of}
-use Rattle.dae_types_rules.specs.Plan.{Plan, Mark, pure, both, node, maps, chain, pardons, settles, unless_spoiled, ◌>>=◌, ask_in, ask_all, check_of}
+use Rattle.dae_types_rules.specs.Plan.{CheckPlan, BrokenName, pure, both, node, maps, chain, pardons, settles, unless_spoiled, ◌>>=◌, ask_in, ask_all, check_of}
 use Rattle.dae_types_rules.specs.Sites.{Site, place}
 use Rattle.dae_types_rules.specs.Table.{breaks, asked}
 use Rattle.dae_types_plans.specs.Steps.{looks, changes_to, ends, scoped, unused, settles_name}
@@ -204,7 +204,7 @@ pub record Come {A : Type 0} (After : List Shape → A → Type 0) (s : Tables) 
   pub on : Extends s.shapes y.0.shapes
   pub so : After y.0.shapes y.1
 
-pub record Leads {A : Type 0} (Before : List Shape → Type 0) (After : List Shape → A → Type 0) (m : Plan A) : Type 0 where
+pub record Leads {A : Type 0} (Before : List Shape → Type 0) (After : List Shape → A → Type 0) (m : CheckPlan A) : Type 0 where
   pub leads : (s : Tables) → Kept s → Before s.shapes → IfOk (check_of m s) (Come After s)
 
 -- nothing is known
@@ -225,7 +225,7 @@ come_on After s t (Err e) g q = tt
 pub leads_pure : {A : Type 0} {Before : List Shape → Type 0} {After : List Shape → A → Type 0} (x : A) → ((xs : List Shape) → 9 ≤ length xs → Before xs → After xs x) → Leads Before After (pure x)
 leads_pure x h = record { leads = λ s k b. record { kept = k; on = extends_same s.shapes; so = h s.shapes k.many b } }
 
-pub leads_maps : {A B : Type 0} {Before : List Shape → Type 0} {Between : List Shape → A → Type 0} {After : List Shape → B → Type 0} {g : Tables → A → Tables × B} {m : Plan A} →
+pub leads_maps : {A B : Type 0} {Before : List Shape → Type 0} {Between : List Shape → A → Type 0} {After : List Shape → B → Type 0} {g : Tables → A → Tables × B} {m : CheckPlan A} →
     Leads Before Between m → ((s : Tables) (x : A) → Kept s → Between s.shapes x → Come After s (g s x)) → Leads Before After (maps g m)
 leads_maps {A} {B} {Before} {Between} {After} {g} {m} h step = record {
   leads = λ s k b.
@@ -233,7 +233,7 @@ leads_maps {A} {B} {Before} {Between} {After} {g} {m} h step = record {
       (λ x q. come_on After s x.0 (Ok (g x.0 x.1)) q.on (step x.0 x.1 q.kept q.so));
 }
 
-pub leads_node : {A B : Type 0} {Before : List Shape → Type 0} {Between : List Shape → A → Type 0} {After : List Shape → B → Type 0} {f : Tables → A → List Site} {g : Tables → A → Tables × B} {m : Plan A} →
+pub leads_node : {A B : Type 0} {Before : List Shape → Type 0} {Between : List Shape → A → Type 0} {After : List Shape → B → Type 0} {f : Tables → A → List Site} {g : Tables → A → Tables × B} {m : CheckPlan A} →
     Leads Before Between m → ((s : Tables) (x : A) → Kept s → Between s.shapes x → AreUnbroken (f s x) → Come After s (g s x)) → Leads Before After (node f g m)
 leads_node {A} {B} {Before} {Between} {After} {f} {g} {m} h step = record {
   leads = λ s k b.
@@ -241,7 +241,7 @@ leads_node {A} {B} {Before} {Between} {After} {f} {g} {m} h step = record {
       (λ x q. all_asked (f x.0 x.1) (Ok (g x.0 x.1)) (Come After s) (λ u. come_on After s x.0 (Ok (g x.0 x.1)) q.on (step x.0 x.1 q.kept q.so u)));
 }
 
-pub leads_chain : {A B : Type 0} {Before : List Shape → Type 0} {Between : List Shape → A → Type 0} {After : List Shape → B → Type 0} {d : A} {m : Plan A} {l : A → Plan B} →
+pub leads_chain : {A B : Type 0} {Before : List Shape → Type 0} {Between : List Shape → A → Type 0} {After : List Shape → B → Type 0} {d : A} {m : CheckPlan A} {l : A → CheckPlan B} →
     Leads Before Between m → ((x : A) → Leads (λ xs. Between xs x) After (l x)) → Leads Before After (chain d m l)
 leads_chain {A} {B} {Before} {Between} {After} {d} {m} {l} h j = record {
   leads = λ s k b.
@@ -249,7 +249,7 @@ leads_chain {A} {B} {Before} {Between} {After} {d} {m} {l} h j = record {
       (λ x q. come_on After s x.0 (check_of (l x.1) x.0) q.on ((j x.1).leads x.0 q.kept q.so));
 }
 
-pub leads_both : {A B : Type 0} {Before : List Shape → Type 0} {P : List Shape → A → Type 0} {Q : List Shape → B → Type 0} {m : Plan A} {l : Plan B} →
+pub leads_both : {A B : Type 0} {Before : List Shape → Type 0} {P : List Shape → A → Type 0} {Q : List Shape → B → Type 0} {m : CheckPlan A} {l : CheckPlan B} →
     Lasts P → Leads Before P m → Leads Any Q l → Leads Before (λ (xs : List Shape) (x : A × B). P xs x.0 × Q xs x.1) (both m l)
 leads_both {A} {B} {Before} {P} {Q} {m} {l} lasts h j = record {
   leads = λ s k b.
@@ -258,34 +258,34 @@ leads_both {A} {B} {Before} {P} {Q} {m} {l} lasts h j = record {
       (λ y z. record { kept = z.kept; on = extends_further q.on z.on; so = (lasts x.0.shapes y.0.shapes x.1 z.on q.so, z.so) }));
 }
 
-pub leads_before : {A : Type 0} {Before Earlier : List Shape → Type 0} {P : List Shape → A → Type 0} {m : Plan A} → ((xs : List Shape) → Earlier xs → Before xs) → Leads Before P m → Leads Earlier P m
+pub leads_before : {A : Type 0} {Before Earlier : List Shape → Type 0} {P : List Shape → A → Type 0} {m : CheckPlan A} → ((xs : List Shape) → Earlier xs → Before xs) → Leads Before P m → Leads Earlier P m
 leads_before k h = record { leads = λ s j b. h.leads s j (k s.shapes b) }
 
 -- what is known before and lasts is known behind
-pub leads_carry : {A : Type 0} {Before : List Shape → Type 0} {P : List Shape → A → Type 0} {m : Plan A} → ((xs ys : List Shape) → Extends xs ys → Before xs → Before ys) → Leads Before P m → Leads Before (λ xs x. Before xs × P xs x) m
+pub leads_carry : {A : Type 0} {Before : List Shape → Type 0} {P : List Shape → A → Type 0} {m : CheckPlan A} → ((xs ys : List Shape) → Extends xs ys → Before xs → Before ys) → Leads Before P m → Leads Before (λ xs x. Before xs × P xs x) m
 leads_carry {A} {Before} {P} {m} lasts h = record { leads = λ s j b. by s b (check_of m s) (h.leads s j b) } where
   by : (s : Tables) → Before s.shapes → (r : Result (Tables × A) Breach) → IfOk r (Come P s) → IfOk r (Come (λ xs x. Before xs × P xs x) s)
   by s b (Ok y) q = record { kept = q.kept; on = q.on; so = (lasts s.shapes y.0.shapes q.on b, q.so) }
   by s b (Err e) q = tt
 
 -- what is known before and is not of the shapes
-pub leads_if : {A : Type 0} {P : Type 0} {After : List Shape → A → Type 0} {m : Plan A} → (P → Leads Any After m) → Leads (λ xs. P) After m
+pub leads_if : {A : Type 0} {P : Type 0} {After : List Shape → A → Type 0} {m : CheckPlan A} → (P → Leads Any After m) → Leads (λ xs. P) After m
 leads_if h = record { leads = λ s k b. (h b).leads s k tt }
 
 -- with what else is known before
-pub leads_given : {A : Type 0} {Before : List Shape → Type 0} {P : Type 0} {After : List Shape → A → Type 0} {m : Plan A} → (P → Leads Before After m) → Leads (λ xs. Before xs × P) After m
+pub leads_given : {A : Type 0} {Before : List Shape → Type 0} {P : Type 0} {After : List Shape → A → Type 0} {m : CheckPlan A} → (P → Leads Before After m) → Leads (λ xs. Before xs × P) After m
 leads_given h = record { leads = λ s k b. (h b.1).leads s k b.0 }
 
-pub leads_settles : {A : Type 0} {Before : List Shape → Type 0} {After : List Shape → A → Type 0} {m : Plan A} (k : Mark) → Leads Before After m → Leads Before After (settles k m)
+pub leads_settles : {A : Type 0} {Before : List Shape → Type 0} {After : List Shape → A → Type 0} {m : CheckPlan A} (k : BrokenName) → Leads Before After m → Leads Before After (settles k m)
 leads_settles k h = record { leads = h.leads }
 
-pub leads_unless : {A : Type 0} {Before : List Shape → Type 0} {After : List Shape → A → Type 0} {m : Plan A} (k : Mark) → Leads Before After m → Leads Before After (unless_spoiled k m)
+pub leads_unless : {A : Type 0} {Before : List Shape → Type 0} {After : List Shape → A → Type 0} {m : CheckPlan A} (k : BrokenName) → Leads Before After m → Leads Before After (unless_spoiled k m)
 leads_unless k h = record { leads = h.leads }
 
-pub leads_pardons : {A : Type 0} {Before : List Shape → Type 0} {After : List Shape → A → Type 0} {m : Plan A} (d : A) → Leads Before After m → Leads Before After (pardons d m)
+pub leads_pardons : {A : Type 0} {Before : List Shape → Type 0} {After : List Shape → A → Type 0} {m : CheckPlan A} (d : A) → Leads Before After m → Leads Before After (pardons d m)
 leads_pardons d h = record { leads = h.leads }
 
-pub leads_named : {A : Type 0} {Before : List Shape → Type 0} {After : List Shape → A → Type 0} {m : Plan A} (n : Option Name) → Leads Before After m → Leads Before After (settles_name n m)
+pub leads_named : {A : Type 0} {Before : List Shape → Type 0} {After : List Shape → A → Type 0} {m : CheckPlan A} (n : Option Name) → Leads Before After m → Leads Before After (settles_name n m)
 leads_named None h = h
 leads_named (Some n) h = leads_settles _ h
 
@@ -295,11 +295,11 @@ leads_named (Some n) h = leads_settles _ h
 pub come_same : {A : Type 0} {After : List Shape → A → Type 0} {s : Tables} {x : A} → Kept s → After s.shapes x → Come After s (s, x)
 come_same {A} {After} {s} k h = record { kept = k; on = extends_same s.shapes; so = h }
 
-pub leads_reads : {A B : Type 0} {Before : List Shape → Type 0} {Between : List Shape → A → Type 0} {After : List Shape → B → Type 0} {g : Tables → A → B} {m : Plan A} →
+pub leads_reads : {A B : Type 0} {Before : List Shape → Type 0} {Between : List Shape → A → Type 0} {After : List Shape → B → Type 0} {g : Tables → A → B} {m : CheckPlan A} →
     Leads Before Between m → ((s : Tables) (x : A) → Kept s → Between s.shapes x → After s.shapes (g s x)) → Leads Before After (maps (λ s x. (s, g s x)) m)
 leads_reads h step = leads_maps h (λ s x k b. come_same k (step s x k b))
 
-pub leads_sites : {A B : Type 0} {Before : List Shape → Type 0} {Between : List Shape → A → Type 0} {After : List Shape → B → Type 0} {f : Tables → A → List Site} {g : Tables → A → B} {m : Plan A} →
+pub leads_sites : {A B : Type 0} {Before : List Shape → Type 0} {Between : List Shape → A → Type 0} {After : List Shape → B → Type 0} {f : Tables → A → List Site} {g : Tables → A → B} {m : CheckPlan A} →
     Leads Before Between m → ((s : Tables) (x : A) → Kept s → Between s.shapes x → AreUnbroken (f s x) → After s.shapes (g s x)) → Leads Before After (node f (λ s x. (s, g s x)) m)
 leads_sites h step = leads_node h (λ s x k b u. come_same k (step s x k b u))
 
@@ -326,7 +326,7 @@ come_wider w k h = record { kept = w.kept k; on = w.on; so = h }
 pub leads_changes : {Before : List Shape → Type 0} (f : Tables → Tables) → ((s : Tables) → Wider s (f s)) → Leads Before Anything (changes_to f)
 leads_changes f h = leads_maps leads_nothing (λ s x k b. come_wider (h s) k tt)
 
-pub leads_ends : {A : Type 0} {Before : List Shape → Type 0} {After : List Shape → A → Type 0} {m : Plan A} (f : Tables → Tables) → Lasts After → ((s : Tables) → Wider s (f s)) → Leads Before After m → Leads Before After (ends f m)
+pub leads_ends : {A : Type 0} {Before : List Shape → Type 0} {After : List Shape → A → Type 0} {m : CheckPlan A} (f : Tables → Tables) → Lasts After → ((s : Tables) → Wider s (f s)) → Leads Before After m → Leads Before After (ends f m)
 leads_ends f lasts h k = leads_reads (leads_both lasts k (leads_changes f h)) (λ s x j b. b.0)
 
 pub closed_wider : (outer : Innermost) (s : Tables) → Wider s (closed outer s)
@@ -337,12 +337,12 @@ closed_wider outer s = record {
       record { many = k.many; void = k.void; names = names.0; kept = names.1; routines = k.routines };
 }
 
-pub leads_scoped : {A : Type 0} {Before : List Shape → Type 0} {After : List Shape → A → Type 0} {m : Plan A} → Lasts After → Leads Before After m → Leads Before After (scoped m)
+pub leads_scoped : {A : Type 0} {Before : List Shape → Type 0} {After : List Shape → A → Type 0} {m : CheckPlan A} → Lasts After → Leads Before After m → Leads Before After (scoped m)
 leads_scoped {A} {Before} lasts h =
     leads_chain {Between = λ xs o. Before xs} (leads_maps leads_nothing (λ s x k b. record { kept = k; on = extends_same s.shapes; so = b }))
     (λ outer. leads_ends (closed outer) lasts (closed_wider outer) h)
 
-pub leads_unused : {A : Type 0} {Before : List Shape → Type 0} {After : List Shape → A → Type 0} {m : Plan A} → Lasts After → Leads Before After m → Leads Before After (unused m)
+pub leads_unused : {A : Type 0} {Before : List Shape → Type 0} {After : List Shape → A → Type 0} {m : CheckPlan A} → Lasts After → Leads Before After m → Leads Before After (unused m)
 leads_unused {A} {Before} lasts h =
     leads_chain {Between = λ xs us. Before xs} (leads_looks (λ s. s.uses) (λ s k b. b))
     (λ us. leads_ends (with_uses us) lasts (λ s. record { on = extends_same s.shapes; kept = λ k. k }) h)

@@ -14,7 +14,7 @@ use Rattle.dae_types_kinds.specs.declared.tables.Context.{Context}
 use Rattle.dae_types_kinds.specs.declared.tables.Context.TheVariants as context
 use Rattle.dae_types_kinds.specs.Types.{char_id, no_parameters_id, layout}
 use Rattle.dae_types_kinds.specs.Values.{Typed, literal_size}
-use Rattle.dae_types_rules.specs.Plan.{Plan, both}
+use Rattle.dae_types_rules.specs.Plan.{CheckPlan, both}
 use Rattle.dae_types_plans.specs.Steps.{declared_place, name_in, count_of, is_last, value_at}
 use Rattle.dae_types_plans.specs.Expressions.{plan, plan_arguments, plan_specifiers, plan_specifier, plan_members, plan_component_list, plan_enumerators, plan_declarator, plan_parameters, plan_type, plan_value}
 use Rattle.dae_void_laws.proofs.Kept.{Leads, Any, Anything, Extends, leads_pure, leads_maps, leads_chain, leads_both, leads_before, leads_carry, leads_reads, leads_nothing, leads_scoped, leads_unused, come_wider, shape_wider}
@@ -29,7 +29,7 @@ type_name_there : (ws : Specifiers) (d : Declarator) (p : Place) → Leads Any M
     ((q : Place) (b : ℕ) → Leads (λ xs. There xs b) NamedThere (plan_declarator q false b d)) → Leads Any There (plan_type ws d p)
 type_name_there ws d p g h = type_leads (leads_chain {Between = There} (base_leads ws g) (λ b. h (place_of_specifiers ws p) b))
 
-two_values : {m l : Plan Typed} (p q : Place) → Leads Any Honest m → Leads Any Honest l → Leads Any Pair (both (value_at p m) (value_at q l))
+two_values : {m l : CheckPlan Typed} (p q : Place) → Leads Any Honest m → Leads Any Honest l → Leads Any Pair (both (value_at p m) (value_at q l))
 two_values p q h g = leads_both honest_lasts (value_leads p h) (value_leads q g)
 
 mutual

@@ -4,7 +4,7 @@ use Rattle.std.specs.Prelude.{slice_get, is_some}
 use Rattle.dae_base.specs.declared.Place.{Place}
 use Rattle.dae_tree.specs.declared.expressions.Name.{Name}
 use Rattle.dae_tree.specs.Trees as tree
-use Rattle.dae_tree.specs.Trees.{Expression, Expressions, Initialiser, Initialisers, Item, Declaration, Statement, Statements}
+use Rattle.dae_tree.specs.Trees.{Expression, Expressions, Initialiser, Initialisers, BlockItem, Declaration, Statement, Statements}
 use Rattle.dae_tree.specs.Depth.{place_of, place_of_specifiers}
 use Rattle.dae_tree.specs.Names.{declared_name, has_typedef}
 use Rattle.dae_program.specs.Expressions.{bit}
@@ -19,7 +19,7 @@ use Rattle.dae_types_kinds.specs.declared.types.Shape.TheVariants as shape
 use Rattle.dae_types_kinds.specs.Tables.{Tables}
 use Rattle.dae_types_kinds.specs.Types.{shape_of, is_scalar, int_id}
 use Rattle.dae_types_kinds.specs.Values.{Typed, converted, number}
-use Rattle.dae_types_rules.specs.Plan.{Plan, pure, node}
+use Rattle.dae_types_rules.specs.Plan.{CheckPlan, pure, node}
 use Rattle.dae_types_rules.specs.Sites.{Site}
 use Rattle.dae_types_plans.specs.Steps.{declared_place}
 use Rattle.dae_types_plans.specs.Expressions.{plan_value}
@@ -46,7 +46,7 @@ value_item_leads e f =
     leads_chain {Between = Honest} (leads_pardons (number 0 int_id) (value_of_leads e))
     (λ x. leads_before (λ xs h. tt) (leads_pardons (over f) (leads_chain {Between = Anything} (landing_leads (place_of e) (literal_in e) f x) (λ l. item_leads (place_of e) (literal_in e) x l))))
 
-list_leads : (p : Place) (f : Filling) (js : Initialisers) (fill : Filling → Plan Filling) → ((g : Filling) → Leads Any Anything (fill g)) → Leads Any Anything (list_at p f js fill)
+list_leads : (p : Place) (f : Filling) (js : Initialisers) (fill : Filling → CheckPlan Filling) → ((g : Filling) → Leads Any Anything (fill g)) → Leads Any Anything (list_at p f js fill)
 list_leads p f js fill h =
     leads_pardons (over f) (leads_chain {Between = Anything} (leads_sites {Between = Anything} leads_nothing (λ s y k l u. tt)) (λ o. leads_reads (h o.inside) (λ s g k l. tt)))
 
@@ -157,7 +157,7 @@ maybe_lasts xs ys e g h = h
 clean_test : (e : program.Expression) → Clean e → void_test e ≤ 0
 clean_test e h = let a = h.inside in let b = ap bit h.itself in omega (arith, a, b)
 
-appended_leads : {Before : List Shape → Type 0} {m : Plan program.Statements} (done : program.Statements) → void_statements done ≤ 0 → Leads Before Free m → Leads Before Free (appended done m)
+appended_leads : {Before : List Shape → Type 0} {m : CheckPlan program.Statements} (done : program.Statements) → void_statements done ≤ 0 → Leads Before Free m → Leads Before Free (appended done m)
 appended_leads done d h = leads_reads h (λ s x k l. let g = void-behind done x in omega (arith, d, l, g))
 
 -- ---- local declarations
@@ -172,7 +172,7 @@ own_void true p s k e h =
     let b = set_void p s k e h in
     let g = void-behind (set_to p s k (program.Number 0)) (set_to p s k e) in omega (arith, a, b, g)
 
-scalar_value_leads : {m : Plan Typed} (p q : Place) (k : ℕ) → Leads Any Honest m → Leads Any Free (scalar_value_at p q k m)
+scalar_value_leads : {m : CheckPlan Typed} (p q : Place) (k : ℕ) → Leads Any Honest m → Leads Any Free (scalar_value_at p q k m)
 scalar_value_leads p q k h = leads_node h (λ s x j l u.
     let e = (converted q s x (type_of_local s k)).tree in
     come_same j (own_void (names_stored (slice_get s.storages k) e) p s k e (converted_in q s x (type_of_local s k) l.inside)))
@@ -189,7 +189,7 @@ mutual
 type_wider : (k t : ℕ) (s : Tables) → Wider s (with_type k t s)
 type_wider k t s = let w = wide s in record { on = w.on; kept = λ j. j }
 
-initialised_leads : {m : Plan Content} (p : Place) (k : ℕ) → Leads Any Anything m → Leads Any Free (initialised_at p k m)
+initialised_leads : {m : CheckPlan Content} (p : Place) (k : ℕ) → Leads Any Anything m → Leads Any Free (initialised_at p k m)
 initialised_leads p k h = leads_maps h (λ s x j l. come_wider (type_wider k x.type_id s) j (omega arith))
 
 begun_void : (b : Bool) (p : Place) (s : Tables) (k : ℕ) → void_statements (if b then set_to p s k (program.Number 0) else program.Done) ≤ 0
@@ -216,18 +216,18 @@ typedef_wide : (n : Option Name) (t : ℕ) (s : Tables) → Extends s.shapes (le
 typedef_wide None t s = let w = wide s in w.on
 typedef_wide (Some n) t s = let w = wide s in w.on
 
-pub typedef_leads : {Before : List Shape → Type 0} {m : Plan NamedType} (p : Place) (block given : Bool) (name : Option Name) → Leads Before NamedThere m → Leads Before Anything (typedef_at p block given name m)
+pub typedef_leads : {Before : List Shape → Type 0} {m : CheckPlan NamedType} (p : Place) (block given : Bool) (name : Option Name) → Leads Before NamedThere m → Leads Before Anything (typedef_at p block given name m)
 typedef_leads p block given name h = leads_named name (leads_node h (λ s x k l u. record { kept = typedef_come name x.type_id s k l; on = typedef_wide name x.type_id s; so = tt }))
 
-local_at_leads : {Before : List Shape → Type 0} {m : Plan NamedType} (p : Place) (given : Bool) (name : Option Name) → Leads Before NamedThere m → Leads Before Anything (local_at p given name m)
+local_at_leads : {Before : List Shape → Type 0} {m : CheckPlan NamedType} (p : Place) (given : Bool) (name : Option Name) → Leads Before NamedThere m → Leads Before Anything (local_at p given name m)
 local_at_leads p given name h = leads_named name (leads_node h (λ s x k l u. come_wider (local_wider name x.type_id s) k tt))
 
-item_at_leads : (is_typedef : Bool) (p : Place) (b : ℕ) (i : Item) → Leads (λ xs. There xs b) Free (plan_item_at is_typedef p b i)
+item_at_leads : (is_typedef : Bool) (p : Place) (b : ℕ) (i : BlockItem) → Leads (λ xs. There xs b) Free (plan_item_at is_typedef p b i)
 item_at_leads true p b i = leads_reads (typedef_leads p true (is_some i.initialiser) (declared_name i.declarator) (declarator_leads p false b i.declarator)) (λ s x k l. omega arith)
 item_at_leads false p b i =
     leads_chain {Between = Anything} (local_at_leads p (is_some i.initialiser) (declared_name i.declarator) (declarator_leads p false b i.declarator)) (λ k. local_leads p i.initialiser k)
 
-items_lead : (q : Place) (is_typedef : Bool) (b : ℕ) (done : program.Statements) (items : List Item) → void_statements done ≤ 0 → Leads (λ xs. There xs b) Free (plan_items q is_typedef b done items)
+items_lead : (q : Place) (is_typedef : Bool) (b : ℕ) (done : program.Statements) (items : List BlockItem) → void_statements done ≤ 0 → Leads (λ xs. There xs b) Free (plan_items q is_typedef b done items)
 items_lead q is_typedef b done [] d = leads_pure done (λ xs l h. d)
 items_lead q is_typedef b done (i ∷ items) d =
     leads_chain {Between = λ xs more. There xs b × Free xs more} (leads_carry (λ xs ys. there_lasts xs ys b) (appended_leads done d (item_at_leads is_typedef (declared_place i.declarator q) b i)))
@@ -338,7 +338,7 @@ mutual
   statements_lead c done tree.no_statements d X = leads_pure done (λ xs l b. d)
   statements_lead c done (tree.statement_then t ts) d X = leads_chain {Between = Free} (appended_leads done d (statement_leads c t X)) (λ more. leads_if (λ e. statements_lead c more ts e X))
 
-  body_leads : (c : Surrounding) (t : Statement) (m : Plan program.Statements) → Leads Any Free m → Leads Any Arms (plan_body c t m)
+  body_leads : (c : Surrounding) (t : Statement) (m : CheckPlan program.Statements) → Leads Any Free m → Leads Any Arms (plan_body c t m)
   body_leads c (tree.Block p ds ss) m h =
       leads_scoped arms_last (leads_chain {Between = Anything} (leads_sites {Between = Anything} leads_nothing (λ s x k l u. tt))
       (λ x. leads_chain {Between = Free} (declarations_lead program.Done ds (omega arith)) (λ y. leads_before (λ xs b. tt) (arms_lead c (record { seen = []; arms = [] }) ss (omega arith) (Unit {0})))))
@@ -348,7 +348,7 @@ mutual
   arms_lead c a tree.no_statements d X = leads_pure a.arms (λ xs l b. d)
   arms_lead c a (tree.statement_then t ts) d X = leads_chain {Between = ArmingOf} (labelled_leads c a t (plan_statement c t) d (statement_leads c t X)) (λ b. leads_if (λ e. arms_lead c b ts e X))
 
-  labelled_leads : (c : Surrounding) (a : Arming) (t : Statement) (m : Plan program.Statements) → void_in_arms a.arms ≤ 0 → Leads Any Free m → Leads Any ArmingOf (plan_labelled c a t m)
+  labelled_leads : (c : Surrounding) (a : Arming) (t : Statement) (m : CheckPlan program.Statements) → void_in_arms a.arms ≤ 0 → Leads Any Free m → Leads Any ArmingOf (plan_labelled c a t m)
   labelled_leads c a (tree.Case p e t) m d h = leads_chain {Between = ArmingOf} (case_leads p a e d) (λ b. leads_if (λ l. labelled_leads c b t (plan_statement c t) l (statement_leads c t (Unit {0}))))
   labelled_leads c a (tree.Default p t) m d h = leads_chain {Between = ArmingOf} (default_leads p a d) (λ b. leads_if (λ l. labelled_leads c b t (plan_statement c t) l (statement_leads c t (Unit {0}))))
   labelled_leads c a t m d h = leads_reads h (λ s x k l. let g = statement_void x a.arms in omega (arith, d, l, g))

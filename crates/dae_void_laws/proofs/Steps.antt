@@ -38,7 +38,7 @@ use Rattle.dae_types_kinds.specs.declared.values.Category.TheVariants as categor
 use Rattle.dae_types_kinds.specs.Tables.{Tables, with_shape, found_name, own_tag, is_named, entity_of}
 use Rattle.dae_types_kinds.specs.Types.{same as same_type, shape_of, is_void, is_integer, layout, int_id, composite, composite_shape, composite_within}
 use Rattle.dae_types_kinds.specs.Values.{Typed, named, read_by, valued, known_and, known_or, component_in, owner, library_of, joined, joined_shape, joined_pointers, common, is_null, conditional_as, operator_of, marked, result_of}
-use Rattle.dae_types_rules.specs.Plan.{Plan, OfName, OfTag, OfMember}
+use Rattle.dae_types_rules.specs.Plan.{CheckPlan, OfName, OfTag, OfMember}
 use Rattle.dae_types_plans.specs.Steps.{arithmetic_id, base_of, base_at, word_at, type_named, type_name_at, tag_in, tag_at, mentioned, new_structure, begins, begins_at, with_member, settles_member, member_at, ends_at, structure_body, enumeration_tag, enumeration_at, enumerator_at, enumeration_body, constant_at, pointer, unsized, count_at, sized, function, with_named_local, with_parameter, adjusted, parameter_at, type_of, value_at, name_at, scalar_at, integer_at, condition_at, marked_entity, marked_name, address_at, star_at, step_at, promoted_of, prefix_at, postfix_at, operands_at, scalars_at, and_at, or_at, binary_at, index_at, member_of, access_at, sizeof_at, cast_at, assignment_at, conditional_at, comma_at, passed, parameter_type, argument_at, with_call, call_at, call_by, routine_in, call_of}
 use Rattle.dae_lower_bounds.specs.Voids.{is_void_test, void_in}
 use Rattle.dae_void_laws.proofs.Kept.{IfThere, either_has, all_latest, shape_is, shape_last, last_there, Extends, Names, IsNameIn, Kept, Come, Leads, Any, Anything, leads_pure, leads_maps, leads_node, leads_chain, leads_both, leads_if, leads_settles, leads_unless, leads_pardons, leads_named, come_same, leads_reads, leads_sites, leads_nothing, leads_looks, Wider, wide, wider, come_wider, shape_wider, kept_name}
@@ -160,7 +160,7 @@ there_if : (b : Bool) (t u : ℕ) (n : ℕ) → t < n → u < n → (if b then t
 there_if true t u n h k = h
 there_if false t u n h k = k
 
-pub base_leads : {Before : List Shape → Type 0} {m : Plan (Option ℕ)} (ws : tree.Specifiers) → Leads Before MaybeThere m → Leads Before There (base_at ws m)
+pub base_leads : {Before : List Shape → Type 0} {m : CheckPlan (Option ℕ)} (ws : tree.Specifiers) → Leads Before MaybeThere m → Leads Before There (base_at ws m)
 base_leads ws h = leads_reads h (λ s b k l. by s b k l) where
   by : (s : Tables) (b : Option ℕ) → Kept s → MaybeThere s.shapes b → base_of (seen_behind nothing_seen ws) b < length s.shapes
   by s (Some t) k l = l
@@ -212,7 +212,7 @@ begins_leads : {Before : List Shape → Type 0} (n : Option Name) → Leads Befo
 begins_leads {Before} None = leads_maps {Between = λ xs x. Before xs} leads_nothing (λ s x k l. come_wider (new_structure_wider None true s) k tt)
 begins_leads {Before} (Some n) = leads_settles (OfTag n.number) (leads_node {Between = λ xs x. Before xs} leads_nothing (λ s x k l u. begins_come n.number (own_tag s n.number) s k))
 
-member_settled : {Before : List Shape → Type 0} {After : List Shape → Layout → Type 0} {m : Plan Layout} (n : Option Name) → Leads Before After m → Leads Before After (settles_member n m)
+member_settled : {Before : List Shape → Type 0} {After : List Shape → Layout → Type 0} {m : CheckPlan Layout} (n : Option Name) → Leads Before After m → Leads Before After (settles_member n m)
 member_settled None h = h
 member_settled (Some n) h = leads_settles (OfMember n.number) h
 
@@ -220,13 +220,13 @@ member_come : (n : ℕ) (l : Layout) (name : Option Name) (t : ℕ) (s : Tables)
 member_come n l None t s k = come_same k tt
 member_come n l (Some name) t s k = let w = wide s in record { kept = k; on = w.on; so = tt }
 
-pub member_at_leads : {Before : List Shape → Type 0} {After : List Shape → NamedType → Type 0} {m : Plan NamedType} (p : Place) (k : ℕ) (l : Layout) (name : Option Name) → Leads Before After m → Leads Before Anything (member_at p k l name m)
+pub member_at_leads : {Before : List Shape → Type 0} {After : List Shape → NamedType → Type 0} {m : CheckPlan NamedType} (p : Place) (k : ℕ) (l : Layout) (name : Option Name) → Leads Before After m → Leads Before Anything (member_at p k l name m)
 member_at_leads p k l name h = member_settled name (leads_node h (λ s x j b u. member_come k l x.name x.type_id s j))
 
 ends_at_leads : {Before : List Shape → Type 0} (p : Place) (n : Option Name) (k : ℕ) (l : Layout) → Leads Before MaybeThere (ends_at p n k l)
 ends_at_leads {Before} p n k l = leads_node {Between = λ xs x. Before xs} leads_nothing (λ s x j b u. structure_come k (let w = wide s in record { on = w.on; kept = λ k. k }) j)
 
-pub structure_leads : {Before : List Shape → Type 0} (p : Place) (name : Option Name) (members : ℕ → Plan Layout) → ((k : ℕ) → Leads Any Anything (members k)) → Leads Before MaybeThere (structure_body p name members)
+pub structure_leads : {Before : List Shape → Type 0} (p : Place) (name : Option Name) (members : ℕ → CheckPlan Layout) → ((k : ℕ) → Leads Any Anything (members k)) → Leads Before MaybeThere (structure_body p name members)
 structure_leads p name members h =
     leads_chain {Between = Anything} (begins_leads name) (λ k. leads_chain {Between = Anything} (leads_pardons (layout 0 1) (h k)) (λ y. ends_at_leads p name k y))
 
@@ -240,10 +240,10 @@ enumeration_at_leads {Before} (Some n) = leads_settles (OfTag n.number) (leads_n
 pub enumerator_leads : {Before : List Shape → Type 0} (n : Name) (w : ℕ) → Leads Before Anything (enumerator_at n w)
 enumerator_leads {Before} n w = leads_settles (OfName n.number) (leads_node {Between = λ xs x. Before xs} leads_nothing (λ s x k l u. let z = wide s in record { kept = kept_name n.number (entity.Enumerator w) s tt k; on = z.on; so = tt }))
 
-pub enumeration_leads : {Before : List Shape → Type 0} {m : Plan ℕ} (name : Option Name) → Leads Any Anything m → Leads Before MaybeThere (enumeration_body name m)
+pub enumeration_leads : {Before : List Shape → Type 0} {m : CheckPlan ℕ} (name : Option Name) → Leads Any Anything m → Leads Before MaybeThere (enumeration_body name m)
 enumeration_leads name h = leads_chain {Between = Anything} (enumeration_at_leads name) (λ x. leads_reads {Between = Anything} h (λ s y k l. let a = k.many in omega (arith, a)))
 
-pub constant_leads : {Before : List Shape → Type 0} {After : List Shape → Typed → Type 0} {m : Plan Typed} (p : Place) → Leads Before After m → Leads Before Anything (constant_at p m)
+pub constant_leads : {Before : List Shape → Type 0} {After : List Shape → Typed → Type 0} {m : CheckPlan Typed} (p : Place) → Leads Before After m → Leads Before Anything (constant_at p m)
 constant_leads p h = leads_sites h (λ s x k l u. tt)
 
 -- ---- declarators
@@ -254,13 +254,13 @@ pointer_leads {Before} p t = leads_node {Between = λ xs x. Before xs} leads_not
 pub unsized_leads : {Before : List Shape → Type 0} (p : Place) (t : ℕ) → Leads Before There (unsized p t)
 unsized_leads {Before} p t = leads_node {Between = λ xs x. Before xs} leads_nothing (λ s x k l u. made_come (shape.Array t None) k)
 
-pub count_leads : {Before : List Shape → Type 0} {After : List Shape → Typed → Type 0} {m : Plan Typed} (p : Place) → Leads Before After m → Leads Before Anything (count_at p m)
+pub count_leads : {Before : List Shape → Type 0} {After : List Shape → Typed → Type 0} {m : CheckPlan Typed} (p : Place) → Leads Before After m → Leads Before Anything (count_at p m)
 count_leads p h = leads_sites h (λ s x k l u. tt)
 
-pub sized_leads : {Before : List Shape → Type 0} {m : Plan ℕ} (p : Place) (free : Bool) (t : ℕ) → Leads Before Anything m → Leads Before There (sized p free t m)
+pub sized_leads : {Before : List Shape → Type 0} {m : CheckPlan ℕ} (p : Place) (free : Bool) (t : ℕ) → Leads Before Anything m → Leads Before There (sized p free t m)
 sized_leads p free t h = leads_node h (λ s n k l u. made_come (shape.Array t (Some n)) k)
 
-pub function_leads : {Before : List Shape → Type 0} {m : Plan ℕ} (p : Place) (t : ℕ) → Leads Before Anything m → Leads Before There (function p t m)
+pub function_leads : {Before : List Shape → Type 0} {m : CheckPlan ℕ} (p : Place) (t : ℕ) → Leads Before Anything m → Leads Before There (function p t m)
 function_leads p t h = leads_node h (λ s ps k l u. made_come (shape.Function t ps) k)
 
 pub local_wider : (n : Option Name) (t : ℕ) (s : Tables) → Wider s (with_named_local n t s)
@@ -272,10 +272,10 @@ with_parameter_come list x s k =
     let t = with_shape (adjusted s x.type_id) s in
     come_wider (behind_shape (shape.Parameter list (length s.shapes)) (wider (shape_wider (adjusted s x.type_id) s) (local_wider x.name (length s.shapes) t))) k tt
 
-pub parameter_leads : {Before : List Shape → Type 0} {After : List Shape → NamedType → Type 0} {m : Plan NamedType} (p : Place) (list : ℕ) (name : Option Name) → Leads Before After m → Leads Before Anything (parameter_at p list name m)
+pub parameter_leads : {Before : List Shape → Type 0} {After : List Shape → NamedType → Type 0} {m : CheckPlan NamedType} (p : Place) (list : ℕ) (name : Option Name) → Leads Before After m → Leads Before Anything (parameter_at p list name m)
 parameter_leads p list name h = leads_named name (leads_node h (λ s x k l u. with_parameter_come list x s k))
 
-pub type_leads : {Before : List Shape → Type 0} {m : Plan NamedType} → Leads Before NamedThere m → Leads Before There (type_of m)
+pub type_leads : {Before : List Shape → Type 0} {m : CheckPlan NamedType} → Leads Before NamedThere m → Leads Before There (type_of m)
 type_leads h = leads_reads h (λ s x k l. l)
 
 -- ---- expressions
@@ -346,36 +346,36 @@ branches_come p s x y z None k j h g l = come_same k g
 branches_come p s x y z (Some t) k j h g l = come_wider j k (honest (conditional_clean p x y z t s h g.inside l.inside))
 
 module _ {Before : List Shape → Type 0} where
-  pub value_leads : {m : Plan Typed} (p : Place) → Leads Before Honest m → Leads Before Honest (value_at p m)
+  pub value_leads : {m : CheckPlan Typed} (p : Place) → Leads Before Honest m → Leads Before Honest (value_at p m)
   value_leads p h = leads_node h (λ s x k l u. valued_come p s x k l)
 
   pub name_leads : (n : Name) → Leads Before Honest (name_at n)
   name_leads n = leads_unless (OfName n.number) (leads_node {Between = λ xs x. Before xs} leads_nothing (λ s x k l u. named_come n.place (found_name s n.number) s k))
 
-  pub scalar_leads : {m : Plan Typed} (p : Place) → Leads Before Honest m → Leads Before Tested (scalar_at p m)
+  pub scalar_leads : {m : CheckPlan Typed} (p : Place) → Leads Before Honest m → Leads Before Tested (scalar_at p m)
   scalar_leads p h = leads_sites h (λ s x k l u. scalar_clean p s x l u)
 
-  pub integer_leads : {m : Plan Typed} (p : Place) → Leads Before Honest m → Leads Before Tested (integer_at p m)
+  pub integer_leads : {m : CheckPlan Typed} (p : Place) → Leads Before Honest m → Leads Before Tested (integer_at p m)
   integer_leads p h = leads_sites h (λ s x k l u. integer_clean p s x l u)
 
-  pub condition_leads : {m : Plan Typed} (p : Place) → Leads Before Honest m → Leads Before Tested (condition_at p m)
+  pub condition_leads : {m : CheckPlan Typed} (p : Place) → Leads Before Honest m → Leads Before Tested (condition_at p m)
   condition_leads p h = scalar_leads p (value_leads p h)
 
   -- an operand that is an integer too
-  number_leads : {m : Plan Typed} (p q : Place) → Leads Before Honest m → Leads Before Tested (integer_at p (scalar_at p (value_at q m)))
+  number_leads : {m : CheckPlan Typed} (p q : Place) → Leads Before Honest m → Leads Before Tested (integer_at p (scalar_at p (value_at q m)))
   number_leads p q h = leads_sites {Between = Tested} (scalar_leads p (value_leads q h)) (λ s x k l u. l)
 
-  address_leads : {m : Plan Typed} (p : Place) (name : Option Name) → Leads Before Honest m → Leads Before Honest (address_at p name m)
+  address_leads : {m : CheckPlan Typed} (p : Place) (name : Option Name) → Leads Before Honest m → Leads Before Honest (address_at p name m)
   address_leads p name h = leads_node h (λ s x k l u. come_wider (wider (marked_name_wider name s) (shape_wider (shape.Pointer x.type_id) (marked_name name s))) k (honest (address_of_clean p x l u)))
 
-  star_leads : {m : Plan Typed} (p : Place) → Leads Before Honest m → Leads Before Honest (star_at p m)
+  star_leads : {m : CheckPlan Typed} (p : Place) → Leads Before Honest m → Leads Before Honest (star_at p m)
   star_leads p h = leads_sites h (λ s x k l u. starred_honest s x l)
 
-  step_leads : {m : Plan Typed} (p : Place) (down new : Bool) → Leads Before Honest m → Leads Before Honest (step_at p down new m)
+  step_leads : {m : CheckPlan Typed} (p : Place) (down new : Bool) → Leads Before Honest m → Leads Before Honest (step_at p down new m)
   step_leads p down new h =
       leads_sites {Between = Tested} (scalar_leads p (leads_sites {Between = Honest} h (λ s x k l u. l))) (λ s x k l u. honest (stepped_clean p s down new x l.inside))
 
-  pub prefix_leads : {m : Plan Typed} (p q : Place) (o : PrefixOperator) (name : Option Name) → Leads Before Honest m → Leads Before Honest (prefix_at p q o name m)
+  pub prefix_leads : {m : CheckPlan Typed} (p q : Place) (o : PrefixOperator) (name : Option Name) → Leads Before Honest m → Leads Before Honest (prefix_at p q o name m)
   prefix_leads p q prefix.Increment name h = step_leads p false true h
   prefix_leads p q prefix.Decrement name h = step_leads p true true h
   prefix_leads p q prefix.Address name h = address_leads p name h
@@ -385,56 +385,56 @@ module _ {Before : List Shape → Type 0} where
   prefix_leads p q prefix.Complement name h = leads_reads (number_leads p q h) (λ s x k l. honest (complemented_clean p x (promoted_of s x) l))
   prefix_leads p q prefix.Not name h = leads_reads (scalar_leads p (value_leads q h)) (λ s x k l. honest (inverted_clean p x l))
 
-  pub postfix_leads : {m : Plan Typed} (p : Place) (o : PostfixOperator) → Leads Before Honest m → Leads Before Honest (postfix_at p o m)
+  pub postfix_leads : {m : CheckPlan Typed} (p : Place) (o : PostfixOperator) → Leads Before Honest m → Leads Before Honest (postfix_at p o m)
   postfix_leads p postfix.Increment h = step_leads p false false h
   postfix_leads p postfix.Decrement h = step_leads p true false h
 
-  operands_leads : {m : Plan (Typed × Typed)} (p : Place) (o : BinaryOperator) → Leads Before Pair m → Leads Before Honest (operands_at p o m)
+  operands_leads : {m : CheckPlan (Typed × Typed)} (p : Place) (o : BinaryOperator) → Leads Before Pair m → Leads Before Honest (operands_at p o m)
   operands_leads p o h = leads_sites (leads_sites {Between = Pair} {After = Pair} h (λ s x k l u. l)) (λ s x k l u. combined_honest p s o x.0 x.1 l.0 l.1)
 
-  scalars_leads : {m : Plan (Typed × Typed)} (p q : Place) → Leads Before Pair m → Leads Before TestedPair (scalars_at p q m)
+  scalars_leads : {m : CheckPlan (Typed × Typed)} (p q : Place) → Leads Before Pair m → Leads Before TestedPair (scalars_at p q m)
   scalars_leads p q h =
       leads_sites {Between = HalfTested} (leads_sites {Between = Pair} h (λ s x k l u. (scalar_clean p s x.0 l.0 u, l.1))) (λ s x k l u. (l.0, scalar_clean q s x.1 l.1 u))
 
-  and_leads : {m : Plan (Typed × Typed)} (p q : Place) → Leads Before Pair m → Leads Before Honest (and_at p q m)
+  and_leads : {m : CheckPlan (Typed × Typed)} (p q : Place) → Leads Before Pair m → Leads Before Honest (and_at p q m)
   and_leads p q h = leads_reads (scalars_leads p q h) (λ s x k l. honest (valued_clean (program.And p x.0.tree x.1.tree) int_id (known_and x.0.known x.1.known) (and_clean p x.0.tree x.1.tree l.0 l.1)))
 
-  or_leads : {m : Plan (Typed × Typed)} (p q : Place) → Leads Before Pair m → Leads Before Honest (or_at p q m)
+  or_leads : {m : CheckPlan (Typed × Typed)} (p q : Place) → Leads Before Pair m → Leads Before Honest (or_at p q m)
   or_leads p q h = leads_reads (scalars_leads p q h) (λ s x k l. honest (valued_clean (program.Or p x.0.tree x.1.tree) int_id (known_or x.0.known x.1.known) (or_clean p x.0.tree x.1.tree l.0 l.1)))
 
-  pub binary_leads : {m : Plan (Typed × Typed)} (p q : Place) (o : BinaryOperator) → Leads Before Pair m → Leads Before Honest (binary_at p q o m)
+  pub binary_leads : {m : CheckPlan (Typed × Typed)} (p q : Place) (o : BinaryOperator) → Leads Before Pair m → Leads Before Honest (binary_at p q o m)
   binary_leads p q binary.AndAnd h = and_leads p q h
   binary_leads p q binary.OrOr h = or_leads p q h
   binary_leads p q o h = operands_leads p o h
 
-  pub index_leads : {m : Plan (Typed × Typed)} (p q : Place) → Leads Before Pair m → Leads Before Honest (index_at p q m)
+  pub index_leads : {m : CheckPlan (Typed × Typed)} (p q : Place) → Leads Before Pair m → Leads Before Honest (index_at p q m)
   index_leads p q h =
       leads_sites (leads_sites {Between = Pair} {After = Pair} (leads_sites {Between = Pair} {After = Pair} h (λ s x k l u. l)) (λ s x k l u. l)) (λ s x k l u. subscripted_honest p s x.0 x.1 l.0 l.1)
 
-  member_leads : {m : Plan Typed} (p : Place) (o : MemberOperator) (name : Name) → Leads Before Honest m → Leads Before Honest (member_of p o name m)
+  member_leads : {m : CheckPlan Typed} (p : Place) (o : MemberOperator) (name : Name) → Leads Before Honest m → Leads Before Honest (member_of p o name m)
   member_leads p o name h = leads_unless (OfMember name.number) (leads_sites h (λ s x k l u. member_honest p s o x (component_in s (owner o s x) name.number) l))
 
-  pub access_leads : {m : Plan Typed} (p : Place) (o : MemberOperator) (name : Name) → Leads Before Honest m → Leads Before Honest (access_at p o name m)
+  pub access_leads : {m : CheckPlan Typed} (p : Place) (o : MemberOperator) (name : Name) → Leads Before Honest m → Leads Before Honest (access_at p o name m)
   access_leads p signs.Dot name h = member_leads p signs.Dot name h
   access_leads p signs.Arrow name h = member_leads p signs.Arrow name (value_leads p h)
 
-  pub sizeof_leads : {After : List Shape → ℕ → Type 0} {m : Plan ℕ} (p : Place) → Leads Before After m → Leads Before Honest (sizeof_at p m)
+  pub sizeof_leads : {After : List Shape → ℕ → Type 0} {m : CheckPlan ℕ} (p : Place) → Leads Before After m → Leads Before Honest (sizeof_at p m)
   sizeof_leads p h = leads_sites h (λ s t k l u. honest (record { inside = omega arith; itself = refl }))
 
-  pub cast_leads : {m : Plan (ℕ × Typed)} (p : Place) → Leads Before TypeAndValue m → Leads Before Honest (cast_at p m)
+  pub cast_leads : {m : CheckPlan (ℕ × Typed)} (p : Place) → Leads Before TypeAndValue m → Leads Before Honest (cast_at p m)
   cast_leads p h = leads_sites h (λ s x k l u. cast_honest p s x.1 x.0 l.0 l.1 u)
 
-  pub assignment_leads : {m : Plan (Typed × Typed)} (p : Place) (o : AssignmentOperator) → Leads Before Pair m → Leads Before Honest (assignment_at p o m)
+  pub assignment_leads : {m : CheckPlan (Typed × Typed)} (p : Place) (o : AssignmentOperator) → Leads Before Pair m → Leads Before Honest (assignment_at p o m)
   assignment_leads p assignment.Assign h =
       leads_sites (leads_sites {Between = Pair} {After = Pair} h (λ s x k l u. l)) (λ s x k l u. honest (assigned_clean p s x.0 x.1 (let a = l.0 in a.inside) (let b = l.1 in b.inside)))
   assignment_leads p o h =
       leads_sites (leads_sites {Between = Pair} {After = Pair} (leads_sites {Between = Pair} {After = Pair} h (λ s x k l u. l)) (λ s x k l u. l))
       (λ s x k l u. honest (updated_clean p s (operator_of o) x.0 x.1 (let a = l.0 in a.inside) (let b = l.1 in b.inside)))
 
-  pub conditional_leads : {m : Plan (Typed × (Typed × Typed))} (p : Place) → Leads Before TestAndPair m → Leads Before Honest (conditional_at p m)
+  pub conditional_leads : {m : CheckPlan (Typed × (Typed × Typed))} (p : Place) → Leads Before TestAndPair m → Leads Before Honest (conditional_at p m)
   conditional_leads p h = leads_node h (λ s x k l u. branches_come p s x.0 x.1.0 x.1.1 (joined s x.1.0 x.1.1) k (joined_wider s x.1.0 x.1.1) l.0 l.1.0 l.1.1)
 
-  pub comma_leads : {m : Plan (Typed × Typed)} → Leads Before Pair m → Leads Before Honest (comma_at m)
+  pub comma_leads : {m : CheckPlan (Typed × Typed)} → Leads Before Pair m → Leads Before Honest (comma_at m)
   comma_leads h = leads_reads h (λ s x k l. honest (comma_clean x.0 x.1 (let a = l.0 in a.inside) (let b = l.1 in b.inside)))
 
 -- ---- calls
@@ -443,7 +443,7 @@ module _ {Before : List Shape → Type 0} where
 abbrev pub Passed : List Shape → List program.Expression → Type 0
 Passed xs es = void_in_list es ≤ 0
 
-pub argument_leads : {m : Plan Typed} (p : Place) (f : Option ℕ) (i : ℕ) (done : List program.Expression) → Leads Any Honest m → Leads (λ xs. Passed xs done) Passed (argument_at p f i done m)
+pub argument_leads : {m : CheckPlan Typed} (p : Place) (f : Option ℕ) (i : ℕ) (done : List program.Expression) → Leads Any Honest m → Leads (λ xs. Passed xs done) Passed (argument_at p f i done m)
 argument_leads p f i done h = leads_if (λ d. leads_sites h (λ s x k l u.
     let a = l.inside in
     let g = passed_in p s x (parameter_type s f i) a in
@@ -452,11 +452,11 @@ argument_leads p f i done h = leads_if (λ d. leads_sites h (λ s x k l u.
 call_at_leads : (p : Place) (n : Name) (f given : ℕ) → Leads Any Anything (call_at p n f given)
 call_at_leads p n f given = leads_node {Between = Anything} leads_nothing (λ s x k l u. come_wider (with_call_wider f n.place (library_of (slice_get s.routines f)) s) k tt)
 
-call_by_leads : {m : Plan Typed} {args : Plan (List program.Expression)} (p q : Place) (name : Name) (given : ℕ) (f : Option ℕ) → Leads Any Honest m → Leads Any Passed args → Leads Any Honest (call_by p q name given f m args)
+call_by_leads : {m : CheckPlan Typed} {args : CheckPlan (List program.Expression)} (p q : Place) (name : Name) (given : ℕ) (f : Option ℕ) → Leads Any Honest m → Leads Any Passed args → Leads Any Honest (call_by p q name given f m args)
 call_by_leads p q name given (Some f) h g =
     leads_chain {Between = Anything} (call_at_leads p name f given) (λ x. leads_reads g (λ s es k l. called_honest p s f es k l))
 call_by_leads p q name given None h g = leads_sites (leads_both honest_lasts (value_leads q h) g) (λ s x k l u. honest (record { inside = omega arith; itself = refl }))
 
-pub call_leads : {m : Plan Typed} {args : Option ℕ → Plan (List program.Expression)} (p q : Place) (name : Option Name) (given : ℕ) → Leads Any Honest m → ((f : Option ℕ) → Leads Any Passed (args f)) → Leads Any Honest (call_of p q name given m args)
+pub call_leads : {m : CheckPlan Typed} {args : Option ℕ → CheckPlan (List program.Expression)} (p q : Place) (name : Option Name) (given : ℕ) → Leads Any Honest m → ((f : Option ℕ) → Leads Any Passed (args f)) → Leads Any Honest (call_of p q name given m args)
 call_leads p q None given h g = leads_sites (leads_both honest_lasts (value_leads q h) (g None)) (λ s x k l u. honest (record { inside = omega arith; itself = refl }))
 call_leads p q (Some name) given h g = leads_chain {Between = Anything} (leads_looks (λ s. routine_in (found_name s name.number)) (λ s k b. tt)) (λ f. call_by_leads p q name given f h (g f))

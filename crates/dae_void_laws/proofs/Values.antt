@@ -28,7 +28,7 @@ use Rattle.dae_types_kinds.specs.declared.values.Known.{Known}
 use Rattle.dae_types_kinds.specs.declared.values.Known.TheVariants as known
 use Rattle.dae_types_kinds.specs.Tables.{Tables}
 use Rattle.dae_types_kinds.specs.Types.{shape_of, is_integer, is_pointer, is_scalar, is_void, is_structure, pointee, points_to_void, same, int_id, layout_at, word_for}
-use Rattle.dae_types_kinds.specs.Values.{Typed, is_constant_zero, is_zero, is_null_pointer, is_null, Deed, Operates, Compares, Combination, Words, PointerFirst, PointerSecond, Distance, Pointers, plain, number, valued_by, is_object, stored_in, changes, changed, load_kind, known_as, converted_by, converted, cast_to, null_pointer, further, scaled, sum_of, difference_of, deed, is_difference, is_equality, is_comparison, is_sum, are_comparable, compared_as, summed_as, combination, tree_by, address_tree, known_by, operated, is_unsigned_for, type_for, indexed, indexed_behind, indexed_back, distance, combined_as, subscripted, starred, negated, complemented, inverted, known_not, member_value, member_in, member_by, known_further, target_of, assigned, updated_by, updated, stepped, conditional_by, conditional_as, either_category, known_if, known_branch, comma, library_of, routine_type, result_of, listed, first_of_list, call_tree, called}
+use Rattle.dae_types_kinds.specs.Values.{Typed, is_constant_zero, is_zero, is_null_pointer, is_null, WordOperation, Operates, Compares, Combination, Words, PointerFirst, PointerSecond, Distance, Pointers, plain, number, valued_by, is_object, stored_in, changes, changed, load_kind, known_as, converted_by, converted, cast_to, null_pointer, further, scaled, sum_of, difference_of, deed, is_difference, is_equality, is_comparison, is_sum, are_comparable, compared_as, summed_as, combination, tree_by, address_tree, known_by, operated, is_unsigned_for, type_for, indexed, indexed_behind, indexed_back, distance, combined_as, subscripted, starred, negated, complemented, inverted, known_not, member_value, member_in, member_by, known_further, target_of, assigned, updated_by, updated, stepped, conditional_by, conditional_as, either_category, known_if, known_branch, comma, library_of, routine_type, result_of, listed, first_of_list, call_tree, called}
 use Rattle.dae_types_rules.specs.Sites.{AtScalar, AtInteger, AtCast, AtAddress}
 use Rattle.dae_lower_bounds.specs.Voids.{is_void as is_void_tree, is_void_test, void_in, void_in_target, void_in_all}
 use Rattle.dae_void_laws.proofs.Kept.{IfThere, all_at, shape_in, shape_is, Extends, Returns, IsRoutineIn, Kept, AreUnbroken}
@@ -86,7 +86,7 @@ difference_clean : (p : Place) (e f : Expression) → void_in e ≤ 0 → void_i
 difference_clean p e (program.Number w) h k = further_clean p e (minus 0 w) h
 difference_clean p e f h k = record { inside = omega (arith, h, k); itself = refl }
 
-tree_clean : (p : Place) (d : Deed) (e f : Expression) → Clean e → Clean f → Clean (tree_by p d e f)
+tree_clean : (p : Place) (d : WordOperation) (e f : Expression) → Clean e → Clean f → Clean (tree_by p d e f)
 tree_clean p (Operates o) e f h k = record { inside = let a = h.inside in let b = k.inside in omega (arith, a, b); itself = refl }
 tree_clean p (Compares c turned) e f h k = record {
   inside = let a = h.inside in let b = k.inside in omega (arith, a, b);
@@ -97,7 +97,7 @@ address_clean : (e : Expression) (k : Known) → Clean e → Clean (address_tree
 address_clean e (known.Address (Some o) k) h = record { inside = omega arith; itself = refl }
 address_clean e k h = h
 
-operated_clean : (p : Place) (d : Deed) (t : ℕ) (x y : Typed) → Clean x.tree → Clean y.tree → Clean (operated p d t x y).tree
+operated_clean : (p : Place) (d : WordOperation) (t : ℕ) (x y : Typed) → Clean x.tree → Clean y.tree → Clean (operated p d t x y).tree
 operated_clean p d t x y h k =
     let z = known_by d x.known y.known in
     valued_clean (address_tree (tree_by p d x.tree y.tree) z) t z (address_clean (tree_by p d x.tree y.tree) z (tree_clean p d x.tree y.tree h k))

@@ -5,7 +5,7 @@ use Rattle.std.specs.List.{AllByRecursion}
 use Rattle.dae_tree.specs.Trees.{External}
 use Rattle.dae_types_kinds.specs.Tables.{Tables}
 use Rattle.dae_types_rules.specs.Plan.{check_of}
-use Rattle.dae_types_file_plans.specs.Files.{Product, Declares, Data, Body, Numbers, plan_file, start_of}
+use Rattle.dae_types_file_plans.specs.Files.{Product, Declares, Data, Body, LibraryNames, plan_file, start_of}
 use Rattle.dae_lower_bounds.specs.Voids.{void_statements}
 
 -- what a file comes to has no such test
@@ -17,5 +17,5 @@ BodyTestsValues (Body f locals storages body) = void_statements body ≡ 0
 -- from what is declared before the first token of a file, with the headers that it includes, and its names and literals
 abbrev pub BodiesTestValues : Type 0
 BodiesTestValues =
-    (xs : List External) (stdio stdlib : Bool) (n : Numbers) (literals : List (List ℕ)) (t : Tables) (products : List Product)
+    (xs : List External) (stdio stdlib : Bool) (n : LibraryNames) (literals : List (List ℕ)) (t : Tables) (products : List Product)
     → check_of (plan_file xs) (start_of stdio stdlib n literals) ≡ Ok (t, products) → AllByRecursion BodyTestsValues products

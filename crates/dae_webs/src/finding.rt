@@ -15,7 +15,7 @@ use std::alloc::{AllocError, Global};
 /// The variables in question, by their bits; what goes backward through the lists of Ifs and Loops, and how many of these the walk
 /// from the end has met; which definitions start a web, by their numbers, and how many stand before the place in question.
 #[derive(Drop)]
-struct Finding {
+struct WebFinder {
     bits: Vec<u64>,
     lists: Vec<TwoLists>,
     met: usize,
@@ -161,7 +161,7 @@ fn next_flag(flags: &[bool], first: usize) -> usize {
 }
 
 // What goes backward through the lists of the If or Loop that is met next.
-fn next_lists(finding: &mut Finding) -> TwoLists {
+fn next_lists(finding: &mut WebFinder) -> TwoLists {
     let met = finding.met;
     finding.met = met.wrapping_add(1);
     match finding.lists.get(met) {
@@ -171,7 +171,7 @@ fn next_lists(finding: &mut Finding) -> TwoLists {
 }
 
 // A definition starts a web where its variable isn't live at the beginnings of the lists that it stands in, nor behind them.
-fn find_in_item(finding: &mut Finding, item: &Item, outside: u64) {
+fn find_in_item(finding: &mut WebFinder, item: &Item, outside: u64) {
     if let Some(variable) = variable_set(item) {
         finding.number = finding.number.wrapping_sub(1);
         let bit = bit_of(&finding.bits, variable);
@@ -183,7 +183,12 @@ fn find_in_item(finding: &mut Finding, item: &Item, outside: u64) {
 
 // The last statement of a list comes first.
 #[cycle(find)]
-fn find_in_list(finding: &mut Finding, statements: &[Statement], behind: LiveBehind, outside: u64) {
+fn find_in_list(
+    finding: &mut WebFinder,
+    statements: &[Statement],
+    behind: LiveBehind,
+    outside: u64,
+) {
     let mut live = behind.next;
     for index in (0..statements.len()).rev() {
         let here = LiveBehind {
@@ -198,7 +203,7 @@ fn find_in_list(finding: &mut Finding, statements: &[Statement], behind: LiveBeh
 // The answer is what is live before the statement.
 #[cycle(find)]
 fn find_in_statement(
-    finding: &mut Finding,
+    finding: &mut WebFinder,
     statement: &Statement,
     behind: LiveBehind,
     outside: u64,
@@ -290,7 +295,7 @@ fn mark_in_part(
     let part = part_of(statements, extent);
     let mut lists = Vec::new(alloc);
     list_transfer(&bits, &mut lists, part)?;
-    let mut finding = Finding {
+    let mut finding = WebFinder {
         bits,
         lists,
         met: 0,

@@ -1,7 +1,7 @@
 use Rattle.std.proofs.Common.{◌≡◌, ℕ, ◌+◌, ◌-◌, ◌≤◌, true, false, length, List, [], ◌∷◌, take, drop, get_or, sym, ap, ◌∙◌, refl, arith, Some}
 use Rattle.std.specs.List.{prefix_len}
 use Rattle.std.proofs.lemmas.List.{take_rest}
-use Rattle.dae_asm_lines.specs.Tokens.{Token, Sign, is_sign, token_of, tokens_of}
+use Rattle.dae_asm_lines.specs.Tokens.{LineToken, Sign, is_sign, token_of, tokens_of}
 use Rattle.dae_asm_lines.specs.Scanning.{first_token, is_word_byte, BeginsNoBlank}
 use Rattle.dae_asm_lines.proofs.Words.{sign_first, word_first}
 use Rattle.dae_asm_lines.proofs.tokens.next_token.Goals as goal
@@ -27,7 +27,7 @@ returns-then-is_sign c =
     let same = c.after_blanks-rest.ensures.same in
     ap first_token (sym same ∙ read)
 
-joined : (l line w b : List ℕ) (t : Token) (n : ℕ) → tokens_of line ≡ tokens_of l → tokens_of line ≡ token_of (take (1 + n) line) ∷ tokens_of (drop (1 + n) line) → w ≡ take (1 + n) line → b ≡ drop (1 + n) line → t ≡ token_of w → first_token (tokens_of l) ≡ Some (t, tokens_of b)
+joined : (l line w b : List ℕ) (t : LineToken) (n : ℕ) → tokens_of line ≡ tokens_of l → tokens_of line ≡ token_of (take (1 + n) line) ∷ tokens_of (drop (1 + n) line) → w ≡ take (1 + n) line → b ≡ drop (1 + n) line → t ≡ token_of w → first_token (tokens_of l) ≡ Some (t, tokens_of b)
 joined l line w b t n same read front back token =
     let tokens : tokens_of l ≡ t ∷ tokens_of b = cc in
     ap first_token tokens

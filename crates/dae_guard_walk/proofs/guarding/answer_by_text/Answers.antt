@@ -1,5 +1,5 @@
 use Rattle.std.proofs.Common.{◌≤◌, List, length, subst, sym}
-use Rattle.dae_certificate.specs.declared.Known.{Known}
+use Rattle.dae_certificate.specs.declared.CertificateNode.{CertificateNode}
 use Rattle.dae_guard.specs.Walk.{guarded}
 use Rattle.dae_guard_walk.specs.Answers.{AreKnown}
 use Rattle.dae_guard_walk.specs.Visits.{IsAnswer}
@@ -11,9 +11,9 @@ answer_by_nodes-requires-clause-known c = subst AreKnown (sym c.as_slice.ensures
 
 pub answer_by_nodes-requires-clause-few : goal.answer_by_nodes-requires-clause-few
 answer_by_nodes-requires-clause-few c =
-    subst (λ (ks : List Known). length ks ≤ 64) (sym c.as_slice.ensures) (few_known c.args.certificate.now c.in-Ok.nodes c.in-Ok.ensures.nodes)
+    subst (λ (ks : List CertificateNode). length ks ≤ 64) (sym c.as_slice.ensures) (few_known c.args.certificate.now c.in-Ok.nodes c.in-Ok.ensures.nodes)
 
 pub returns-in-Ok-clause-due : goal.returns-in-Ok-clause-due
 returns-in-Ok-clause-due c =
     due_answer c.args.image.now c.args.depths c.args.certificate.now c.in-Ok.nodes c.answer_by_nodes.result c.requires.reaches c.in-Ok.ensures.nodes
-    (subst (λ (ks : List Known). IsAnswer c.answer_by_nodes.result (guarded c.args.image.now c.args.depths ks)) c.as_slice.ensures c.answer_by_nodes.ensures.is)
+    (subst (λ (ks : List CertificateNode). IsAnswer c.answer_by_nodes.result (guarded c.args.image.now c.args.depths ks)) c.as_slice.ensures c.answer_by_nodes.ensures.is)

@@ -7,8 +7,8 @@ use Rattle.dae_base.specs.Words.{word}
 use Rattle.dae_encode.specs.declared.Inst.{Inst}
 use Rattle.dae_guard.specs.Moves as moves
 use Rattle.dae_guard.specs.Moves.{shape}
-use Rattle.dae_guard_walk.specs.declared.kinds.Kind.TheVariants.{Tests}
-use Rattle.dae_guard_walk.specs.declared.kinds.Test.TheVariants.{Below, SignedBelow}
+use Rattle.dae_guard_walk.specs.declared.kinds.InstructionKind.TheVariants.{Tests}
+use Rattle.dae_guard_walk.specs.declared.kinds.TestKind.TheVariants.{Below, SignedBelow}
 use Rattle.dae_guard_walk.proofs.KindLaws.{kind_at, beq_is, bne_is, blt_is, bge_is, bltu_is, bgeu_is, slt_is, sltu_is, slti_is, sltiu_is, jalr_is, plain_is}
 use Rattle.dae_guard_walk.proofs.kinds.kind_of.Goals as goal
 

@@ -1,6 +1,6 @@
 use Rattle.std.proofs.Common.{[], subst}
 use Rattle.dae_tree.specs.Replacing.{expand}
-use Rattle.dae_lex_scan.specs.declared.pieces.Piece.{Piece}
+use Rattle.dae_lex_scan.specs.declared.pieces.SourcePiece.{SourcePiece}
 use Rattle.dae_lex_scan.specs.Cuts.{cut_of}
 use Rattle.dae_lex.specs.Numbers.{definitions_of}
 use Rattle.dae_lex.specs.Settling.{Settles, state_of, settle}
@@ -17,5 +17,5 @@ replace_piece-requires-clause-read c = read_still c.args.numbers.now c.piece.new
 pub returns-clause-settles : goal.returns-clause-settles
 returns-clause-settles c = λ n h.
     let ms = definitions_of c.args.macros.now in
-    subst (λ (q : Piece). Settles (state_of c.replace_piece.new.out) c.replace_piece.result (settle (state_of c.args.out.now) (expand n ms [] (cut_of q) (cut_of q))))
+    subst (λ (q : SourcePiece). Settles (state_of c.replace_piece.new.out) c.replace_piece.result (settle (state_of c.args.out.now) (expand n ms [] (cut_of q) (cut_of q))))
     c.in_ok-first.ensures.same (c.replace_piece.ensures.settles n h)

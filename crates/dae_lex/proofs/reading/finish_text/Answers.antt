@@ -1,6 +1,6 @@
 use Rattle.std.proofs.Common.{◌≡◌, [], map, refl, ap, ◌∙◌}
 use Rattle.dae_base.proofs.Laws.{now_of}
-use Rattle.dae_tree.specs.Tokens.{joined, numbered, names_after, literals_after}
+use Rattle.dae_tree.specs.Tokens.{joined_literals, numbered, names_after, literals_after}
 use Rattle.dae_lex.specs.Settling.{read_of}
 use Rattle.dae_lex.specs.Finishing.{Built}
 use Rattle.dae_lex.proofs.Entries.{values_named}
@@ -16,9 +16,9 @@ new-requires c =
     let ls = ap (λ (b : Built). b.literals) c.in_ok-tokens.ensures.ok in
     let values = ap now_of (c.as_slice.ensures ∙ c.values.ensures.rest) ∙ values_named _ in
     let owned = c.in_ok-owned.ensures.ok in
-    let t : c.from_vec.result ≡ numbered [] [] (joined rs) = cc in
-    let n : c.in_ok-owned.owned ≡ names_after [] (joined rs) = cc in
-    let l : c.from_vec-2.result ≡ literals_after [] (joined rs) = cc in
+    let t : c.from_vec.result ≡ numbered [] [] (joined_literals rs) = cc in
+    let n : c.in_ok-owned.owned ≡ names_after [] (joined_literals rs) = cc in
+    let l : c.from_vec-2.result ≡ literals_after [] (joined_literals rs) = cc in
     rw (t, n, l) whole
 
 pub returns-clause-ok : goal.returns-clause-ok
@@ -29,7 +29,7 @@ returns-clause-ok c =
     let ls = ap (λ (b : Built). b.literals) c.in_ok-tokens.ensures.ok in
     let values = ap now_of (c.as_slice.ensures ∙ c.values.ensures.rest) ∙ values_named _ in
     let owned = c.in_ok-owned.ensures.ok in
-    let t : c.from_vec.result ≡ numbered [] [] (joined rs) = cc in
-    let n : c.in_ok-owned.owned ≡ names_after [] (joined rs) = cc in
-    let l : c.from_vec-2.result ≡ literals_after [] (joined rs) = cc in
+    let t : c.from_vec.result ≡ numbered [] [] (joined_literals rs) = cc in
+    let n : c.in_ok-owned.owned ≡ names_after [] (joined_literals rs) = cc in
+    let l : c.from_vec-2.result ≡ literals_after [] (joined_literals rs) = cc in
     c.new.ensures ∙ rw (t, n, l) refl

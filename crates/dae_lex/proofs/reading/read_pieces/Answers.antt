@@ -1,7 +1,7 @@
 use Rattle.std.proofs.Common.{map, ap, sym, ◌∙◌, arith}
 use Rattle.std.proofs.lemmas.List.{length-map}
 use Rattle.dae_lex_scan.specs.Cuts.{cut_of}
-use Rattle.dae_lex.specs.Settling.{State, read_of, state_of, settle}
+use Rattle.dae_lex.specs.Settling.{LexState, read_of, state_of, settle}
 use Rattle.dae_lex.specs.Whole.{items_of_pieces}
 use Rattle.dae_lex.proofs.Whole.{settled, unsettled, settle_count, settle_spans}
 use Rattle.dae_lex.proofs.Turns.{fails_along}
@@ -13,7 +13,7 @@ returns-in-Ok-clause-ok c =
     let ps = map cut_of c.args.pieces.now in
     let items = items_of_pieces room ps in
     let out = c.take_lines.new.out in
-    let e = ap (λ (s : State). settle s (items_of_pieces s.room ps)) (sym c.new-out.ensures) ∙ c.in-Ok.ensures.settles in
+    let e = ap (λ (s : LexState). settle s (items_of_pieces s.room ps)) (sym c.new-out.ensures) ∙ c.in-Ok.ensures.settles in
     let done = settled room items (state_of out) e in
     record {
       reads = done.0;
@@ -28,4 +28,4 @@ pub returns-clause-err : goal.returns-clause-err
 returns-clause-err c =
     let ps = map cut_of c.args.pieces.now in
     unsettled c.args.room (items_of_pieces c.args.room ps) c.in-Err.e
-    (fails_along c.in-Err.e _ _ (ap (λ (s : State). settle s (items_of_pieces s.room ps)) c.new-out.ensures) c.in-Err.ensures.settles)
+    (fails_along c.in-Err.e _ _ (ap (λ (s : LexState). settle s (items_of_pieces s.room ps)) c.new-out.ensures) c.in-Err.ensures.settles)

@@ -4,7 +4,7 @@ use Rattle.std.proofs.lemmas.List.Elements.{All-same}
 use Rattle.std.proofs.lemmas.Bool.{eqb-true}
 use Rattle.std.specs.Global.{Vec}
 use Rattle.dae_tree.specs.Replacing.{replacement}
-use Rattle.dae_lex.specs.declared.replace.Open.{Open}
+use Rattle.dae_lex.specs.declared.replace.OpenReplacement.{OpenReplacement}
 use Rattle.dae_lex.specs.declared.output.ReadToken.{ReadToken}
 use Rattle.dae_lex_scan.specs.Cuts.{cut_of}
 use Rattle.dae_lex.specs.Numbers.{cuts_of, definitions_of}
@@ -18,7 +18,7 @@ pub loop-stack-init : goal.loop-stack-init
 loop-stack-init c =
     let w = c.args.numbers.now in
     let first = c.args.first in
-    let new : Open = record { name = first.piece.spelling; rest = c.in-Some.body } in
+    let new : OpenReplacement = record { name = first.piece.spelling; rest = c.in-Some.body } in
     let none = none_open w c.new-stack.result c.new-stack.ensures in
     let frames = frames_push c.begin.new.stack c.new-stack.result (first.number, new) c.in-Ok.ensures.frames ∙ ap (λ fs. fs ++ frame_of new ∷ []) none.0 in
     let left = c.in-Ok.ensures.left in

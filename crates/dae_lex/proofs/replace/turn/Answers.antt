@@ -5,7 +5,7 @@ use Rattle.std.proofs.lemmas.Bool.{cases_eq}
 use Rattle.dae_tree.specs.declared.faults.Construct.TheVariants.{TooManyReplacements}
 use Rattle.dae_tree.specs.declared.faults.LexError.TheVariants.{Refused}
 use Rattle.dae_tree.specs.Replacing.{replacement, items_of, replaced}
-use Rattle.dae_lex.specs.declared.replace.Open.{Open}
+use Rattle.dae_lex.specs.declared.replace.OpenReplacement.{OpenReplacement}
 use Rattle.dae_lex_scan.specs.Cuts.{cut_of}
 use Rattle.dae_lex.specs.Numbers.{cuts_of, definitions_of}
 use Rattle.dae_lex.specs.Settling.{state_of, settle}
@@ -51,8 +51,8 @@ returns-in-Some-replacement_of-clause-settles c = λ n h.
     let fs = frames_of c.pop.new.self in
     let top = c.in-Some.top in
     let next = c.in-Some-next_of.next in
-    let others : Open = record { name = c.in-Some.top.name; rest = c.in-Some-next_of.others } in
-    let new : Open = record { name = next.piece.spelling; rest = c.in-Some-replacement_of.body } in
+    let others : OpenReplacement = record { name = c.in-Some.top.name; rest = c.in-Some-next_of.others } in
+    let new : OpenReplacement = record { name = next.piece.spelling; rest = c.in-Some-replacement_of.body } in
     let f = frame_of top in
     let p = cut_of next.piece in
     let r = cuts_of c.in-Some-next_of.others.now in
@@ -90,8 +90,8 @@ returns-in-Some-replacement_of-clause-less c =
     let body = c.in-Some-replacement_of.body.now in
     let next = c.in-Some-next_of.next in
     let top = c.in-Some.top in
-    let left : Open = record { name = c.in-Some.top.name; rest = c.in-Some-next_of.others } in
-    let new : Open = record { name = next.piece.spelling; rest = c.in-Some-replacement_of.body } in
+    let left : OpenReplacement = record { name = c.in-Some.top.name; rest = c.in-Some-next_of.others } in
+    let new : OpenReplacement = record { name = next.piece.spelling; rest = c.in-Some-replacement_of.body } in
     both_ok c.begin.result
     (λ fewer e. work_begin c.args.out.now.room.replacements c.begin.new.out.room.replacements (frames_of c.args.stack.now) (frames_of c.pop.new.self)
     (frames_of c.push.new.self) (frames_of c.begin.new.stack) (frame_of top) (frame_of left) (frame_of new)
@@ -106,8 +106,8 @@ returns-in-Some-replacement_of-clause-numbered c =
     let w = c.args.numbers.now in
     let next = c.in-Some-next_of.next in
     let top = c.in-Some.top in
-    let others : Open = record { name = c.in-Some.top.name; rest = c.in-Some-next_of.others } in
-    let new : Open = record { name = next.piece.spelling; rest = c.in-Some-replacement_of.body } in
+    let others : OpenReplacement = record { name = c.in-Some.top.name; rest = c.in-Some-next_of.others } in
+    let new : OpenReplacement = record { name = next.piece.spelling; rest = c.in-Some-replacement_of.body } in
     let popped = open_pop w c.args.stack.now c.pop.new.self (c.in-Some.number, top) c.in-Some.ensures.taken c.requires.numbered in
     let numbered = next_numbered w next c.in-Some-next_of.others.now c.in-Some.top.rest.now c.in-Some-next_of.ensures popped.1.1 in
     let pushed = open_push w c.push.new.self c.pop.new.self (c.in-Some.number, others) c.in_ok-push.ensures.ok popped.0 (popped.1.0, numbered.1) in
@@ -126,7 +126,7 @@ returns-in-None-clause-settles c = λ n h.
     let fs = frames_of c.pop.new.self in
     let top = c.in-Some.top in
     let next = c.in-Some-next_of.next in
-    let others : Open = record { name = c.in-Some.top.name; rest = c.in-Some-next_of.others } in
+    let others : OpenReplacement = record { name = c.in-Some.top.name; rest = c.in-Some-next_of.others } in
     let p = cut_of next.piece in
     let r = cuts_of c.in-Some-next_of.others.now in
     let inner = fs ++ frame_of others ∷ [] in
@@ -147,7 +147,7 @@ returns-in-None-clause-less c =
     let rest = c.in-Some.top.rest.now in
     let others = c.in-Some-next_of.others.now in
     let top = c.in-Some.top in
-    let left : Open = record { name = c.in-Some.top.name; rest = c.in-Some-next_of.others } in
+    let left : OpenReplacement = record { name = c.in-Some.top.name; rest = c.in-Some-next_of.others } in
     let falls = work_take c.args.out.now.room.replacements (frames_of c.args.stack.now) (frames_of c.pop.new.self) (frames_of c.push.new.self) (frame_of top) (frame_of left)
     (frames_push c.args.stack.now c.pop.new.self (c.in-Some.number, top) c.in-Some.ensures.taken)
     (frames_push c.push.new.self c.pop.new.self (c.in-Some.number, left) c.in_ok-push.ensures.ok)
@@ -158,7 +158,7 @@ pub returns-in-None-clause-numbered : goal.returns-in-None-clause-numbered
 returns-in-None-clause-numbered c =
     let w = c.args.numbers.now in
     let top = c.in-Some.top in
-    let others : Open = record { name = c.in-Some.top.name; rest = c.in-Some-next_of.others } in
+    let others : OpenReplacement = record { name = c.in-Some.top.name; rest = c.in-Some-next_of.others } in
     let popped = open_pop w c.args.stack.now c.pop.new.self (c.in-Some.number, top) c.in-Some.ensures.taken c.requires.numbered in
     let numbered = next_numbered w c.in-Some-next_of.next c.in-Some-next_of.others.now c.in-Some.top.rest.now c.in-Some-next_of.ensures popped.1.1 in
     always c.take.result (open_push w c.push.new.self c.pop.new.self (c.in-Some.number, others) c.in_ok-push.ensures.ok popped.0 (popped.1.0, numbered.1))

@@ -1,7 +1,7 @@
 use Rattle.std.proofs.Common.{◌≡◌, ◌+◌, ◌-◌, suc, ap, sym, ◌∙◌, refl, drop, ◌++◌, slice_index_or, arith, append-nil}
 use Rattle.std.proofs.lemmas.List.{take_rest, drop_more, drop_all}
 use Rattle.dae_tree.specs.Lines.{bytes_of, spots_of, start_of, spot_behind, join_left}
-use Rattle.dae_tree.specs.declared.pieces.Spot.{Spot}
+use Rattle.dae_tree.specs.declared.pieces.TextSpot.{TextSpot}
 use Rattle.dae_lex_scan.proofs.Joining.{Within, within_more, keeps, skips, from_start, at_end}
 use Rattle.dae_lex_scan.proofs.lines.join_lines.Goals as goal
 use Rattle.dae_lex_scan.proofs.lines.join_lines.Goals.{then-joining-eq0+in_ok-push_byte+in_ok-push_spot, else-joining-eq0}
@@ -24,7 +24,7 @@ returns c =
     record {
       bytes = sym (append-nil _) ∙ ap (λ cs. l.bytes.items ++ bytes_of cs) (sym e) ∙ l.invariant.bytes;
       spots = sym (append-nil _) ∙ ap (λ cs. l.spots.items ++ spots_of cs) (sym e) ∙ l.invariant.spots;
-      end = ap (λ (s : Spot). s.place) (ap (spot_behind l.spot) (sym (drop_all l.i text (omega arith))) ∙ l.invariant.behind);
+      end = ap (λ (s : TextSpot). s.place) (ap (spot_behind l.spot) (sym (drop_all l.i text (omega arith))) ∙ l.invariant.behind);
       err = tt;
     }
 

@@ -26,7 +26,7 @@ returns-clause-layout c =
       registers = subst (λ (hs : List Home). AreFew 18 places → (v : ℕ) → IsRegister (home_in hs v)) (sym c.from_vec.ensures) c.in_ok-homes.ensures.registers;
       frame = refl;
       leaf = c.is_leaf_function.ensures;
-      bare = c.is_frameless-bare.ensures ∙ ap (is_frameless c.args.function.now) (c.as_slice.ensures.value ∙ sym c.from_vec.ensures);
+      frameless = c.is_frameless-frameless.ensures ∙ ap (is_frameless c.args.function.now) (c.as_slice.ensures.value ∙ sym c.from_vec.ensures);
       entry = refl;
     }
 

@@ -12,13 +12,13 @@ use Rattle.dae_lower_programs.proofs.Wholes.{code_closed, function_written, stay
 use Rattle.dae_lower_programs.specs.Invocations.{at_startup}
 use Rattle.dae_lower_programs.specs.Sound.{AreSound}
 use Rattle.dae_program.specs.Views.{view_statements}
-use Rattle.dae_program.specs.declared.program.Slot.{Slot}
+use Rattle.dae_program.specs.declared.program.FrameSlot.{FrameSlot}
 use Rattle.dae_program.specs.declared.statements.Statement.{Statement}
 use Rattle.dae_lower_programs.proofs.functions.lower_with.Goals as goal
 
 pub store_parameters-requires : goal.store_parameters-requires
 store_parameters-requires c =
-    subst (λ (xs : List (Option Slot)). 1 + length xs < 2 ^ 32) (sym c.as_slice.ensures) (below_word c.args.f.now c.requires.numbered c.see_word.ensures)
+    subst (λ (xs : List (Option FrameSlot)). 1 + length xs < 2 ^ 32) (sym c.as_slice.ensures) (below_word c.args.f.now c.requires.numbered c.see_word.ensures)
 
 pub make_statements-requires : goal.make_statements-requires
 make_statements-requires c = let n = c.requires.numbered in subst (λ (ss : List Statement). AreSound (view_statements ss)) (sym c.as_slice-2.ensures) n.statements
@@ -36,7 +36,7 @@ returns c =
     let e = state_of c.make_statements.new.lowerer in
     let w = function_written f.place flag first second f.variables a b d e c.new-lowerer.ensures
     (subst (λ (x : Bool). Whole (emit (checks x f.place (Expect Frame) Done)) a b tt) c.needs_check.ensures c.in_ok-check_frame.ensures)
-    (subst (λ (xs : List (Option Slot)). Whole (parameters_stored f.place xs 1) b d tt) c.as_slice.ensures c.in_ok-store_parameters.ensures)
+    (subst (λ (xs : List (Option FrameSlot)). Whole (parameters_stored f.place xs 1) b d tt) c.as_slice.ensures c.in_ok-store_parameters.ensures)
     (subst (λ (ss : List Statement). Whole (statements l (view_statements ss)) d e tt) c.as_slice-2.ensures c.in_ok-make_statements.ensures) in
     let last = if at_startup c.args.invocation then Halt (Number 0) else Return (Number 0) in
     let body = λ (n : ℕ). first n ≫ λ x. second in

@@ -2,7 +2,7 @@ use Rattle.std.proofs.Common.{drop, get_or, ◌+◌, [], ◌∷◌}
 use Rattle.dae_lower.specs.Lowering.{prints}
 use Rattle.dae_lower_expressions.specs.Lowered.{state_of}
 use Rattle.dae_lower_programs.proofs.Arguments.{any_default}
-use Rattle.dae_program.specs.declared.statements.Piece.TheVariants as piece
+use Rattle.dae_program.specs.declared.statements.FormatPiece.TheVariants as piece
 use Rattle.dae_lower_programs.proofs.Firsts.{prints_at, prints_end}
 use Rattle.dae_lower_programs.proofs.Rows.{first_leads, next_leads, last_leads}
 use Rattle.dae_lower_programs.proofs.printing.print.Goals as goal

@@ -3,7 +3,7 @@ use Rattle.std.specs.Prelude.{None}
 use Rattle.dae_lower_expressions.specs.Lowered.{state_of}
 use Rattle.dae_lower_programs.proofs.Parted.{begun_whole}
 use Rattle.dae_program.specs.Views.{arms_of}
-use Rattle.dae_lower_maker.specs.Making.{Written, so_far}
+use Rattle.dae_lower_maker.specs.Making.{CodeSoFar, so_far}
 use Rattle.dae_program.specs.Switches.{arm_with, count_arms}
 use Rattle.dae_lower_programs.proofs.switching.begin_switch.Goals as goal
 
@@ -14,4 +14,4 @@ returns-clause-made c =
     c.default_arm-other.ensures c.reserve-v.ensures.given c.reserve-v.ensures.after c.reserve-flag.ensures.given c.reserve-flag.ensures.after c.in_ok-searching.ensures c.new-nothing.ensures.items c.in_ok-item.ensures c.in_ok-repeat.ensures c.in_ok-clear.ensures
 
 pub returns-clause-flag : goal.returns-clause-flag
-returns-clause-flag c = c.reserve-flag.ensures.given ∙ ap (λ (s : Written). s.next) c.reserve-v.ensures.after
+returns-clause-flag c = c.reserve-flag.ensures.given ∙ ap (λ (s : CodeSoFar). s.next) c.reserve-v.ensures.after

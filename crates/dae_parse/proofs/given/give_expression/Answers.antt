@@ -19,7 +19,7 @@ pub returns-in-InTest : goal.returns-in-InTest
 returns-in-InTest c = λ e h s k.
     let below = frames_of c.pop_expression.new.self in
     let q = subst (λ (fs : List Frame). ShowsStack fs s) (c.in-Some.ensures.stack ∙ ap (λ (f : ExpressionFrame). frame.Expression f ∷ below) c.in-InTest.is) k.0 in
-    let i = popped_in_test c.in-InTest.head c.in-InTest.paren below (λ (u : List plain.Frame). (a : plain.Head) × (t : List plain.Frame) × (u ≡ plain.awaits_expression (plain.in_test a c.in-InTest.paren) ∷ t) × ShowsHead c.in-InTest.head a × ShowsStack below t) s q (λ a t x0 y. (a, t, refl, x0, y)) in
+    let i = popped_in_test c.in-InTest.head c.in-InTest.paren below (λ (u : List plain.Frame). (a : plain.StatementHead) × (t : List plain.Frame) × (u ≡ plain.awaits_expression (plain.in_test a c.in-InTest.paren) ∷ t) × ShowsHead c.in-InTest.head a × ShowsStack below t) s q (λ a t x0 y. (a, t, refl, x0, y)) in
     let o = ap (λ (z : Scopes Bool). z.outside) c.in-Some.ensures.scope ∙ k.1 ∙ ap outside_stack i.2 in
     rw i.2 (let f = c.in_test.ensures e i.0 h i.3 i.1 (i.4, o) in search rules)
 

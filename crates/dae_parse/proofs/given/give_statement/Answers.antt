@@ -4,7 +4,7 @@ use Rattle.dae_parse_states.specs.Kept as frame
 use Rattle.dae_parse_states.specs.declared.frames.StatementFrame.{StatementFrame}
 use Rattle.dae_tree.specs.Trees.{Expression, Specifiers, Declarator}
 use Rattle.dae_tree.specs.Names.{Names}
-use Rattle.dae_tree.specs.Marks.{Mark}
+use Rattle.dae_tree.specs.Marks.{TokenMark}
 use Rattle.dae_parse_grammar.specs.Taken.{tokens_of}
 use Rattle.dae_parse_grammar.specs.Frames as plain
 use Rattle.dae_parse_parts.specs.Scopes.{Scopes}
@@ -32,4 +32,4 @@ returns-in-InDefinition c = λ b s h j k.
     let q = subst (λ (fs : List Frame). ShowsStack fs s) (c.in-Some.ensures.stack ∙ ap (λ (f : StatementFrame). frame.Statement f ∷ below) c.in-InDefinition.is) k.0 in
     let i = popped_in_definition c.in-InDefinition.specified c.in-InDefinition.declared below (λ (u : List plain.Frame). (ws : Specifiers) × (e : Declarator) × (n : Names) × (t : List plain.Frame) × (u ≡ plain.awaits_statement (plain.in_definition ws e n) ∷ t) × ShowsSpecified c.in-InDefinition.specified ws × ShowsDeclared c.in-InDefinition.declared e × ShowsStack below t) s q (λ ws e n t x0 x1 y. (ws, e, n, t, refl, x0, x1, y)) in
     let o = ap (λ (z : Scopes Bool). z.outside) c.in-Some.ensures.scope ∙ k.1 ∙ ap outside_stack i.4 in
-    rw i.4 (λ l m. let f = c.in_definition.ensures b i.0 i.1 i.2 i.3 h j i.5 i.6 l (subst (λ (ts : List Mark). length (tokens_of (plain.state (plain.gave_statement b) (plain.awaits_statement (plain.in_definition i.0 i.1 i.2) ∷ i.3) c.args.machine.now.scope.names ts)) ≡ c.args.total) (sym c.in-Some.ensures.rest) m) (i.7, o) in search rules)
+    rw i.4 (λ l m. let f = c.in_definition.ensures b i.0 i.1 i.2 i.3 h j i.5 i.6 l (subst (λ (ts : List TokenMark). length (tokens_of (plain.state (plain.gave_statement b) (plain.awaits_statement (plain.in_definition i.0 i.1 i.2) ∷ i.3) c.args.machine.now.scope.names ts)) ≡ c.args.total) (sym c.in-Some.ensures.rest) m) (i.7, o) in search rules)

@@ -1,20 +1,20 @@
 use Rattle.std.proofs.Common.{◌≡◌, List, [], Some, None, sym, ap, subst, ◌∙◌}
 use Rattle.std.specs.Prelude.{slice_get}
 use Rattle.dae_tree.specs.FileViews.{view_externals}
-use Rattle.dae_tree.specs.Files.{Contents}
+use Rattle.dae_tree.specs.Files.{FileContents}
 use Rattle.dae_tree.specs.Marks.{marks}
 use Rattle.dae_tree.specs.Reading.{Reading}
 use Rattle.dae_tree.specs.Statements.{IsTreeOf}
 use Rattle.dae_tree.specs.Trees.{External}
 use Rattle.dae_parse_grammar.specs.Machine.{onto}
-use Rattle.dae_parse_states.specs.declared.frames.Before.{Before}
+use Rattle.dae_parse_states.specs.declared.frames.FileSoFar.{FileSoFar}
 use Rattle.dae_parse_states.specs.Frames.{ShowsFile}
 use Rattle.dae_parse.specs.Parsed.{IsWithinLimits, IsFileOf}
 use Rattle.dae_parse.proofs.Files.{deep_at, none_of, seen_file, is_file}
 use Rattle.dae_parse.proofs.reading.whole.Goals as goal
 
 -- what was read, with a tree in memory and none too long, is the file
-file_of : (r : Reading) (f : Contents) (b : Before) (xs : List External) → ShowsFile b xs → IsTreeOf (marks r.tokens) (onto xs []) → (list : _) → b.read.tree ≡ Some list → f.externals ≡ list.items
+file_of : (r : Reading) (f : FileContents) (b : FileSoFar) (xs : List External) → ShowsFile b xs → IsTreeOf (marks r.tokens) (onto xs []) → (list : _) → b.read.tree ≡ Some list → f.externals ≡ list.items
     → slice_get b.read.depths.places.items 200 ≡ None → b.too_long ≡ None → f.names ≡ r.names → f.literals ≡ r.literals → f.stdio ≡ r.stdio → f.stdlib ≡ r.stdlib → IsFileOf r f
 file_of r f b xs shows i list t e deep long n l io lib =
     let limits : IsWithinLimits r.tokens (onto xs []) = record { tree = i; shallow = deep_at b xs shows ∙ deep; short = sym shows.too_long ∙ long } in

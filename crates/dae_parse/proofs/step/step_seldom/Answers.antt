@@ -10,7 +10,7 @@ use Rattle.dae_parse.proofs.step.step_seldom.Goals as goal
 
 pub returns-in-Enumerated : goal.returns-in-Enumerated
 returns-in-Enumerated c = λ d s shows.
-    let i = does_enumerated c.in-Enumerated.body c.in-Enumerated.list c.in-Enumerated.name (λ (u : plain.Doing). (a : plain.Body) × (es : List lists.Entry) × (u ≡ plain.enumerated a es c.in-Enumerated.name) × ShowsBody c.in-Enumerated.body a × ShowsEnumerators c.in-Enumerated.list es) d (subst (λ (g : Doing). ShowsDoing g d) c.in-Enumerated.is shows) (λ a es x0 x1. (a, es, refl, x0, x1)) in
+    let i = does_enumerated c.in-Enumerated.body c.in-Enumerated.list c.in-Enumerated.name (λ (u : plain.Doing). (a : plain.TypeBody) × (es : List lists.EnumEntry) × (u ≡ plain.enumerated a es c.in-Enumerated.name) × ShowsBody c.in-Enumerated.body a × ShowsEnumerators c.in-Enumerated.list es) d (subst (λ (g : Doing). ShowsDoing g d) c.in-Enumerated.is shows) (λ a es x0 x1. (a, es, refl, x0, x1)) in
     rw i.2 (λ stands. c.read_enumerator_value.ensures i.0 i.1 i.3 i.4 s stands)
 
 pub returns-in-Finishing : goal.returns-in-Finishing

@@ -1,5 +1,5 @@
 use Rattle.std.proofs.Common.{◌≡◌, List, sym, ap, subst, ◌∙◌}
-use Rattle.dae_tree.specs.Marks.{Mark}
+use Rattle.dae_tree.specs.Marks.{TokenMark}
 use Rattle.dae_tree.specs.Names.{Names, has_typedef, with_declarator}
 use Rattle.dae_parse_grammar.specs.Machine.{item_given}
 use Rattle.dae_parse_states.specs.Kept.{Frame}
@@ -13,5 +13,5 @@ returns c = λ d ws is a b k s m.
     let stack = subst (λ (fs : List Frame). ShowsStack fs s) (sym bound.stack) m.0 in
     let names = bound.names d a.name ∙ ap (λ is. with_declarator is d old.scope.names) b.typedef in
     let same : item_given (is_allowed c.args.function_body) d ws is s c.bind.new.self.scope.names c.bind.new.self.rest ≡ item_given (is_allowed c.args.function_body) d ws is s (with_declarator (has_typedef ws) d old.scope.names) old.rest =
-    ap (λ (n : Names). item_given (is_allowed c.args.function_body) d ws is s n c.bind.new.self.rest) names ∙ ap (λ (ts : List Mark). item_given (is_allowed c.args.function_body) d ws is s (with_declarator (has_typedef ws) d old.scope.names) ts) bound.rest in
+    ap (λ (n : Names). item_given (is_allowed c.args.function_body) d ws is s n c.bind.new.self.rest) names ∙ ap (λ (ts : List TokenMark). item_given (is_allowed c.args.function_body) d ws is s (with_declarator (has_typedef ws) d old.scope.names) ts) bound.rest in
     rw (← same) (c.read_behind_declarator.ensures d ws is a b k s (stack, bound.outside ∙ m.1))

@@ -1,5 +1,5 @@
 use Rattle.std.proofs.Common.{◌≡◌, List, ◌∷◌, length, refl, sym, ap, subst, ◌∙◌, Bool}
-use Rattle.dae_tree.specs.Marks.{Mark}
+use Rattle.dae_tree.specs.Marks.{TokenMark}
 use Rattle.dae_tree.specs.Spelling.{spell_specifiers, spell_declarator}
 use Rattle.dae_tree.specs.Statements.{spell_statement}
 use Rattle.dae_parse_grammar.specs.Machine.{defined}
@@ -32,7 +32,7 @@ returns c = λ b ws d outside s shows is k l bottom e m.
     let popped = c.in-Some.ensures in
     let top = popped.stack ∙ ap (λ (f : DeclarationFrame). frame.Declaration f ∷ frames_of new) (c.in-Some-file_of.ensures.some before refl) in
     let stack = subst (λ (fs : List Frame). ShowsStack fs s) top m.0 in
-    let count = subst (λ (ts : List Mark). length (stack_taken s (spell_specifiers ws (spell_declarator d (spell_statement b ts)))) ≡ c.args.total) (sym popped.rest) e in
+    let count = subst (λ (ts : List TokenMark). length (stack_taken s (spell_specifiers ws (spell_declarator d (spell_statement b ts)))) ≡ c.args.total) (sym popped.rest) e in
     let w = is_defined b ws d outside s new.rest c.args.found before (frames_of new) new.scope.outside c.args.total shows (sym c.in-Block.is ∙ is) stack bottom count (ap (λ (t : Scopes Bool). t.outside) popped.scope ∙ m.1) in
-    let same = ap (λ (ts : List Mark). defined ws d outside b s ts) (sym popped.rest) ∙ w.same in
+    let same = ap (λ (ts : List TokenMark). defined ws d outside b s ts) (sym popped.rest) ∙ w.same in
     rw same (c.add_definition.ensures w.place w.declarations w.statements ws d outside w.externals w.body k l w.file w.count (w.stack, w.scopes))

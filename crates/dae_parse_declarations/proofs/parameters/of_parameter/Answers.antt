@@ -1,7 +1,7 @@
 use Rattle.std.proofs.Common.{◌≡◌, List, ◌∷◌, sym, subst, ◌∙◌, rules, arith}
 use Rattle.std.proofs.lemmas.Grind.{common_steps}
 use Rattle.std.specs.Prelude.{IfOk}
-use Rattle.dae_tree.specs.Marks.{Mark, part, close_paren}
+use Rattle.dae_tree.specs.Marks.{TokenMark, part, close_paren}
 use Rattle.dae_parse_grammar.specs.Frames.{of_parameter}
 use Rattle.dae_parse_grammar.specs.Machine.{declarator_given}
 use Rattle.dae_parse_states.specs.Kept.{Frame as Kept}
@@ -17,4 +17,4 @@ returns-in-Some c = λ d o ps ws s h opened list specified holds stands.
     let below = subst (λ (frames : List Kept). ShowsStack frames s) (sym c.in_ok-bind.ensures.stack) stands.0 in
     let closed = c.close_parameters.ensures o (record { specifiers = ws; declarator = d } ∷ ps) s opened parameters bound (below, c.in_ok-bind.ensures.outside ∙ stands.1) in
     let rest : c.args.machine.now.rest ≡ part close_paren ∷ c.take_sign-2.new.self = first_of (search rules, grind (arith, common_steps)) in
-    subst (λ (ts : List Mark). IfOk c.close_parameters.result (λ r. Follows r c.close_parameters.new.machine (declarator_given d (of_parameter o ps ws) s c.args.machine.now.scope.names ts))) (sym rest) closed
+    subst (λ (ts : List TokenMark). IfOk c.close_parameters.result (λ r. Follows r c.close_parameters.new.machine (declarator_given d (of_parameter o ps ws) s c.args.machine.now.scope.names ts))) (sym rest) closed

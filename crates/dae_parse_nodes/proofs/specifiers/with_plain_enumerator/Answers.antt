@@ -8,5 +8,5 @@ use Rattle.dae_parse_nodes.proofs.specifiers.with_plain_enumerator.Goals as goal
 
 pub returns : goal.returns
 returns c = λ es h.
-    let target : lists.Entry = record { name = c.args.name; value = None } in
+    let target : lists.EnumEntry = record { name = c.args.name; value = None } in
     shows_longer view_entry firsts_entry c.args.before c.flat.result es target c.longer.result h (shows_flat view_entry firsts_entry c.flat.result _ target c.flat.ensures.tree c.flat.ensures.places refl refl) c.longer.ensures

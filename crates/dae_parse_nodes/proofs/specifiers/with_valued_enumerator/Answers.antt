@@ -11,7 +11,7 @@ use Rattle.dae_parse_nodes.proofs.specifiers.with_valued_enumerator.Goals.{in-So
 
 pub returns : goal.returns
 returns c = λ es a h k.
-    let target : lists.Entry = record { name = c.args.name; value = Some (c.args.place, a) } in
+    let target : lists.EnumEntry = record { name = c.args.name; value = Some (c.args.place, a) } in
     shows_longer view_entry firsts_entry c.args.before (record { tree = c.match-tree.tree; depths = c.args.value.read.depths }) es target c.longer.result h
     (elim c.match-tree.branch [
       | in-Some w ↦ shows_made _ _ view_entry firsts_entry c.args.value.read c.match-tree.tree a target _ _ k.read refl w.in-Some.is w.tree-is (λ e. ap (valued_entry c.args.name c.args.place) (ap view w.into_inner.ensures ∙ e))

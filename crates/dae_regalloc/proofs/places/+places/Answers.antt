@@ -4,7 +4,7 @@ use Rattle.dae_ir.specs.declared.stream.Step.{Step, the_lemmas}
 use Rattle.dae_select_walks.specs.Live.{ways, turn}
 use Rattle.dae_regalloc.specs.Seen.{ArePlacesOf}
 use Rattle.dae_select_live.specs.Members.{member}
-use Rattle.dae_select_live.specs.Turns.{key_of, told_by, IsTold, TellsTurns}
+use Rattle.dae_select_live.specs.Turns.{key_of, turns_told, IsTurnTold, TellsTurns}
 use Rattle.dae_select_live.specs.declared.turns.Turns.{Turns}
 use Rattle.dae_select_live.proofs.Telling.{told_at, told_in_if, told_in_loop}
 use Rattle.dae_regalloc.proofs.PlaceCounts.{if_places, loop_places, room_for_step}
@@ -12,8 +12,8 @@ use Rattle.dae_regalloc.proofs.Placing.{acted, branched, looped, none_placed, on
 use Rattle.dae_regalloc.proofs.places.+places.Goals as goal
 
 -- what is told of the loops of steps is told of those of the same steps
-told_as : (turns : Turns) (xs ys : List Step) → xs ≡ ys → TellsTurns (told_by turns) (actions_of ys) → TellsTurns (told_by turns) (actions_of xs)
-told_as turns xs ys e h = subst (λ (l : List Step). TellsTurns (told_by turns) (actions_of l)) (sym e) h
+told_as : (turns : Turns) (xs ys : List Step) → xs ≡ ys → TellsTurns (turns_told turns) (actions_of ys) → TellsTurns (turns_told turns) (actions_of xs)
+told_as turns xs ys e h = subst (λ (l : List Step). TellsTurns (turns_told turns) (actions_of l)) (sym e) h
 
 -- ---- room for the places
 
@@ -24,7 +24,7 @@ pub see_step-see_steps-requires : goal.see_step-see_steps-requires
 see_step-see_steps-requires t c =
     let i = c.in-If in
     let room = rw i.is at c.requires.room in let e = if_places i.field-0 i.branch i.p i.q in
-    let told = told_in_if (told_by c.args.turns.now) c.args.step.now i.field-0 i.branch i.p i.q i.is c.requires.told in
+    let told = told_in_if (turns_told c.args.turns.now) c.args.step.now i.field-0 i.branch i.p i.q i.is c.requires.told in
     (search (rules, the_lemmas), (rw c.deref.ensures.value (omega (arith, room, e)), told_as c.args.turns.now _ _ c.deref.ensures.value told.1))
 
 pub see_step-see_steps-requires-in-If : goal.see_step-see_steps-requires-in-If
@@ -33,7 +33,7 @@ see_step-see_steps-requires-in-If t c =
     let room = rw i.is at c.requires.room in let e = if_places i.field-0 i.branch i.p i.q in
     let one = rw c.deref.ensures.value at c.in_ok-second-in-If.ensures in
     let more = one.count in
-    let told = told_in_if (told_by c.args.turns.now) c.args.step.now i.field-0 i.branch i.p i.q i.is c.requires.told in
+    let told = told_in_if (turns_told c.args.turns.now) c.args.step.now i.field-0 i.branch i.p i.q i.is c.requires.told in
     (search (rules, the_lemmas), (rw c.deref-in-If.ensures.value (omega (arith, room, e, more)), told_as c.args.turns.now _ _ c.deref-in-If.ensures.value told.0))
 
 pub see_step-see-requires : goal.see_step-see-requires
@@ -49,7 +49,7 @@ pub see_step-see_steps-requires-in-Loop : goal.see_step-see_steps-requires-in-Lo
 see_step-see_steps-requires-in-Loop t c =
     let i = c.in-Loop in
     let room = rw i.is at c.requires.room in let e = loop_places i.mark i.body i.step in
-    let told = told_in_loop (told_by c.args.turns.now) c.args.step.now i.mark i.body i.step i.is c.requires.told in
+    let told = told_in_loop (turns_told c.args.turns.now) c.args.step.now i.mark i.body i.step i.is c.requires.told in
     (search (rules, the_lemmas), (rw c.deref-in-Loop-3.ensures.value (omega (arith, room, e)), told_as c.args.turns.now _ _ c.deref-in-Loop-3.ensures.value told.1.1))
 
 pub see_step-see_steps-requires-in-Loop-2 : goal.see_step-see_steps-requires-in-Loop-2
@@ -58,7 +58,7 @@ see_step-see_steps-requires-in-Loop-2 t c =
     let room = rw i.is at c.requires.room in let e = loop_places i.mark i.body i.step in
     let one = rw c.deref-in-Loop-3.ensures.value at c.in_ok-again-in-Loop.ensures in
     let more = one.count in
-    let told = told_in_loop (told_by c.args.turns.now) c.args.step.now i.mark i.body i.step i.is c.requires.told in
+    let told = told_in_loop (turns_told c.args.turns.now) c.args.step.now i.mark i.body i.step i.is c.requires.told in
     (search (rules, the_lemmas), (rw c.deref-in-Loop-4.ensures.value (omega (arith, room, e, more)), told_as c.args.turns.now _ _ c.deref-in-Loop-4.ensures.value told.1.0))
 
 pub see_step-see-requires-in-Loop : goal.see_step-see-requires-in-Loop
@@ -78,7 +78,7 @@ see_steps-see_step-requires t c =
       search (rules, the_lemmas),
       (
         room_for_step c.args.steps.now c.loop-index.index c.index-steps-index.result c.args.spans.now.places c.loop-index.spans.places (omega arith) (omega arith) c.index-steps-index.is so_far.count c.requires.room,
-        told_at (told_by c.args.turns.now) c.args.steps.now (c.loop-index.index - 1) c.index-steps-index.result (omega arith) c.index-steps-index.is c.requires.told,
+        told_at (turns_told c.args.turns.now) c.args.steps.now (c.loop-index.index - 1) c.index-steps-index.result (omega arith) c.index-steps-index.is c.requires.told,
       ),
     )
 
@@ -86,10 +86,10 @@ see_steps-see_step-requires t c =
 
 pub see_step-live_at_turn-requires : goal.see_step-live_at_turn-requires
 see_step-live_at_turn-requires t c =
-    let i = c.in-Loop in let row = told_by c.args.turns.now (key_of i.mark) in
-    let told = told_in_loop (told_by c.args.turns.now) c.args.step.now i.mark i.body i.step i.is c.requires.told in
-    let body = subst (λ (l : List Step). IsTold (actions_of l) (actions_of i.step.items) row) (sym c.deref-in-Loop.ensures.value) told.0 in
-    subst (λ (l : List Step). IsTold (actions_of c.deref-in-Loop.result.now) (actions_of l) row) (sym c.deref-in-Loop-2.ensures.value) body
+    let i = c.in-Loop in let row = turns_told c.args.turns.now (key_of i.mark) in
+    let told = told_in_loop (turns_told c.args.turns.now) c.args.step.now i.mark i.body i.step i.is c.requires.told in
+    let body = subst (λ (l : List Step). IsTurnTold (actions_of l) (actions_of i.step.items) row) (sym c.deref-in-Loop.ensures.value) told.0 in
+    subst (λ (l : List Step). IsTurnTold (actions_of c.deref-in-Loop.result.now) (actions_of l) row) (sym c.deref-in-Loop-2.ensures.value) body
 
 -- ---- what is seen
 

@@ -6,7 +6,7 @@ use Rattle.dae_select_walks.specs.Facts.{unknown}
 use Rattle.dae_select_blocks.specs.Code.{entry_code}
 use Rattle.dae_select.specs.Grown.{Grown, from_front, StandWithin}
 use Rattle.dae_select.specs.declared.growing.PlacedWord.{PlacedWord}
-use Rattle.dae_select_walks.specs.declared.Standing.TheVariants.{Settled}
+use Rattle.dae_select_walks.specs.declared.VariableStanding.TheVariants.{Settled}
 use Rattle.dae_select.specs.Growing.{marked_code}
 use Rattle.dae_select_blocks.specs.Sizes.{is_short}
 use Rattle.dae_select_calls.specs.Layouts.{plan_of, variables_of}

@@ -8,12 +8,12 @@ use Rattle.dae_select_walks.specs.declared.Home.{Home}
 use Rattle.dae_select_walks.specs.Live.{ways, turn}
 use Rattle.dae_select_walks.specs.Facts.{Facts, facts_in_first, facts_in_second, facts_at_turn, facts_at_step}
 use Rattle.dae_select_live.specs.Members.{member}
-use Rattle.dae_select_live.specs.Turns.{key_of, told_by, IsTold, TellsTurns}
+use Rattle.dae_select_live.specs.Turns.{key_of, turns_told, IsTurnTold, TellsTurns}
 use Rattle.dae_select_live.specs.declared.turns.Turns.{Turns}
 use Rattle.dae_select_live.proofs.Telling.{told_at, told_behind, told_in_if, told_in_loop}
 use Rattle.dae_select_blocks.specs.Code.{branch_code, does_nothing, past_code}
 use Rattle.dae_select.specs.Grown.{Grown, no_code, glue, acting, in_front}
-use Rattle.dae_select_walks.specs.declared.Standing.TheVariants.{Settled}
+use Rattle.dae_select_walks.specs.declared.VariableStanding.TheVariants.{Settled}
 use Rattle.dae_select_facts.specs.Knowns.{facts_by}
 use Rattle.dae_select_facts.specs.Along.{facts_after, facts_at, IsBefore}
 use Rattle.dae_select_facts.proofs.LawsOfFacts.{facts_next}
@@ -24,35 +24,35 @@ use Rattle.dae_select.proofs.Stacked.{acted, branched, near_turn, looped, none_d
 use Rattle.dae_select.proofs.walking.+code.Goals as goal
 
 -- what is told of the loops of steps is told of those of the same steps
-told_as : (turns : Turns) (xs ys : List Step) → xs ≡ ys → TellsTurns (told_by turns) (actions_of ys) → TellsTurns (told_by turns) (actions_of xs)
-told_as turns xs ys e h = subst (λ (l : List Step). TellsTurns (told_by turns) (actions_of l)) (sym e) h
+told_as : (turns : Turns) (xs ys : List Step) → xs ≡ ys → TellsTurns (turns_told turns) (actions_of ys) → TellsTurns (turns_told turns) (actions_of xs)
+told_as turns xs ys e h = subst (λ (l : List Step). TellsTurns (turns_told turns) (actions_of l)) (sym e) h
 
 pub step_code-live_at_turn-requires : goal.step_code-live_at_turn-requires
 step_code-live_at_turn-requires t c =
-    let i = c.in-Loop in let row = told_by c.args.making.now.turns.now (key_of i.mark) in
-    let told = told_in_loop (told_by c.args.making.now.turns.now) c.args.step.now i.mark i.body i.step i.is c.requires.told in
-    let body = subst (λ (l : List Step). IsTold (actions_of l) (actions_of i.step.items) row) (sym c.deref-in-Loop.ensures.value) told.0 in
-    subst (λ (l : List Step). IsTold (actions_of c.deref-in-Loop.result.now) (actions_of l) row) (sym c.deref-in-Loop-2.ensures.value) body
+    let i = c.in-Loop in let row = turns_told c.args.making.now.turns.now (key_of i.mark) in
+    let told = told_in_loop (turns_told c.args.making.now.turns.now) c.args.step.now i.mark i.body i.step i.is c.requires.told in
+    let body = subst (λ (l : List Step). IsTurnTold (actions_of l) (actions_of i.step.items) row) (sym c.deref-in-Loop.ensures.value) told.0 in
+    subst (λ (l : List Step). IsTurnTold (actions_of c.deref-in-Loop.result.now) (actions_of l) row) (sym c.deref-in-Loop-2.ensures.value) body
 
 pub step_code-list_code-requires : goal.step_code-list_code-requires
 step_code-list_code-requires t c =
     let i = c.in-If in
     let below = list_below c.deref.result.now i.q.items c.args.step.now c.deref.ensures.value (second_in_if i.mark i.branch i.p i.q c.args.step.now i.is) in
-    let told = told_in_if (told_by c.args.making.now.turns.now) c.args.step.now i.mark i.branch i.p i.q i.is c.requires.told in
+    let told = told_in_if (turns_told c.args.making.now.turns.now) c.args.step.now i.mark i.branch i.p i.q i.is c.requires.told in
     (subst (λ (n : ℕ). 2 * deepest c.deref.result.now + 1 < n) c.decreases below, (c.requires.sound, told_as c.args.making.now.turns.now _ _ c.deref.ensures.value told.1))
 
 pub step_code-list_code-requires-in-If : goal.step_code-list_code-requires-in-If
 step_code-list_code-requires-in-If t c =
     let i = c.in-If in
     let below = list_below c.deref-in-If-3.result.now i.p.items c.args.step.now c.deref-in-If-3.ensures.value (first_in_if i.mark i.branch i.p i.q c.args.step.now i.is) in
-    let told = told_in_if (told_by c.args.making.now.turns.now) c.args.step.now i.mark i.branch i.p i.q i.is c.requires.told in
+    let told = told_in_if (turns_told c.args.making.now.turns.now) c.args.step.now i.mark i.branch i.p i.q i.is c.requires.told in
     (subst (λ (n : ℕ). 2 * deepest c.deref-in-If-3.result.now + 1 < n) c.decreases below, (c.requires.sound, told_as c.args.making.now.turns.now _ _ c.deref-in-If-3.ensures.value told.0))
 
 pub step_code-list_code-requires-in-Loop : goal.step_code-list_code-requires-in-Loop
 step_code-list_code-requires-in-Loop t c =
     let i = c.in-Loop in
     let below = list_below c.deref-in-Loop-7.result.now i.step.items c.args.step.now c.deref-in-Loop-7.ensures.value (second_in_loop i.mark i.body i.step c.args.step.now i.is) in
-    let told = told_in_loop (told_by c.args.making.now.turns.now) c.args.step.now i.mark i.body i.step i.is c.requires.told in
+    let told = told_in_loop (turns_told c.args.making.now.turns.now) c.args.step.now i.mark i.body i.step i.is c.requires.told in
     (subst (λ (n : ℕ). 2 * deepest c.deref-in-Loop-7.result.now + 1 < n) c.decreases below, (c.requires.sound, told_as c.args.making.now.turns.now _ _ c.deref-in-Loop-7.ensures.value told.1.1))
 
 pub step_code-list_code-requires-in-Loop-2 : goal.step_code-list_code-requires-in-Loop-2
@@ -61,8 +61,8 @@ step_code-list_code-requires-in-Loop-2 t c =
     let n = if is_some c.bottom_of-test.result then 1 else 0 in
     let left = c.behind_test-tail.ensures ∙ ap (λ (l : List Step). drop n l) c.deref-in-Loop-8.ensures.value in
     let below = rest_below c.behind_test-tail.result.now i.body.items n c.args.step.now left (first_in_loop i.mark i.body i.step c.args.step.now i.is) in
-    let told = told_in_loop (told_by c.args.making.now.turns.now) c.args.step.now i.mark i.body i.step i.is c.requires.told in
-    (subst (λ (n : ℕ). 2 * deepest c.behind_test-tail.result.now + 1 < n) c.decreases below, (c.requires.sound, told_as c.args.making.now.turns.now _ _ left (told_behind (told_by c.args.making.now.turns.now) i.body.items n told.1.0)))
+    let told = told_in_loop (turns_told c.args.making.now.turns.now) c.args.step.now i.mark i.body i.step i.is c.requires.told in
+    (subst (λ (n : ℕ). 2 * deepest c.behind_test-tail.result.now + 1 < n) c.decreases below, (c.requires.sound, told_as c.args.making.now.turns.now _ _ left (told_behind (turns_told c.args.making.now.turns.now) i.body.items n told.1.0)))
 
 pub step_code-put_loop-requires-clause-near : goal.step_code-put_loop-requires-clause-near
 step_code-put_loop-requires-clause-near t c =
@@ -152,7 +152,7 @@ list_code-step_code-requires t c =
     let k = actions_of (drop j a.steps.now) in
     let stood = c.loop-index.invariant.1 ∙ ap (λ (o : Option Step). standing_before o k x) (before_is a.steps.now j s (omega arith) (omega arith) c.index-steps-index.is) in
     let below = step_below a.steps.now (j - 1) s (omega arith) c.index-steps-index.is in
-    let told = told_at (told_by a.making.now.turns.now) a.steps.now (j - 1) s (omega arith) c.index-steps-index.is c.requires.told in
+    let told = told_at (turns_told a.making.now.turns.now) a.steps.now (j - 1) s (omega arith) c.index-steps-index.is c.requires.told in
     (subst (λ (n : ℕ). 2 * the_size s + 0 < n) c.decreases below, (c.requires.sound, (taken_behind s k x c.loop-index.after stood, told)))
 
 pub list_code-loop-index-init : goal.list_code-loop-index-init

@@ -5,14 +5,14 @@ use Rattle.dae_ir.specs.Streams.{actions_of}
 use Rattle.dae_ir.specs.declared.stream.Step.{Step}
 use Rattle.dae_select_walks.specs.Live.{ways, live, turn, none, with_all}
 use Rattle.dae_select_live.specs.Members.{member}
-use Rattle.dae_select_live.specs.Turns.{told_by, TellsTurns, IsTurn, leaves_at_once}
+use Rattle.dae_select_live.specs.Turns.{turns_told, TellsTurns, IsTurn, leaves_at_once}
 use Rattle.dae_select_live.proofs.Laws.{LiveFrom, live_acted, live_branched, live_looped, live_one_more}
 use Rattle.dae_select_live.proofs.Telling.{turn_found, turn_told, all_same, all_later, tells_on, tells_acted, tells_branched, tells_looped, tells_none, tells_one_more, live_none}
 use Rattle.dae_select_live.proofs.turns.+tell.Goals as goal
 
 pub tell_in_step-returns-in_ok-set-in-Act : goal.tell_in_step-returns-in_ok-set-in-Act
 tell_in_step-returns-in_ok-set-in-Act t c =
-    let s = c.args.step.now in let a = c.in-Act in let told = told_by c.args.turns.now in
+    let s = c.args.step.now in let a = c.in-Act in let told = turns_told c.args.turns.now in
     let leaves = member c.args.leaves.now in let skips = member c.args.skips.now in
     record {
       live = λ k n e. live_acted s a.field-0 a.action k (ways n leaves skips) (member c.args.next) (member c.in_ok-set-in-Act.set) a.is e (c.in_ok-set-in-Act.ensures n);
@@ -24,7 +24,7 @@ pub tell_in_step-returns-in_ok-set-in-If : goal.tell_in_step-returns-in_ok-set-i
 tell_in_step-returns-in_ok-set-in-If t c =
     let s = c.args.step.now in let i = c.in-If in
     let leaves = member c.args.leaves.now in let skips = member c.args.skips.now in
-    let old = told_by c.args.turns.now in let mid = told_by c.tell_in_list.new.turns in let new = told_by c.tell_in_list-in-If.new.turns in
+    let old = turns_told c.args.turns.now in let mid = turns_told c.tell_in_list.new.turns in let new = turns_told c.tell_in_list-in-If.new.turns in
     let first = c.in_ok-first-in-If in let second = c.in_ok-second-in-If in
     let one = first.ensures.live ∙ ap (λ (l : List Step). live (actions_of l) (ways (member c.in_ok-copy-in-If.field-0) leaves skips)) c.deref.ensures.value
     ∙ ap (λ (vs : List ℕ). live (actions_of i.p.items) (ways (member vs) leaves skips)) c.in_ok-copy-in-If.ensures in
@@ -42,7 +42,7 @@ tell_in_step-returns-in_ok-set-in-Loop t c =
     let s = c.args.step.now in let i = c.in-Loop in
     let leaves = member c.args.leaves.now in let skips = member c.args.skips.now in let next = member c.args.next in
     let B = actions_of i.body.items in let S = actions_of i.step.items in
-    let old = told_by c.args.turns.now in let mid = told_by c.tell_in_list-in-Loop.new.turns in let last = told_by c.tell_in_list-in-Loop-2.new.turns in let new = told_by c.tell_turn.new.turns in
+    let old = turns_told c.args.turns.now in let mid = turns_told c.tell_in_list-in-Loop.new.turns in let last = turns_told c.tell_in_list-in-Loop-2.new.turns in let new = turns_told c.tell_turn.new.turns in
     let again = c.in_ok-again-in-Loop in let begins = c.in_ok-round-in-Loop in let telling = c.in_ok-tell_turn-in-Loop in
     let behind = member c.in_ok-behind-in-Loop.behind in let back = member again.again in let set = member begins.round in
     let behind_is : behind ≡ (if leaves_at_once B then none else next) =
@@ -73,7 +73,7 @@ tell_in_step-returns-in_ok-set-in-Loop t c =
 
 pub tell_in_list-loop-index-init : goal.tell_in_list-loop-index-init
 tell_in_list-loop-index-init t c =
-    let steps = c.args.steps.now in let told = told_by c.args.turns.now in
+    let steps = c.args.steps.now in let told = turns_told c.args.turns.now in
     record {
       live = live_none steps (ways (member c.args.next) (member c.args.leaves.now) (member c.args.skips.now));
       told = tells_none told steps;
@@ -85,7 +85,7 @@ tell_in_list-loop-index-preserved t c =
     let steps = c.args.steps.now in let j = c.loop-index.index in let s = c.index-steps-index.result in
     let some = c.loop-index-test.true in
     let le = c.loop-index.auto.index in
-    let old = told_by c.args.turns.now in let mid = told_by c.loop-index.turns in let new = told_by c.tell_in_step.new.turns in
+    let old = turns_told c.args.turns.now in let mid = turns_told c.loop-index.turns in let new = turns_told c.tell_in_step.new.turns in
     let inv = c.loop-index.invariant in let one = c.in_ok-set in
     record {
       live = live_one_more steps j s (ways (member c.args.next) (member c.args.leaves.now) (member c.args.skips.now)) (member c.loop-index.set) (member one.set)
@@ -100,6 +100,6 @@ tell_in_list-returns t c =
     let first : l.index ≡ 0 = (let end = c.loop-index-test.false in omega arith) in
     record {
       live = sym (subst (λ (j : ℕ). LiveFrom steps j (ways (member c.args.next) (member c.args.leaves.now) (member c.args.skips.now)) (member l.set)) first l.invariant.live);
-      told = subst (λ (j : ℕ). TellsTurns (told_by l.turns) (actions_of (drop j steps))) first l.invariant.told;
+      told = subst (λ (j : ℕ). TellsTurns (turns_told l.turns) (actions_of (drop j steps))) first l.invariant.told;
       later = l.invariant.later;
     }

@@ -1,6 +1,6 @@
 use Rattle.std.proofs.Common.{◌≡◌, ◌∙◌, ◌+◌, ◌-◌, ◌≤◌, ◌++◌, ◌∷◌, [], Some, true, false, length, sym, ap, refl, subst, rules, arith}
-use Rattle.dae_unit.specs.declared.couples.Task.TheVariants.{Compare, Note}
-use Rattle.dae_unit.specs.declared.couples.Verdict.TheVariants.{Other}
+use Rattle.dae_unit.specs.declared.couples.CoupleTask.TheVariants.{Compare, Note}
+use Rattle.dae_unit.specs.declared.couples.CoupleVerdict.TheVariants.{Other}
 use Rattle.dae_unit.specs.Couples.{AreEnclosed, all_hold, goals_at}
 use Rattle.dae_unit.proofs.Comparing.{known_holds, never_holds, parts_differ, parts_decide, parts_needed, steps_less}
 use Rattle.dae_unit.proofs.Enclosing.{enclosed_before, enclosed_further}

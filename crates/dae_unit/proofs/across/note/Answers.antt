@@ -1,5 +1,5 @@
 use Rattle.std.proofs.Common.{◌≡◌, ◌+◌, true, sym, subst, rules}
-use Rattle.dae_unit.specs.declared.couples.Verdict.TheVariants.{Same}
+use Rattle.dae_unit.specs.declared.couples.CoupleVerdict.TheVariants.{Same}
 use Rattle.dae_unit.specs.Couples.{all_agree}
 use Rattle.dae_unit.proofs.Comparing.{known_agree, known_moved, noted, parts_noted}
 use Rattle.dae_unit.proofs.across.note.Goals as goal

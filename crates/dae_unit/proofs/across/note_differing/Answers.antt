@@ -1,8 +1,8 @@
 use Rattle.std.proofs.Common.{◌≡◌, ◌∙◌, Some, slice_get, ap}
 use Rattle.std.proofs.lemmas.Option.{slice_get-get_or}
 use Rattle.dae_base.proofs.Laws.{all_at}
-use Rattle.dae_unit.specs.declared.couples.Task.TheVariants.{Note}
-use Rattle.dae_unit.specs.declared.couples.Verdict.TheVariants.{Other}
+use Rattle.dae_unit.specs.declared.couples.CoupleTask.TheVariants.{Note}
+use Rattle.dae_unit.specs.declared.couples.CoupleVerdict.TheVariants.{Other}
 use Rattle.dae_unit.specs.Couples.{IsNotedOther}
 use Rattle.dae_unit.proofs.Comparing.{known_moved, noted}
 use Rattle.dae_unit.proofs.across.note_differing.Goals as goal

@@ -1,5 +1,5 @@
 use Rattle.std.proofs.Common.{◌≡◌, ◌+◌, ◌++◌, ◌∷◌, [], length, sym, ap, subst, ◌∙◌}
-use Rattle.dae_unit.specs.declared.couples.Task.TheVariants.{Compare, Note}
+use Rattle.dae_unit.specs.declared.couples.CoupleTask.TheVariants.{Compare, Note}
 use Rattle.std.specs.List.{AllByRecursion}
 use Rattle.dae_unit.specs.Across.{same_across}
 use Rattle.dae_unit.specs.Couples.{AreEnclosed, IsFound, IsNotedOther, goes_on}

@@ -16,7 +16,7 @@ use Rattle.dae_lower_expressions.proofs.Otherwise.{otherwise_plain, otherwise_te
 use Rattle.dae_program.proofs.LawsOfTrees.{by_call, view_at, view_end}
 use Rattle.dae_lower_expressions.specs.Assignments.{assignments}
 use Rattle.dae_lower_expressions.specs.Lowered.{Lowers, state_of, links_in, used}
-use Rattle.dae_lower_expressions.specs.declared.leaves.Part.TheVariants.{Value, Effect}
+use Rattle.dae_lower_expressions.specs.declared.leaves.BranchPurpose.TheVariants.{Value, Effect}
 use Rattle.dae_lower_maker.specs.Making.{called_with, spot_of, so_far}
 use Rattle.dae_lower_maker.proofs.Laws.{item_given, nothing_written, written_on}
 use Rattle.dae_program.specs.Resolved.{address_in, callee_in}

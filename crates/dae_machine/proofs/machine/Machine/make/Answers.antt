@@ -1,6 +1,6 @@
 use Rattle.std.proofs.Common.{rules, sym, subst}
 use Rattle.dae_core.specs.Held.{HeldQueues}
-use Rattle.dae_machine.specs.Held.{Counted}
+use Rattle.dae_machine.specs.Held.{AreCounted}
 use Rattle.dae_machine.proofs.Opening.{none_counted}
 use Rattle.dae_machine.proofs.machine.Machine.make.Goals as goal
 
@@ -9,7 +9,7 @@ invariant_of-result c = record {
   on_a = search rules;
   on_e = search rules;
   same = search rules;
-  counted = subst (λ (q : HeldQueues). Counted q.queues 0) (sym (c.in_ok-with_depths.ensures)) none_counted;
+  counted = subst (λ (q : HeldQueues). AreCounted q.queues 0) (sym (c.in_ok-with_depths.ensures)) none_counted;
   small = c.in_ok-common_memory.ensures.small;
   ends = search rules;
 }
