@@ -24,7 +24,7 @@ use Rattle.dae_commons.specs.Forms.{AreCommonedFunctions, FormsAreCommoned, Keep
 use Rattle.dae_hoist.specs.Forms.{AreHoistedFunctions, IsHoistOf, KeepsWithRows, FormsAreHoisted}
 use Rattle.dae_elide.specs.Forms.{AreElidedFunctions, IsElisionOf, ChecksAreElided}
 use Rattle.dae_threads.specs.Forms.{AreThreadedFunctions, IsThreadingOf, HasNoMoreItems, FormsAreThreaded}
-use Rattle.dae_threads.proofs.Items.{no_more, items_then}
+use Rattle.dae_threads.proofs.Laws.{no_more, items_then}
 use Rattle.dae_webs.specs.Forms.{AreRenamedFunctions, FormsAreRenamed, IsRenamingOf, HaveSameResult}
 use Rattle.dae_compile_promise.specs.Promises.{KeepsLowered, IsLaterForm}
 use Rattle.dae_compile.specs.Passes.{HasSumsAtAccesses, IsCommonedAgain, IsWithoutCommons}

@@ -1,4 +1,4 @@
-pub mod Items
+mod Items
 mod Meaning
 mod Scoping
 mod Ordering
@@ -7,3 +7,4 @@ mod Programs
 mod Tried
 mod Walked
 mod Wholes
+pub mod Laws
