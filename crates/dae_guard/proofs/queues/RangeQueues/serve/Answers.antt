@@ -1,4 +1,4 @@
-use Rattle.std.proofs.Common.{◌≡◌, Bool, true, subst}
+use Rattle.std.proofs.Common.{Bool, true, subst}
 use Rattle.dae_guard.specs.Sets.{Waiting}
 use Rattle.dae_guard.specs.Moves.{or_else}
 use Rattle.dae_guard.specs.Waiting.{drain_next, fill_al, fill_ld}

@@ -1,4 +1,4 @@
-use Rattle.std.proofs.Common.{◌≡◌, sym, subst}
+use Rattle.std.proofs.Common.{sym, subst}
 use Rattle.dae_guard.specs.Kept.{AreKept, AreProper, IsKept, IsProper}
 use Rattle.dae_guard.proofs.QueueLaws.{all_rest}
 use Rattle.dae_guard.proofs.queues.RangeQueues.take.Goals as goal

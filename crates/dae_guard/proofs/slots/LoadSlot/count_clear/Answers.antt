@@ -1,4 +1,4 @@
-use Rattle.std.proofs.Common.{◌≡◌, ◌∙◌, sym, arith}
+use Rattle.std.proofs.Common.{◌∙◌, sym, arith}
 use Rattle.dae_guard.proofs.SlotLaws.{kept_upto, told_meets}
 use Rattle.dae_guard.proofs.slots.LoadSlot.count_clear.Goals as goal
 
