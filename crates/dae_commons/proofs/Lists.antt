@@ -24,7 +24,7 @@ take_all R (suc n) [] all = tt
 take_all R (suc n) (e ∷ q) all = (all.0, take_all R n q all.1)
 
 pub with_all : (R : Equation → Type 0) (v : ℕ) (x : Value) (q : List Equation) → (value_involves v x ≡ false → R (equation v x)) → AllByRecursion R (without_variable v q) → AllByRecursion R (with_equation v x q)
-with_all R v x q new all = take_all R 16 (equation_of v x ++ without_variable v q) (by (value_involves v x) refl) where
+with_all R v x q new all = take_all R 32 (equation_of v x ++ without_variable v q) (by (value_involves v x) refl) where
   by : (b : Bool) → value_involves v x ≡ b → AllByRecursion R ((if b then [] else equation v x ∷ []) ++ without_variable v q)
   by true is = all
   by false is = (new is, all)

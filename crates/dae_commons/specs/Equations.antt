@@ -49,9 +49,9 @@ equation v x = record { variable = v; value = x }
 abbrev pub equation_of : ℕ → Value → List Equation
 equation_of v x = if value_involves v x then [] else equation v x ∷ []
 
--- the latest 16
+-- the latest 32
 abbrev pub with_equation : ℕ → Value → List Equation → List Equation
-with_equation v x q = take 16 (equation_of v x ++ without_variable v q)
+with_equation v x q = take 32 (equation_of v x ++ without_variable v q)
 
 -- ---- what is known at a place: equations, or all that may be said, where the code doesn't go on
 

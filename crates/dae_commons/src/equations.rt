@@ -58,12 +58,12 @@ fn push_equation(
     equation: Option<Equation>,
 ) -> Result<(), AllocError>
     ensures { OnOk result
-        (equations.new.items ≡ take 16 (option_to_list equation ++ equations.old.items)) }
+        (equations.new.items ≡ take 32 (option_to_list equation ++ equations.old.items)) }
 {
     if let Some(equation) = equation {
         equations.insert(0, equation)?;
     }
-    equations.truncate(16);
+    equations.truncate(32);
     Ok(())
 }
 
