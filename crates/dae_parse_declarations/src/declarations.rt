@@ -23,7 +23,7 @@ use dae_parse_states::{
     DeclarationFrame, DeclaratorFrame, Doing, FileSoFar, FunctionBody, InitialiserFrame, Inside,
     Manner, Parser, Presence, SpecifiersFrame, StatementFrame,
 };
-use dae_tree::{InitDeclarator, Declaration, Initialiser, Seen, Sign};
+use dae_tree::{Declaration, InitDeclarator, Initialiser, Seen, Sign};
 use std::alloc::AllocError;
 
 /// Behind the specifiers of a declaration, at file scope or inside (C90 6.5). At file scope it may be a definition.

@@ -14,7 +14,9 @@ ghost use Rattle.dae_parse_nodes.specs.Parts.{ShowsOperand, ShowsSpecified, Show
 use crate::values::{Declared, ReadOperand, Specified};
 use dae_base::Place;
 use dae_parse_parts::{Read, TreeDepths, beside, longer, over};
-use dae_tree::{Block, InitDeclarator, Declaration, External, Initialiser, Statement, TrailingComma};
+use dae_tree::{
+    Block, Declaration, External, InitDeclarator, Initialiser, Statement, TrailingComma,
+};
 use std::alloc::{AllocError, Global};
 
 /// An expression as an initialiser.

@@ -8,7 +8,7 @@ ghost use Rattle.dae_parse_nodes.specs.Parts.{is_some_list, ShowsArguments, Show
 
 use dae_parse_parts::{Read, flat};
 use dae_tree::{
-    InitDeclarator, Declaration, Declarator, Enumerator, Expression, External, Initialiser, Member,
+    Declaration, Declarator, Enumerator, Expression, External, InitDeclarator, Initialiser, Member,
     Statement,
 };
 use std::alloc::Global;

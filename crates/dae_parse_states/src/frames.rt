@@ -4,8 +4,8 @@ use dae_base::Place;
 use dae_parse_nodes::{Declared, DoParts, Loop, ParameterList, ReadOperand, Specified, TypeBody};
 use dae_parse_parts::Read;
 use dae_tree::{
-    AssignmentOperator, BinaryOperator, InitDeclarator, Declaration, Declarator, Enumerator, Expression,
-    External, Initialiser, Member, Name, PrefixOperator, Seen, Statement,
+    AssignmentOperator, BinaryOperator, Declaration, Declarator, Enumerator, Expression, External,
+    InitDeclarator, Initialiser, Member, Name, PrefixOperator, Seen, Statement,
 };
 
 /// Whether a declarator has a name, has none, or may have one.

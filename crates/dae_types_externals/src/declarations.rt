@@ -12,7 +12,7 @@ ghost use Rattle.dae_types_products.specs.Products.{GivesProducts, as_products};
 ghost use Rattle.dae_types_externals.specs.Parts.{plan_file_base, plan_object_data, plan_type_of};
 
 use dae_base::Place;
-use dae_tree::{InitDeclarator, Declaration, Declarator, Initialiser, Keyword, Seen, Specifier};
+use dae_tree::{Declaration, Declarator, InitDeclarator, Initialiser, Keyword, Seen, Specifier};
 use dae_types_file_plans::Role;
 use dae_types_kinds::{CheckError, Context};
 use dae_types_linkage::{

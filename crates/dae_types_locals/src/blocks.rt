@@ -14,7 +14,7 @@ ghost use Rattle.dae_types_locals.specs.Plans.{plan_declared};
 use crate::locals::begin;
 use dae_base::Place;
 use dae_program::Statement;
-use dae_tree::{InitDeclarator, Declaration, Keyword, Seen, Specifier};
+use dae_tree::{Declaration, InitDeclarator, Keyword, Seen, Specifier};
 use dae_types_bodies::append;
 use dae_types_kinds::{CheckError, Context};
 use dae_types_linkage::{Introduction, declare_local, declare_type};
