@@ -6,8 +6,7 @@ ghost use Rattle.dae_types_kinds.specs.Types.{finished, layout, placed, rounded}
 ghost use Rattle.dae_types_typed.specs.Sound.{has_complete_type, laid_out, members_of, tables_of};
 ghost use Rattle.dae_types_sound.specs.Shapes.{are_laid_out, are_sound_shapes, is_laid_out, is_sound_shape, same_layout, by_members};
 
-use crate::tables::layout;
-use dae_types_kinds::{Layout, Shape};
+use dae_types_kinds::{Layout, Shape, layout};
 use dae_types_typed::FileParts;
 
 fn is_sound_shape(parts: &FileParts, number: usize, shape: Shape) -> bool

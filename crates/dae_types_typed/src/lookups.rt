@@ -6,13 +6,7 @@ ghost use Rattle.dae_types_typed.specs.Linkage.{is_function, is_object, type_in}
 ghost use Rattle.dae_types_typed.specs.Sound.{same_entity, tables_of};
 
 use crate::files::FileParts;
-use dae_types_kinds::{Entity, INT_ID, Layout, Shape, VOID_ID};
-
-fn layout(size: u32, align: u32) -> Layout
-    ensures { result ≡ layout size align }
-{
-    Layout { size, align }
-}
+use dae_types_kinds::{Entity, INT_ID, Layout, Shape, VOID_ID, layout};
 
 fn repeated(count: Option<u32>, element: Layout) -> Layout
     ensures { result ≡ repeated count element }

@@ -7,7 +7,7 @@ ghost use Rattle.dae_unit.specs.declared.rows.FileRow.{FileRow};
 ghost use Rattle.dae_unit.specs.Placing.{gives_room, is_first, placed_rows, layout_of_row, object_layouts, literal_layout, literal_layouts, all_literals, rooms_of, rounded_up, place_behind, places_from, end_from, first_place};
 
 use dae_base::Items;
-use dae_types_kinds::Layout;
+use dae_types_kinds::{Layout, layout};
 use dae_types_typed::{TypedFile, is_object};
 use dae_unit::{FileRow, Identity, add_identity, refers};
 use indexmap::IndexSet;
@@ -78,12 +78,6 @@ pub fn placed_rows(
         place_row(files, &mut seen, &mut placed, *row)?;
     }
     Ok(placed)
-}
-
-fn layout(size: u32, align: u32) -> Layout
-    ensures { result ≡ record { size = size; align = align } }
-{
-    Layout { size, align }
 }
 
 #[tactic(auto, unfolding(dae_unit::specs::Placing::layout_of_row))]
