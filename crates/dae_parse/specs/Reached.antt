@@ -8,7 +8,6 @@ use Rattle.dae_parse_grammar.specs.Frames as plain
 use Rattle.dae_parse_grammar.specs.Machine.{begun, onto}
 use Rattle.dae_parse_grammar.specs.Measure.{measure}
 use Rattle.dae_parse_grammar.specs.Runs.{run}
-use Rattle.dae_parse_states.specs.declared.frames.FileSoFar.{FileSoFar}
 use Rattle.dae_parse_states.specs.declared.frames.Doing.{Doing}
 use Rattle.dae_parse_states.specs.declared.machine.Parser.{Parser}
 use Rattle.dae_parse_states.specs.Frames.{ShowsDoing, ShowsFile}
@@ -16,15 +15,6 @@ use Rattle.dae_parse_states.specs.States.{Stands, outside_stack, outside_doing}
 use Rattle.dae_parse.specs.Parsed.{IsStuckAt}
 use Rattle.dae_parse.specs.declared.run.ParseOutcome.{ParseOutcome}
 use Rattle.dae_parse.specs.declared.run.ParseOutcome.TheVariants as outcome
-
--- a file is whole at the end of the tokens, between two externals
-abbrev pub IsWhole : FileSoFar → plain.Doing → List TokenMark → Type 0
-IsWhole b (plain.externals xs) [] = ShowsFile b xs
-IsWhole b _ _ = ⊥
-
-abbrev pub IsNotWhole : plain.Doing → List TokenMark → Type 0
-IsNotWhole (plain.externals xs) [] = ⊥
-IsNotWhole _ _ = Unit {0}
 
 -- The machine shows a state that the grammar's machine comes to in so many turns, which have spent what the tokens allow.
 pub record Reached (tokens : List TokenMark) (turns : ℕ) (doing : Doing) (m : Parser) : Type 0 where

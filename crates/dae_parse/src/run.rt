@@ -36,7 +36,8 @@ fn left_where_stuck(doing: &Doing, left: usize) -> usize
     }
 }
 
-/// Reads the tree of tokens. The machine stops within twelve turns a token and nine.
+/// Reads the tree of tokens: the file is whole where they end between two externals. The machine stops within twelve turns a token
+/// and nine.
 pub fn run(alloc: Global, tokens: &[Token]) -> Result<ParseOutcome, AllocError>
     ensures { IfOk result (λ o. Comes tokens.now o) }
 {

@@ -4,8 +4,7 @@ use Rattle.dae_parse_grammar.specs.Machine.{step_at}
 use Rattle.dae_parse_states.specs.declared.frames.Doing.{Doing}
 use Rattle.dae_parse_states.specs.Frames.{ShowsDoing}
 use Rattle.dae_parse_states.specs.States.{Follows}
-use Rattle.dae_parse.specs.Reached.{IsNotWhole}
-use Rattle.dae_parse.proofs.Reaching.{start, holds_there, bottom_there, count_there, next_reached, no_more, whole_there, not_whole, whole_reached, none_reached}
+use Rattle.dae_parse.proofs.Reaching.{IsNotWhole, start, holds_there, bottom_there, count_there, next_reached, no_more, whole_there, not_whole, whole_reached, none_reached}
 use Rattle.dae_parse.proofs.Stuck.{stuck_at}
 use Rattle.dae_parse.proofs.run.run.Goals.{then-len-eq0+in_default, else-len-eq0}
 use Rattle.dae_parse.proofs.run.run.Goals as goal
