@@ -31,7 +31,7 @@ pub struct Layout {
 }
 
 /// The layout of so many bytes with this alignment.
-pub fn layout(size: u32, align: u32) -> Layout
+pub fn layout_with(size: u32, align: u32) -> Layout
     ensures { result ≡ layout size align }
 {
     Layout { size, align }
