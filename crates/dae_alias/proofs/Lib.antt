@@ -14,5 +14,6 @@ pub mod Onto
 pub mod Turns
 pub mod Marks
 pub mod Numbered
+pub mod NoLoads
 pub mod Unrepeated
 pub mod Whole

@@ -10,10 +10,11 @@ use Rattle.dae_ir.specs.declared.form.Function.{Function}
 use Rattle.dae_ir.specs.declared.form.Item.TheVariants.{Assign, Load, Store, Print, Expect, Break, Continue, Call, Return, Halt}
 use Rattle.dae_alias.specs.declared.held.Held.{Held}
 use Rattle.dae_alias.specs.Stretches.{KnownInStretch, nothing, symbol, after}
-use Rattle.dae_alias.specs.Reuse.{Holders, held_in, still_held, loads_in, known_behind, held_behind, turned, reused}
+use Rattle.dae_alias.specs.Reuse.{Holders, held_in, still_held, loads_in, has_no_load, known_behind, held_behind, turned, reused, is_repeated}
 use Rattle.dae_alias.specs.Laws.{sum_from, one, own_variables}
 use Rattle.dae_alias.specs.Marking.{marked, AreRepeated}
 use Rattle.dae_alias.specs.Forms.{IsReusedFunction}
+use Rattle.dae_alias.proofs.NoLoads.{none_repeated}
 
 -- no load has a variable of its own
 abbrev nobody : Holders
@@ -57,16 +58,23 @@ none_marked (true ∷ marks) none i = absurd (cc)
 none_marked (false ∷ marks) none zero = refl
 none_marked (false ∷ marks) none (suc i) = none_marked marks none i
 
-pub unrepeated_function : (f : Function) (marks : List Bool) → AreRepeated f.body marks → list_any (λ (mark : Bool). mark) marks ≡ false → IsReusedFunction f f
-unrepeated_function f marks a none = record {
-  holders = nobody;
-  name = refl;
-  parameters = refl;
-  frame = refl;
-  body = sym (stays (form_of f.body) nothing [] 0);
-  variables = (let own : own_variables nobody (form_of f.body) ≡ 0 = none_own 0 (loads_in (form_of f.body)) in omega (arith, own));
-  inside = λ i u is. (let no : None ≡ Some u = is in absurd cc);
-  apart = λ i j u is also. (let no : None ≡ Some u = is in absurd cc);
-  repeated = λ i is. (let unmarked = none_marked marks none i in let told = a.told i in absurd cc);
-  only = λ i u is. (let no : None ≡ Some u = is in absurd cc);
-}
+module _ (f : Function) where
+  stays_whole : ((i : ℕ) → is_repeated i nothing [] 0 (form_of f.body) ≡ false) → IsReusedFunction f f
+  stays_whole none = record {
+    holders = nobody;
+    name = refl;
+    parameters = refl;
+    frame = refl;
+    body = sym (stays (form_of f.body) nothing [] 0);
+    variables = (let own : own_variables nobody (form_of f.body) ≡ 0 = none_own 0 (loads_in (form_of f.body)) in omega (arith, own));
+    inside = λ i u is. (let no : None ≡ Some u = is in absurd cc);
+    apart = λ i j u is also. (let no : None ≡ Some u = is in absurd cc);
+    repeated = λ i is. (let unrepeated = none i in absurd cc);
+    only = λ i u is. (let no : None ≡ Some u = is in absurd cc);
+  }
+
+  pub unrepeated_function : (marks : List Bool) → AreRepeated f.body marks → list_any (λ (mark : Bool). mark) marks ≡ false → IsReusedFunction f f
+  unrepeated_function marks a none = stays_whole (λ i. sym (a.told i) ∙ none_marked marks none i)
+
+  pub unloaded_function : has_no_load (form_of f.body) ≡ true → IsReusedFunction f f
+  unloaded_function h = stays_whole (λ i. none_repeated i (form_of f.body) nothing [] 0 h)

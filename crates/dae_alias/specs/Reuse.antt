@@ -1,11 +1,11 @@
 -- The form in which loads are reused. A load that later ones of its stretch repeat goes into a variable of its own, which is
 -- copied to where the load went and to where the later ones would go.
-use Rattle.std.specs.Prelude.{ℕ, suc, ◌+◌, Bool, true, false, ◌&&◌, ◌||◌, nat_eq, if◌then◌else◌, List, [], ◌∷◌, Option, Some, None}
+use Rattle.std.specs.Prelude.{ℕ, suc, ◌+◌, Bool, true, false, not, ◌&&◌, ◌||◌, nat_eq, if◌then◌else◌, List, [], ◌∷◌, Option, Some, None}
 use Rattle.dae_base.specs.Words.{width_of}
 use Rattle.dae_base.specs.declared.LoadKind.{LoadKind}
 use Rattle.dae_base.specs.declared.Place.{Place}
 use Rattle.dae_base.specs.declared.Width.{Width}
-use Rattle.dae_ir.specs.Code.{Done, Do, If, Loop}
+use Rattle.dae_ir.specs.Code.{Done, Do, If, Loop, every}
 use Rattle.dae_ir.specs.Form.{Form}
 use Rattle.dae_ir.specs.Sizes.{tally}
 use Rattle.dae_ir.specs.declared.form.Operand.{Operand}
@@ -44,6 +44,9 @@ bit b = if b then 1 else 0
 
 abbrev pub loads_in : Form → ℕ
 loads_in code = tally (λ item. bit (is_load item)) (λ t. 0) code
+
+abbrev pub has_no_load : Form → Bool
+has_no_load code = every (λ item. not (is_load item)) (λ t. true) code
 
 abbrev pub copy : ℕ → ℕ → Item
 copy v u = Assign v (val.Same (operand.Variable u))

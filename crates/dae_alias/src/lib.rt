@@ -15,6 +15,7 @@ pub use theorems::{
 mod addresses;
 mod errors;
 mod held;
+mod loads;
 mod marking;
 mod relations;
 mod reusing;

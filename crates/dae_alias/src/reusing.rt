@@ -6,6 +6,7 @@ ghost use Rattle.dae_alias.specs.Forms.{AreReused, IsReusedFunction, IsReuseOf, 
 ghost use Rattle.dae_alias.specs.declared.errors.ReuseError.TheVariants as errors;
 
 use crate::errors::ReuseError;
+use crate::loads::has_no_load;
 use crate::marking::mark_repeated;
 use crate::tables::number_marked;
 use crate::turning::turn_statements;
@@ -25,6 +26,9 @@ fn reuse_in_function(alloc: Global, function: Function) -> Result<Function, Reus
     ensures reused { IfOk result (IsReusedFunction function) }
     ensures many { IfErr result (λ e. e ≡ errors.Variables → is_reusable function ≡ false) }
 {
+    if has_no_load(function.body.as_slice()) {
+        return Ok(function);
+    }
     let marks = mark_repeated(alloc, function.body.as_slice())?;
     if marks.len() > (u32::MAX - function.variables) as usize {
         return Err(ReuseError::Variables);

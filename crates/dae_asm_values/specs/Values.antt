@@ -13,15 +13,14 @@ use Rattle.dae_asm_lines.specs.Items as items
 use Rattle.dae_asm_order.specs.Sheets.{Row}
 use Rattle.dae_asm_labels.specs.declared.definitions.LabelDefinition.{LabelDefinition}
 use Rattle.dae_asm_labels.specs.Labels.{Look}
-use Rattle.dae_asm_values.specs.declared.head.NumberRange.{NumberRange}
 
 -- a number of a field
 abbrev pub IsFor : FieldRange → ℤ → ℕ → Type 0
 IsFor range z n = (z ≡ pos n) × IsIn range n
 
--- a number of 32 bits that a span takes
-abbrev pub IsWithin : NumberRange → ℤ → ℕ → Type 0
-IsWithin span z n = (z ≡ pos n) × (n < 2 ^ 32) × ((span.least ≤ n) × (n ≤ span.most) × (n % span.step ≡ 0))
+-- one that is a number of 32 bits
+abbrev pub IsWithin : FieldRange → ℤ → ℕ → Type 0
+IsWithin range z n = (z ≡ pos n) × (n < 2 ^ 32) × IsIn range n
 
 -- the seven numbers of queues
 abbrev pub depths : Depths → List ℕ

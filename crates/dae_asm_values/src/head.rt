@@ -10,26 +10,20 @@ ghost use Rattle.dae_asm_values.specs.Values.{IsFor, IsWithin, IsBudget, IsAddre
 use dae_asm_labels::{LabelDefinition, definition_of};
 use dae_asm_lines::JumpTarget;
 use dae_base::Depths;
+use dae_image::FieldRange;
 use indexmap::IndexMap;
 
-/// The numbers that a field takes: from `least` to `most`, and multiples of `step`.
-#[derive(Clone, Copy)]
-pub struct NumberRange {
-    pub least: u32,
-    pub most: u32,
-    pub step: u32,
-}
-
-fn number_in(span: NumberRange, number: i64) -> Option<u32>
-    requires { 0 < span.step }
-    ensures some { IfSome result (λ n. IsWithin span number n) }
-    ensures none { IfNone result ((n : ℕ) → IsWithin span number n → ⊥) }
+/// A number of 32 bits that a range takes.
+fn number_in(range: FieldRange, number: i64) -> Option<u32>
+    requires { 0 < range.step }
+    ensures some { IfSome result (λ n. IsWithin range number n) }
+    ensures none { IfNone result ((n : ℕ) → IsWithin range number n → ⊥) }
 {
     if number < 0 || number > 0xffff_ffff {
         return None;
     }
     let found = number as u32;
-    if span.least <= found && found <= span.most && found % span.step == 0 {
+    if range.least <= found && found <= range.most && found % range.step == 0 {
         Some(found)
     } else {
         None
@@ -40,12 +34,12 @@ fn depth_of(number: i64) -> Option<u16>
     ensures some { IfSome result (λ n. IsFor depth_range number n) }
     ensures none { IfNone result ((n : ℕ) → IsFor depth_range number n → ⊥) }
 {
-    let span = NumberRange {
+    let range = FieldRange {
         least: 0,
         most: 4_096,
         step: 1,
     };
-    match number_in(span, number) {
+    match number_in(range, number) {
         Some(depth) => Some(depth as u16),
         None => None,
     }
@@ -73,12 +67,12 @@ pub fn memory_of(number: i64) -> Option<u32>
     ensures some { IfSome result (λ n. IsFor memory_range number n) }
     ensures none { IfNone result ((n : ℕ) → IsFor memory_range number n → ⊥) }
 {
-    let span = NumberRange {
+    let range = FieldRange {
         least: 64,
         most: 67_108_864,
         step: 16,
     };
-    number_in(span, number)
+    number_in(range, number)
 }
 
 /// How deep calls may nest.
@@ -86,12 +80,12 @@ pub fn calls_of(number: i64) -> Option<u16>
     ensures some { IfSome result (λ n. IsFor calls_range number n) }
     ensures none { IfNone result ((n : ℕ) → IsFor calls_range number n → ⊥) }
 {
-    let span = NumberRange {
+    let range = FieldRange {
         least: 1,
         most: 4_096,
         step: 1,
     };
-    match number_in(span, number) {
+    match number_in(range, number) {
         Some(calls) => Some(calls as u16),
         None => None,
     }
@@ -102,12 +96,12 @@ pub fn private_of(number: i64) -> Option<u32>
     ensures some { IfSome result (λ n. IsFor private_range number n) }
     ensures none { IfNone result ((n : ℕ) → IsFor private_range number n → ⊥) }
 {
-    let span = NumberRange {
+    let range = FieldRange {
         least: 0,
         most: 1_073_741_824,
         step: 4,
     };
-    number_in(span, number)
+    number_in(range, number)
 }
 
 /// The address that a number says.

@@ -1,6 +1,7 @@
 pub mod Values
 mod Words
 pub mod Lists
+pub mod Uninvolved
 pub mod Sparing
 pub mod Truth
 pub mod Meaning

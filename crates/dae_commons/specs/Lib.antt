@@ -1,4 +1,5 @@
 pub mod Equations
+pub mod Above
 pub mod Copies
 pub mod Sums
 pub mod Commoned

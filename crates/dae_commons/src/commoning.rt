@@ -8,10 +8,9 @@ ghost use Rattle.dae_commons.specs.Commoned.{IsCommonedList, IsCommonedTo, known
 use crate::copies::{
     is_operand, propagate_check, propagate_operand, propagate_operands, propagate_test,
 };
-use crate::equations::{Equation, equations_in, meet, with_equation, without_variable};
+use crate::known::{KnownEquations, equations_in, meet, with_equation, without_variable};
 use crate::setting::known_in_loop;
 use crate::sums::{assigned_value, is_itself};
-use dae_base::Items;
 use dae_ir::{Class, Item, Statement, Value};
 use std::alloc::{AllocError, Global};
 
@@ -19,24 +18,24 @@ use std::alloc::{AllocError, Global};
 #[derive(Drop)]
 struct CommonedItem {
     item: Item,
-    known: Option<Items<Equation>>,
+    known: Option<KnownEquations>,
 }
 
 /// A statement in the new form, and the equations that are known behind it, where the code goes on there.
 #[derive(Drop)]
 struct CommonedStatement {
     statement: Statement,
-    known: Option<Items<Equation>>,
+    known: Option<KnownEquations>,
 }
 
 /// A list of statements in the new form, and what is known at its end.
 #[derive(Drop)]
 pub struct CommonedList {
     pub statements: Vec<Statement>,
-    pub known: Option<Items<Equation>>,
+    pub known: Option<KnownEquations>,
 }
 
-fn with_known(item: Item, known: Items<Equation>) -> CommonedItem
+fn with_known(item: Item, known: KnownEquations) -> CommonedItem
     ensures item { result.item ≡ item }
     ensures known { result.known ≡ Some known }
 {
@@ -56,11 +55,11 @@ fn without_known(item: Item) -> CommonedItem
 
 // What is known behind an assignment of one value, which is written as another.
 fn known_after_set(
-    known: Items<Equation>,
+    known: KnownEquations,
     variable: u32,
     old: Value,
     new: Value,
-) -> Result<Items<Equation>, AllocError>
+) -> Result<KnownEquations, AllocError>
     ensures { IfOk result (λ behind. behind ≡ known_after_set known variable old new) }
 {
     if is_itself(variable, old) {
@@ -74,7 +73,7 @@ fn known_after_set(
 
 fn common_assignment(
     row: &[Class],
-    known: Items<Equation>,
+    known: KnownEquations,
     variable: u32,
     value: Value,
 ) -> Result<CommonedItem, AllocError>
@@ -92,7 +91,7 @@ fn common_assignment(
 fn common_item(
     alloc: Global,
     row: &[Class],
-    known: Items<Equation>,
+    known: KnownEquations,
     item: &Item,
 ) -> Result<CommonedItem, AllocError>
     ensures item { IfOk result (λ new.
@@ -122,7 +121,10 @@ fn common_item(
         }
         Item::Call(variable, function, xs) => {
             let xs = propagate_operands(alloc, row, known.as_slice(), xs.as_slice())?;
-            Ok(with_known(Item::Call(*variable, *function, xs), Items::new(alloc)))
+            Ok(with_known(
+                Item::Call(*variable, *function, xs),
+                KnownEquations::new(alloc),
+            ))
         }
         Item::Break => Ok(without_known(Item::Break)),
         Item::Continue => Ok(without_known(Item::Continue)),
@@ -144,15 +146,15 @@ fn common_item(
 pub fn common_list(
     alloc: Global,
     row: &[Class],
-    known: &[Equation],
+    known: &KnownEquations,
     statements: &[Statement],
 ) -> Result<CommonedList, AllocError>
     ensures { IfOk result (λ new.
         IsCommonedList (classes_in row.now) statements.now known.now new.statements.items
         new.known) }
 {
-    let start = Vec::from_slice(alloc, known)?;
-    let mut current = Some(Items::from_vec(start));
+    let start = known.copy(alloc)?;
+    let mut current = Some(start);
     let mut out = Vec::with_capacity(alloc, statements.len())?;
     for statement in statements {
         let common = common_statement(alloc, row, current, statement)?;
@@ -169,7 +171,7 @@ pub fn common_list(
 fn common_statement(
     alloc: Global,
     row: &[Class],
-    known: Option<Items<Equation>>,
+    known: Option<KnownEquations>,
     statement: &Statement,
 ) -> Result<CommonedStatement, AllocError>
     ensures { IfOk result (λ new.
@@ -186,8 +188,8 @@ fn common_statement(
         }
         Statement::If(place, test, yes, no) => {
             let test = propagate_test(row, equations.as_slice(), *test);
-            let first = common_list(alloc, row, equations.as_slice(), yes)?;
-            let second = common_list(alloc, row, equations.as_slice(), no)?;
+            let first = common_list(alloc, row, &equations, yes)?;
+            let second = common_list(alloc, row, &equations, no)?;
             let behind = meet(alloc, first.known, second.known)?;
             Ok(CommonedStatement {
                 statement: Statement::If(*place, test, first.statements, second.statements),
@@ -196,8 +198,8 @@ fn common_statement(
         }
         Statement::Loop(place, body, step) => {
             let inside = known_in_loop(alloc, equations, body, step)?;
-            let first = common_list(alloc, row, inside.as_slice(), body)?;
-            let second = common_list(alloc, row, inside.as_slice(), step)?;
+            let first = common_list(alloc, row, &inside, body)?;
+            let second = common_list(alloc, row, &inside, step)?;
             Ok(CommonedStatement {
                 statement: Statement::Loop(*place, first.statements, second.statements),
                 known: Some(inside),

@@ -1,10 +1,9 @@
-// Equations that are known at a place of code.
+// Equations, and lists of them.
 
 ghost use Rattle.std.specs.Prelude.{◌≡◌, ◌++◌, take, option_to_list, IfOk, OnOk};
-ghost use Rattle.dae_commons.specs.Equations.{both_known, equation_of, equations_in, involves, is_among, met, operand_involves, same_equation};
-ghost use Rattle.dae_commons.specs.Equations.{value_involves, with_equation, without_variable};
+ghost use Rattle.dae_commons.specs.Equations.{both_known, equation_of, involves, is_among, operand_involves, same_equation};
+ghost use Rattle.dae_commons.specs.Equations.{value_involves, without_variable};
 
-use dae_base::Items;
 use dae_ir::{Operand, Value};
 use std::alloc::{AllocError, Global};
 
@@ -45,7 +44,7 @@ fn involves(variable: u32, equation: Equation) -> bool
 }
 
 /// Nothing is known any longer that involves a variable.
-fn remove_involved(equations: &mut Vec<Equation>, variable: u32)
+pub fn remove_involved(equations: &mut Vec<Equation>, variable: u32)
     ensures { equations.new.items ≡ without_variable variable equations.old.items }
 {
     equations.retain(|equation| !involves(variable, *equation));
@@ -53,7 +52,7 @@ fn remove_involved(equations: &mut Vec<Equation>, variable: u32)
 
 /// An equation, where there is one, comes before others, of which the latest few are kept, so that the time for an item doesn't grow
 /// with the list that it stands in.
-fn push_equation(
+pub fn push_equation(
     equations: &mut Vec<Equation>,
     equation: Option<Equation>,
 ) -> Result<(), AllocError>
@@ -68,46 +67,13 @@ fn push_equation(
 }
 
 /// That a variable holds what was assigned to it, if it didn't stand there itself.
-fn equation_of(variable: u32, value: Value) -> Option<Equation>
+pub fn equation_of(variable: u32, value: Value) -> Option<Equation>
     ensures { option_to_list result ≡ equation_of variable value }
 {
     if value_involves(variable, value) {
         None
     } else {
         Some(Equation { variable, value })
-    }
-}
-
-/// The equations that are known behind what sets a variable.
-pub fn without_variable(known: Items<Equation>, variable: u32) -> Items<Equation>
-    ensures { result ≡ without_variable variable known }
-{
-    let mut equations = known.into_vec();
-    remove_involved(&mut equations, variable);
-    Items::from_vec(equations)
-}
-
-/// The equations that are known behind an assignment.
-pub fn with_equation(
-    known: Items<Equation>,
-    variable: u32,
-    value: Value,
-) -> Result<Items<Equation>, AllocError>
-    ensures { IfOk result (λ new. new ≡ with_equation variable value known) }
-{
-    let mut equations = known.into_vec();
-    remove_involved(&mut equations, variable);
-    push_equation(&mut equations, equation_of(variable, value))?;
-    Ok(Items::from_vec(equations))
-}
-
-/// The equations that are known at a place, none where the code doesn't go on.
-pub fn equations_in(alloc: Global, known: Option<Items<Equation>>) -> Items<Equation>
-    ensures { result ≡ equations_in known }
-{
-    match known {
-        Some(equations) => equations,
-        None => Items::new(alloc),
     }
 }
 
@@ -129,12 +95,12 @@ fn is_among(equation: Equation, known: &[Equation]) -> bool
 }
 
 /// The equations that are known at the ends of two lists.
-fn both_known(
+pub fn both_known(
     alloc: Global,
     one: &[Equation],
     other: &[Equation],
-) -> Result<Items<Equation>, AllocError>
-    ensures { IfOk result (λ new. new ≡ both_known one.now other.now) }
+) -> Result<Vec<Equation>, AllocError>
+    ensures { IfOk result (λ new. new.items ≡ both_known one.now other.now) }
 {
     let mut kept = Vec::new(alloc);
     for equation in one {
@@ -142,25 +108,5 @@ fn both_known(
             kept.push(*equation)?;
         }
     }
-    Ok(Items::from_vec(kept))
-}
-
-/// What is known where two ways meet, by what is known at the end of either.
-pub fn meet(
-    alloc: Global,
-    one: Option<Items<Equation>>,
-    other: Option<Items<Equation>>,
-) -> Result<Option<Items<Equation>>, AllocError>
-    ensures { IfOk result (λ new. new ≡ met one other) }
-{
-    match one {
-        None => Ok(other),
-        Some(first) => match other {
-            None => Ok(Some(first)),
-            Some(second) => {
-                let new = both_known(alloc, first.as_slice(), second.as_slice())?;
-                Ok(Some(new))
-            }
-        },
-    }
+    Ok(kept)
 }

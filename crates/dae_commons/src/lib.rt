@@ -10,6 +10,8 @@ pub use whole::eliminate_commons;
 mod commoning;
 mod copies;
 mod equations;
+mod highest;
+mod known;
 mod needs;
 mod setting;
 mod sums;

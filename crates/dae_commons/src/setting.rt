@@ -4,23 +4,22 @@ ghost use Rattle.std.specs.Prelude.{◌≡◌, IfOk};
 ghost use Rattle.dae_ir.specs.Form.{form_of};
 ghost use Rattle.dae_commons.specs.Equations.{IsWithoutStatement, known_in_loop, without_item, without_set};
 
-use crate::equations::{Equation, without_variable};
-use dae_base::Items;
+use crate::known::{KnownEquations, without_variable};
 use dae_ir::{Item, Statement};
 use std::alloc::{AllocError, Global};
 
 // Nothing is known that involves what the item sets, and nothing behind a call.
 fn without_item(
     alloc: Global,
-    known: Items<Equation>,
+    known: KnownEquations,
     item: &Item,
-) -> Result<Items<Equation>, AllocError>
+) -> Result<KnownEquations, AllocError>
     ensures { IfOk result (λ new. new ≡ without_item known item.now) }
 {
     match item {
         Item::Assign(variable, _) => Ok(without_variable(known, *variable)),
         Item::Load(variable, _, _) => Ok(without_variable(known, *variable)),
-        Item::Call(_, _, _) => Ok(Items::new(alloc)),
+        Item::Call(_, _, _) => Ok(KnownEquations::new(alloc)),
         Item::Store(_, _, _) | Item::Print(_, _) | Item::Expect(_) => Ok(known),
         Item::Break | Item::Continue | Item::Return(_) | Item::Halt(_) => Ok(known),
     }
@@ -29,9 +28,9 @@ fn without_item(
 #[cycle(without)]
 fn without_list(
     alloc: Global,
-    known: Items<Equation>,
+    known: KnownEquations,
     statements: &[Statement],
-) -> Result<Items<Equation>, AllocError>
+) -> Result<KnownEquations, AllocError>
     ensures { IfOk result (λ new. new ≡ without_set known (form_of statements.now)) }
 {
     let mut current = known;
@@ -44,9 +43,9 @@ fn without_list(
 #[cycle(without)]
 fn without_statement(
     alloc: Global,
-    known: Items<Equation>,
+    known: KnownEquations,
     statement: &Statement,
-) -> Result<Items<Equation>, AllocError>
+) -> Result<KnownEquations, AllocError>
     ensures { IfOk result (λ new. IsWithoutStatement statement.now known new) }
 {
     match statement {
@@ -61,10 +60,10 @@ fn without_statement(
 /// What is known in a loop, and behind it, of what was known before. Where that was nothing, the loop isn't gone through.
 pub fn known_in_loop(
     alloc: Global,
-    known: Items<Equation>,
+    known: KnownEquations,
     body: &[Statement],
     step: &[Statement],
-) -> Result<Items<Equation>, AllocError>
+) -> Result<KnownEquations, AllocError>
     ensures { IfOk result (λ new.
         new ≡ known_in_loop known (form_of body.now) (form_of step.now)) }
 {

@@ -5,6 +5,7 @@ ghost use Rattle.dae_ir.specs.Classes.{classes_in, row_of};
 ghost use Rattle.dae_commons.specs.Forms.{IsCommonedFunction, IsCommoningOf};
 
 use crate::commoning::common_list;
+use crate::known::KnownEquations;
 use dae_base::Items;
 use dae_ir::{Class, Function, Ir};
 use std::alloc::{AllocError, Global};
@@ -21,8 +22,8 @@ fn row_of(tables: &[Items<Class>], function: usize) -> &[Class]
 fn common_function(alloc: Global, row: &[Class], function: Function) -> Result<Function, AllocError>
     ensures { IfOk result (IsCommonedFunction (classes_in row.now) function) }
 {
-    let nothing = Items::new(alloc);
-    let list = common_list(alloc, row, nothing.as_slice(), function.body.as_slice())?;
+    let nothing = KnownEquations::new(alloc);
+    let list = common_list(alloc, row, &nothing, function.body.as_slice())?;
     Ok(Function {
         name: function.name,
         parameters: function.parameters,

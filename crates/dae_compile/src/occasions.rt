@@ -52,7 +52,7 @@ fn list_gives(occasion: Occasion, statements: &[Statement]) -> bool {
 }
 
 /// Whether a function of the form gives an occasion.
-pub fn form_gives(occasion: Occasion, ir: &Ir) -> bool {
+pub fn gives_occasion(occasion: Occasion, ir: &Ir) -> bool {
     for function in ir.functions.as_slice() {
         if list_gives(occasion, function.body.as_slice()) {
             return true;

@@ -7,7 +7,7 @@ ghost use Rattle.dae_elide.specs.Forms.{IsElisionOf};
 ghost use Rattle.dae_ir.specs.Scope.{IsScoped};
 ghost use Rattle.dae_compile.specs.Passes.{HasSumsAtAccesses, IsCommonedAgain, IsWithoutCommons};
 
-use crate::occasions::{Occasion, form_gives};
+use crate::occasions::{Occasion, gives_occasion};
 use dae_alias::{ReuseError, reuse};
 use dae_commons::eliminate_commons;
 use dae_elide::elide_checks;
@@ -34,7 +34,7 @@ pub fn without_known_checks(alloc: Global, ir: Ir) -> Result<Ir, AllocError>
     requires { IsScoped ir }
     ensures { IfOk result (IsElisionOf ir) }
 {
-    if form_gives(Occasion::PlaceCheck, &ir) {
+    if gives_occasion(Occasion::PlaceCheck, &ir) {
         let tables = classes(alloc, &ir)?;
         elide_checks(alloc, ir, tables.as_slice())
     } else {
@@ -58,7 +58,7 @@ pub fn with_sums_at_accesses(alloc: Global, ir: Ir) -> Result<Ir, AllocError>
     requires { IsScoped ir }
     ensures { IfOk result (HasSumsAtAccesses ir) }
 {
-    if form_gives(Occasion::SelfSet, &ir) {
+    if gives_occasion(Occasion::SelfSet, &ir) {
         common_again(alloc, ir)
     } else {
         Ok(ir)

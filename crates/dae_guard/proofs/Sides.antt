@@ -11,7 +11,7 @@ use Rattle.dae_ranges.specs.declared.Range.{Range}
 use Rattle.dae_ranges.specs.Ranges.{Has, single, any_word, is_single, each, decided}
 use Rattle.dae_ranges.proofs.Laws.{each_has, single_is, has_single, has_any, decided_is, below_has, from_has}
 use Rattle.dae_guard.specs.Nodes.{range_at, source, is_plain, with_range}
-use Rattle.dae_guard.specs.Moves.{InstructionShape, Tests, Jumps, Plain, shape, test, goes_to, tells, against, result, Order, Free, Below, NotBelow, Equal, Unequal, order, first_kept, second_kept, narrowed, MoveOutcome, told, either, outcomes_by}
+use Rattle.dae_guard.specs.Moves.{InstructionKind, Tests, Jumps, Plain, shape, test, goes_to, tells, against, result, Order, Free, Below, NotBelow, Equal, Unequal, order, first_kept, second_kept, narrowed, MoveOutcome, told, either, outcomes_by}
 use Rattle.dae_guard.specs.StandsFor.{Registers}
 use Rattle.dae_guard.proofs.Values.{result_has, plain_next, jump_next, Meets, other, Tested, tested, tells_small}
 
@@ -139,7 +139,7 @@ pub comes : (i : Inst) (c : ℕ) (first second : ℕ) (x y : Range) (rs : List R
     → (is_plain first ≡ true → v ≡ slice_index xs first) → (is_plain second ≡ true → w ≡ slice_index xs second)
     → (is_plain second ≡ true → other i w ≡ w) → outcomes_by (shape i) i c first second x y rs ≡ Some os → AnyComes rs xs (value i c v w) (next i c v w) os
 comes i c first second x y rs xs v w os r h p q e f own k = by (shape i) refl k where
-  by : (s : InstructionShape) → shape i ≡ s → outcomes_by s i c first second x y rs ≡ Some os → AnyComes rs xs (value i c v w) (next i c v w) os
+  by : (s : InstructionKind) → shape i ≡ s → outcomes_by s i c first second x y rs ≡ Some os → AnyComes rs xs (value i c v w) (next i c v w) os
   by Plain s g =
       let is : record { value = result i c x y; counter = next i c 0 0; registers = rs } ∷ [] ≡ os = cc in
       subst (λ (os : List MoveOutcome). AnyComes rs xs (value i c v w) (next i c v w) os) is (inl (record { value = result_has i c v w x y r p q; counter = sym (plain_next i c v w s); registers = h }))

@@ -33,13 +33,13 @@ private t E = t.private_e
 
 -- ---- what an instruction does with ranges
 
-pub data InstructionShape : Type 0 where
-  Tests : InstructionShape
-  Jumps : InstructionShape
-  Plain : InstructionShape
+pub data InstructionKind : Type 0 where
+  Tests : InstructionKind
+  Jumps : InstructionKind
+  Plain : InstructionKind
 
 -- branches and comparisons are decided by a test, a jump to a register by its target
-unfoldable pub shape : Inst → InstructionShape
+unfoldable pub shape : Inst → InstructionKind
 shape (Beq x y imm) = Tests
 shape (Bne x y imm) = Tests
 shape (Blt x y imm) = Tests
@@ -169,7 +169,7 @@ either i c first second x y rs None =
     told i c (narrowed (order i) false first second x y rs) false
     ∷ (told i c (narrowed (order i) true first second x y rs) true ∷ [])
 
-abbrev pub outcomes_by : InstructionShape → Inst → ℕ → ℕ → ℕ → Range → Range → List Range
+abbrev pub outcomes_by : InstructionKind → Inst → ℕ → ℕ → ℕ → Range → Range → List Range
     → Option (List MoveOutcome)
 outcomes_by Tests i c first second x y rs =
     Some (either i c first second x (against i y) rs (decided (test i) x (against i y)))

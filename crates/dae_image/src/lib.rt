@@ -7,6 +7,7 @@ ghost use Rattle.dae_image.specs.Contents.{Fits};
 
 pub use body::follows;
 pub use fault::{Field, ImageError};
+pub use fields::FieldRange;
 pub use reading::read;
 pub use writing::write;
 

@@ -1,7 +1,7 @@
 // The structured form of a program, and the pair of streams that it is split into for the two processors of a decoupled
-// machine (Smith, "Decoupled Access/Execute Computer Architectures"). Types, copies of items and the reasons why a form stays, and in specs/ what they mean: the form,
-// the classes of its variables, its groups and regions, what the pair does in canonical order, which streams are a form's
-// pair, what an action does, sizes, and a pair's budget.
+// machine (Smith, "Decoupled Access/Execute Computer Architectures"). Types, copies of items and the reasons why a form
+// stays, and in specs/ what they mean: the form, the classes of its variables, its groups and regions, what the pair does
+// in canonical order, which streams are a form's pair, what an action does, sizes, and a pair's budget.
 #![tactic(auto)]
 
 pub use form::{Check, Function, Ir, Item, Operand, Statement, Test, Value};

@@ -1,7 +1,6 @@
 -- A file that was read: its tree and its limits.
 use Rattle.std.proofs.Common.{◌≡◌, ℕ, List, [], ◌∷◌, map, length, Option, Some, None, refl, sym, ap, subst, ◌∙◌, arith}
 use Rattle.std.specs.Prelude.{slice_get, All, Result, Ok, Err, IfErr}
-use Rattle.std.specs.List.{range_with_len}
 use Rattle.std.proofs.lemmas.List.Elements.{All-map, All-weaker}
 use Rattle.dae_tree.specs.Reading.{Reading, IsReading, IsNumbered}
 use Rattle.dae_tree.specs.declared.statements.External.{External}
@@ -9,8 +8,7 @@ use Rattle.dae_tree.specs.Files.{FileContents, IsFile, IsNumberedMark}
 use Rattle.dae_tree.specs.Depth.{first_deeper, first_too_long, nodes_file, greatest_depth}
 use Rattle.dae_tree.specs.FileViews.{view_external, view_externals}
 use Rattle.dae_tree.specs.Trees as tree
-use Rattle.dae_tree.specs.Marks.{mark, marks, word_mark, sign_mark, literal_numbers}
-use Rattle.dae_tree.specs.Statements.{spell_file}
+use Rattle.dae_tree.specs.Marks.{mark, marks, word_mark, sign_mark}
 use Rattle.dae_tree.specs.declared.tokens.TokenKind.{TokenKind}
 use Rattle.dae_tree.specs.declared.tokens.TokenKind.TheVariants as kinds
 use Rattle.dae_tree.specs.declared.tokens.Token.{Token}

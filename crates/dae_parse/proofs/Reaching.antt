@@ -20,10 +20,10 @@ use Rattle.dae_parse_states.specs.declared.frames.Doing.TheVariants as doing
 use Rattle.dae_parse_states.specs.declared.frames.Frame.{Frame as Top}
 use Rattle.dae_parse_states.specs.Kept.{out_of_box}
 use Rattle.dae_parse_parts.specs.Scopes.{Scopes}
-use Rattle.dae_parse_states.specs.Frames.{ShowsFile, ShowsStack}
+use Rattle.dae_parse_states.specs.Frames.{ShowsDoing, ShowsFile, ShowsStack}
 use Rattle.dae_parse_states.specs.States.{Follows}
 use Rattle.dae_parse_states.specs.Bottom.{IsEmptyAt, IsBottomState}
-use Rattle.dae_parse.specs.Reached.{IsWhole, IsNotWhole, Reached}
+use Rattle.dae_parse.specs.Reached.{Reached}
 use Rattle.dae_parse.proofs.Bottoms.{bottom_of_run}
 
 -- ---- what holds of each state that is reached
@@ -83,6 +83,25 @@ pub no_more : (tokens : List Token) (turns : ℕ) (does : Doing) (m : Parser) �
 no_more tokens turns does m r h = omega (arith, h, length_marks tokens, r.spent)
 
 -- ---- the end
+
+-- a file is whole at the end of the tokens, between two externals
+abbrev pub IsWhole : FileSoFar → plain.Doing → List TokenMark → Type 0
+IsWhole b (plain.externals xs) [] = ShowsFile b xs
+IsWhole b _ _ = ⊥
+
+abbrev pub IsNotWhole : plain.Doing → List TokenMark → Type 0
+IsNotWhole (plain.externals xs) [] = ⊥
+IsNotWhole _ _ = Unit {0}
+
+pub whole_there : (b : FileSoFar) (d : plain.Doing) (ts : List TokenMark) → ShowsDoing (doing.Externals b) d → length ts ≡ 0 → IsWhole b d ts
+whole_there b (externals xs) [] shows none = shows
+whole_there b (externals xs) (t ∷ ts) shows none = absurd (omega arith)
+whole_there b _ ts shows none = absurd shows
+
+pub not_whole : (g : Doing) (d : plain.Doing) (ts : List TokenMark) → ShowsDoing g d → ((b : FileSoFar) → g ≡ doing.Externals b → length ts ≡ 0 → ⊥) → IsNotWhole d ts
+not_whole (doing.Externals b) (externals xs) [] shows other = absurd (other b refl refl)
+not_whole _ (externals xs) [] shows other = absurd shows
+not_whole g _ ts shows other = tt
 
 ends_whole : (tokens : List TokenMark) (turns : ℕ) (d : plain.Doing) (s : List Frame) (names : Names) (rest : List TokenMark) (b : FileSoFar) → run turns (begun tokens) ≡ state d s names rest → IsEmptyAt d s → IsWhole b d rest
     → (xs : List External) × ShowsFile b xs × IsTreeOf tokens (onto xs [])

@@ -9,7 +9,7 @@ use Rattle.dae_tree.specs.Names.{Names}
 use Rattle.dae_tree.specs.Reading.{Reading}
 use Rattle.dae_base.specs.declared.Place.{Place}
 use Rattle.dae_tree.specs.Statements.{IsTreeOf}
-use Rattle.dae_tree.specs.Trees.{Expression, External}
+use Rattle.dae_tree.specs.Trees.{Expression}
 use Rattle.dae_parse_grammar.specs.Frames as plain
 use Rattle.dae_parse_grammar.specs.Frames.{Frame, ParserState, state}
 use Rattle.dae_parse_grammar.specs.Machine.{step, begun}

@@ -1,5 +1,5 @@
--- What a turn of the parser's machine comes to, and what a run of it.
-use Rattle.std.specs.Prelude.{◌≡◌, ℕ, ◌+◌, ◌*◌, ◌≤◌, List, [], length, Option, Some, None}
+-- What a run of the parser's machine comes to.
+use Rattle.std.specs.Prelude.{◌≡◌, ℕ, ◌+◌, ◌*◌, ◌≤◌, List, [], length}
 use Rattle.dae_tree.specs.declared.tokens.Token.{Token}
 use Rattle.dae_tree.specs.Marks.{TokenMark, marks}
 use Rattle.dae_tree.specs.Statements.{IsTreeOf}
@@ -8,31 +8,13 @@ use Rattle.dae_parse_grammar.specs.Frames as plain
 use Rattle.dae_parse_grammar.specs.Machine.{begun, onto}
 use Rattle.dae_parse_grammar.specs.Measure.{measure}
 use Rattle.dae_parse_grammar.specs.Runs.{run}
-use Rattle.dae_parse_states.specs.declared.frames.FileSoFar.{FileSoFar}
 use Rattle.dae_parse_states.specs.declared.frames.Doing.{Doing}
 use Rattle.dae_parse_states.specs.declared.machine.Parser.{Parser}
 use Rattle.dae_parse_states.specs.Frames.{ShowsDoing, ShowsFile}
-use Rattle.dae_parse_states.specs.States.{Stands, Follows, outside_stack, outside_doing}
+use Rattle.dae_parse_states.specs.States.{Stands, outside_stack, outside_doing}
 use Rattle.dae_parse.specs.Parsed.{IsStuckAt}
-use Rattle.dae_parse.specs.declared.turn.ParserTurn.{ParserTurn}
-use Rattle.dae_parse.specs.declared.turn.ParserTurn.TheVariants as turn
 use Rattle.dae_parse.specs.declared.run.ParseOutcome.{ParseOutcome}
 use Rattle.dae_parse.specs.declared.run.ParseOutcome.TheVariants as outcome
-
--- a file is whole at the end of the tokens, between two externals
-abbrev pub IsWhole : FileSoFar → plain.Doing → List TokenMark → Type 0
-IsWhole b (plain.externals xs) [] = ShowsFile b xs
-IsWhole b _ _ = ⊥
-
-abbrev pub IsNotWhole : plain.Doing → List TokenMark → Type 0
-IsNotWhole (plain.externals xs) [] = ⊥
-IsNotWhole _ _ = Unit {0}
-
--- the next state of the grammar's machine, or none, or the whole file
-abbrev pub TurnFollows : ParserTurn → Parser → plain.Doing → List TokenMark → Option plain.ParserState → Type 0
-TurnFollows (turn.Next next) m d rest t = Follows (Some next) m t
-TurnFollows (turn.Whole b) m d rest t = IsWhole b d rest
-TurnFollows turn.Stopped m d rest t = (t ≡ None) × IsNotWhole d rest
 
 -- The machine shows a state that the grammar's machine comes to in so many turns, which have spent what the tokens allow.
 pub record Reached (tokens : List TokenMark) (turns : ℕ) (doing : Doing) (m : Parser) : Type 0 where

@@ -9,7 +9,7 @@ ghost use Rattle.dae_parse_grammar.specs.Stuck.{stuck};
 ghost use Rattle.dae_parse_states.specs.Frames.{ShowsDoing};
 ghost use Rattle.dae_parse.specs.Reached.{Comes};
 
-use crate::turn::{ParserTurn, take_turn};
+use crate::step::step;
 use dae_parse_nodes::no_externals;
 use dae_parse_parts::Scope;
 use dae_parse_states::{Doing, FileSoFar, Parser, TokensLeft};
@@ -36,7 +36,8 @@ fn left_where_stuck(doing: &Doing, left: usize) -> usize
     }
 }
 
-/// Reads the tree of tokens. The machine stops within twelve turns a token and nine.
+/// Reads the tree of tokens: the file is whole where they end between two externals. The machine stops within twelve turns a token
+/// and nine.
 pub fn run(alloc: Global, tokens: &[Token]) -> Result<ParseOutcome, AllocError>
     ensures { IfOk result (λ o. Comes tokens.now o) }
 {
@@ -55,10 +56,16 @@ pub fn run(alloc: Global, tokens: &[Token]) -> Result<ParseOutcome, AllocError>
     });
     for _turn in 0..12 * (total as u128) + 10 {
         let left = left_where_stuck(&doing, machine.rest.len());
-        match take_turn(&mut machine, doing, total)? {
-            ParserTurn::Next(next) => doing = next,
-            ParserTurn::Whole(before) => return Ok(ParseOutcome::Whole(before)),
-            ParserTurn::Stopped => return Ok(ParseOutcome::Stopped(total.saturating_sub(left))),
+        if machine.rest.len() == 0 {
+            let at_end = doing;
+            match at_end {
+                Doing::Externals(before) => return Ok(ParseOutcome::Whole(before)),
+                other => doing = other,
+            }
+        }
+        match step(&mut machine, doing, total)? {
+            Some(next) => doing = next,
+            None => return Ok(ParseOutcome::Stopped(total.saturating_sub(left))),
         }
     }
     unreachable!()

@@ -6,7 +6,7 @@ use Rattle.dae_tree.specs.Marks.{TokenMark, sign, part, close_brace, comma}
 use Rattle.dae_tree.specs.Names.{Names}
 use Rattle.dae_tree.specs.Words.{nothing_seen}
 use Rattle.dae_tree.specs.Grammar.{by_name}
-use Rattle.dae_tree.specs.Trees.{Specifiers, Declarator, Initialiser, BlockItem, External}
+use Rattle.dae_tree.specs.Trees.{Specifiers, Declarator, Initialiser, InitDeclarator, External}
 use Rattle.dae_parse_grammar.specs.Frames.{Frame, state, in_value, seek, in_list, initialising, declaring, of_item, specifying, for_declaration, in_file, awaits_expression, awaits_specifiers, awaits_declarator, awaits_initialiser, awaits_declaration}
 use Rattle.dae_parse_grammar.specs.Machine.{initialised, list_followed, listed, declaration_begun, definition_begun, item_given, plain_item, item_followed, external_begun}
 use Rattle.dae_parse_states.specs.Fronts.{sign_at}
@@ -37,7 +37,7 @@ declaration_otherwise outer ws s names [] h = refl
 declaration_otherwise outer ws s names (sign signs.Semicolon p ∷ ts) h = absurd (h refl)
 declaration_otherwise outer ws s names (_ ∷ ts) h = refl
 
-pub item_or_none : (ws : Specifiers) (i : BlockItem) (before : List BlockItem) (s : List Frame) (names : Names) (ts : List TokenMark) → ¬ (sign_at ts ≡ Some signs.Comma) → ¬ (sign_at ts ≡ Some signs.Semicolon)
+pub item_or_none : (ws : Specifiers) (i : InitDeclarator) (before : List InitDeclarator) (s : List Frame) (names : Names) (ts : List TokenMark) → ¬ (sign_at ts ≡ Some signs.Comma) → ¬ (sign_at ts ≡ Some signs.Semicolon)
     → item_followed ws i before s names ts ≡ None
 item_or_none ws i before s names [] h k = refl
 item_or_none ws i before s names (part comma ∷ ts) h k = absurd (h refl)
@@ -46,13 +46,13 @@ item_or_none ws i before s names (_ ∷ ts) h k = refl
 
 -- ---- the first declarator at file scope
 
-pub inner_otherwise : (d : Declarator) (ws : Specifiers) (before : List BlockItem) (s : List Frame) (names : Names) (ts : List TokenMark) → ¬ (sign_at ts ≡ Some signs.Assign)
+pub inner_otherwise : (d : Declarator) (ws : Specifiers) (before : List InitDeclarator) (s : List Frame) (names : Names) (ts : List TokenMark) → ¬ (sign_at ts ≡ Some signs.Assign)
     → item_given false d ws before s names ts ≡ plain_item d ws before s names ts
 inner_otherwise d ws before s names [] h = refl
 inner_otherwise d ws before s names (sign signs.Assign p ∷ ts) h = absurd (h refl)
 inner_otherwise d ws before s names (_ ∷ ts) h = refl
 
-pub later_otherwise : (outer : Bool) (d : Declarator) (ws : Specifiers) (before : List BlockItem) (s : List Frame) (names : Names) (ts : List TokenMark) → ¬ (sign_at ts ≡ Some signs.Assign) → true ≡ is_some_list before
+pub later_otherwise : (outer : Bool) (d : Declarator) (ws : Specifiers) (before : List InitDeclarator) (s : List Frame) (names : Names) (ts : List TokenMark) → ¬ (sign_at ts ≡ Some signs.Assign) → true ≡ is_some_list before
     → item_given outer d ws before s names ts ≡ plain_item d ws before s names ts
 later_otherwise outer d ws [] s names ts h k = cc
 later_otherwise outer d ws (i ∷ before) s names [] h k = refl
@@ -60,7 +60,7 @@ later_otherwise outer d ws (i ∷ before) s names (sign signs.Assign p ∷ ts) h
 later_otherwise true d ws (i ∷ before) s names (_ ∷ ts) h k = refl
 later_otherwise false d ws (i ∷ before) s names (_ ∷ ts) h k = refl
 
-pub first_otherwise : (d : Declarator) (ws : Specifiers) (before : List BlockItem) (s : List Frame) (names : Names) (ts : List TokenMark) → ¬ (sign_at ts ≡ Some signs.Assign) → ¬ (sign_at ts ≡ Some signs.LeftBrace)
+pub first_otherwise : (d : Declarator) (ws : Specifiers) (before : List InitDeclarator) (s : List Frame) (names : Names) (ts : List TokenMark) → ¬ (sign_at ts ≡ Some signs.Assign) → ¬ (sign_at ts ≡ Some signs.LeftBrace)
     → item_given true d ws before s names ts ≡ plain_item d ws before s names ts
 first_otherwise d ws [] s names [] h k = refl
 first_otherwise d ws [] s names (sign signs.Assign p ∷ ts) h k = absurd (h refl)
@@ -70,7 +70,7 @@ first_otherwise d ws (i ∷ before) s names [] h k = refl
 first_otherwise d ws (i ∷ before) s names (sign signs.Assign p ∷ ts) h k = absurd (h refl)
 first_otherwise d ws (i ∷ before) s names (_ ∷ ts) h k = refl
 
-pub begun_by_brace : (d : Declarator) (ws : Specifiers) (before : List BlockItem) (s : List Frame) (names : Names) (p : Place) (ts : List TokenMark) → false ≡ is_some_list before
+pub begun_by_brace : (d : Declarator) (ws : Specifiers) (before : List InitDeclarator) (s : List Frame) (names : Names) (p : Place) (ts : List TokenMark) → false ≡ is_some_list before
     → item_given true d ws before s names (sign signs.LeftBrace p ∷ ts) ≡ Some (definition_begun d ws p s names ts)
 begun_by_brace d ws [] s names p ts k = refl
 begun_by_brace d ws (i ∷ before) s names p ts k = cc

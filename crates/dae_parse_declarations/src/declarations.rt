@@ -1,7 +1,7 @@
 // Declarations in a file, a block or the head of a function: their items, and where a definition begins (C90 6.5 and 6.7).
 
 ghost use Rattle.std.specs.Prelude.{◌≡◌, ◌∷◌, Bool, true, false, List, [], length, Option, Some, None, IfOk};
-ghost use Rattle.dae_tree.specs.Trees.{Specifiers, Declarator as DeclaratorTree, Initialiser as InitialiserTree, BlockItem as ItemTree, Declaration as DeclarationTree, External as ExternalTree};
+ghost use Rattle.dae_tree.specs.Trees.{Specifiers, Declarator as DeclaratorTree, Initialiser as InitialiserTree, InitDeclarator as ItemTree, Declaration as DeclarationTree, External as ExternalTree};
 ghost use Rattle.dae_parse_grammar.specs.Frames as plain;
 ghost use Rattle.dae_parse_grammar.specs.Frames.{Frame as PlainFrame};
 ghost use Rattle.dae_parse_grammar.specs.Machine.{specifiers_given, declarator_given, item_given, initialiser_taken, item_followed, declaration_taken, external_begun, definition_begun};
@@ -23,7 +23,7 @@ use dae_parse_states::{
     DeclarationFrame, DeclaratorFrame, Doing, FileSoFar, FunctionBody, InitialiserFrame, Inside,
     Manner, Parser, Presence, SpecifiersFrame, StatementFrame,
 };
-use dae_tree::{BlockItem, Declaration, Initialiser, Seen, Sign};
+use dae_tree::{Declaration, InitDeclarator, Initialiser, Seen, Sign};
 use std::alloc::AllocError;
 
 /// Behind the specifiers of a declaration, at file scope or inside (C90 6.5). At file scope it may be a definition.
@@ -52,7 +52,7 @@ pub fn of_item(
     declared: Declared,
     function_body: FunctionBody,
     specified: Specified,
-    items: Read<Vec<BlockItem>>,
+    items: Read<Vec<InitDeclarator>>,
 ) -> Result<Option<Doing>, AllocError>
     ensures { (d : DeclaratorTree) (ws : Specifiers) (is : List ItemTree) → ShowsDeclared declared d
         → ShowsSpecified specified ws → ShowsItems items is
@@ -69,7 +69,7 @@ fn read_behind_declarator(
     declared: Declared,
     function_body: FunctionBody,
     specified: Specified,
-    items: Read<Vec<BlockItem>>,
+    items: Read<Vec<InitDeclarator>>,
 ) -> Result<Option<Doing>, AllocError>
     ensures { (d : DeclaratorTree) (ws : Specifiers) (is : List ItemTree) → ShowsDeclared declared d
         → ShowsSpecified specified ws → ShowsItems items is
@@ -96,7 +96,7 @@ fn read_behind_inner(
     machine: &mut Parser<'_>,
     declared: Declared,
     specified: Specified,
-    items: Read<Vec<BlockItem>>,
+    items: Read<Vec<InitDeclarator>>,
 ) -> Result<Option<Doing>, AllocError>
     ensures { (d : DeclaratorTree) (ws : Specifiers) (is : List ItemTree)
         → ¬ (sign_at machine.old.rest ≡ Some signs.Assign) → ShowsDeclared declared d
@@ -112,7 +112,7 @@ fn read_behind_later(
     machine: &mut Parser<'_>,
     declared: Declared,
     specified: Specified,
-    items: Read<Vec<BlockItem>>,
+    items: Read<Vec<InitDeclarator>>,
 ) -> Result<Option<Doing>, AllocError>
     ensures { (outer : Bool) (d : DeclaratorTree) (ws : Specifiers) (is : List ItemTree)
         → ¬ (sign_at machine.old.rest ≡ Some signs.Assign) → true ≡ is_some_list is
@@ -129,7 +129,7 @@ fn read_behind_first(
     machine: &mut Parser<'_>,
     declared: Declared,
     specified: Specified,
-    items: Read<Vec<BlockItem>>,
+    items: Read<Vec<InitDeclarator>>,
 ) -> Result<Option<Doing>, AllocError>
     ensures { (d : DeclaratorTree) (ws : Specifiers) (is : List ItemTree)
         → ¬ (sign_at machine.old.rest ≡ Some signs.Assign) → false ≡ is_some_list is
@@ -173,7 +173,7 @@ pub fn of_value(
     machine: &mut Parser<'_>,
     initialiser: Read<Initialiser>,
     specified: Specified,
-    items: Read<Vec<BlockItem>>,
+    items: Read<Vec<InitDeclarator>>,
     declared: Declared,
     place: Place,
 ) -> Result<Option<Doing>, AllocError>
@@ -194,7 +194,7 @@ pub fn of_value(
 pub fn read_behind_item(
     machine: &mut Parser<'_>,
     specified: Specified,
-    items: Read<Vec<BlockItem>>,
+    items: Read<Vec<InitDeclarator>>,
 ) -> Result<Option<Doing>, AllocError>
     ensures { (ws : Specifiers) (i : ItemTree) (is : List ItemTree) → ShowsSpecified specified ws
         → ShowsItems items (i ∷ is) → Steps machine.old result machine.new (item_followed ws i is) }

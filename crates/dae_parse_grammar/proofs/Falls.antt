@@ -13,7 +13,7 @@ use Rattle.dae_tree.specs.declared.seen.Seen.{Seen}
 use Rattle.dae_tree.specs.Words.{has_type, admits, begins_specifiers}
 use Rattle.dae_tree.specs.Names.{Names, is_type, has_typedef, with_declarator}
 use Rattle.dae_tree.specs.Grammar.{Manner, by_name, without_name, either_way}
-use Rattle.dae_tree.specs.Trees.{Expression, Specifiers, Specifier, Declarator, Initialiser, BlockItem, Declaration, Statement, External, Block}
+use Rattle.dae_tree.specs.Trees.{Expression, Specifiers, Specifier, Declarator, Initialiser, InitDeclarator, Declaration, Statement, External, Block}
 use Rattle.dae_tree.specs.Lists.{MemberLine, EnumEntry, Parameter}
 use Rattle.dae_parse_grammar.specs.Frames.{TypeBody, OpenParameters, StatementHead, Loop, Inside, if_head, while_head, switch_head, do_head, Frame, in_parentheses, in_index, in_arguments, behind_prefix, behind_sizeof, behind_cast, behind_binary, behind_question, behind_colon, behind_assignment, behind_comma, in_size, in_enumerator, in_value, in_evaluation, in_test, in_start, in_loop_test, in_step, in_return, in_case, for_cast, for_sizeof, for_parameter, for_member, for_declaration, behind_star, in_group, of_cast, of_sizeof, of_parameter, of_member, of_item, in_list, of_value, in_file, in_block, then_branch, else_branch, while_body, switch_body, do_body, for_body, case_body, default_body, in_statements, in_definition, Doing, seek, operated, gave, calling, measuring, specifying, tagging, tagged, membering, enumerating, enumerated, entered, entering, gave_specifiers, declaring, qualifying, suffixing, sizing, parametering, gave_declarator, initialising, listing, gave_initialiser, itemed, gave_declaration, externals, declarations, statements, stating, opening, finishing, looping, starting, testing, stepping, returning, breaking, continuing, defaulting, gave_statement, ParserState, state, awaits_expression, awaits_specifiers, awaits_declarator, awaits_initialiser, awaits_declaration, awaits_statement, ExpressionFrame, SpecifiersFrame, DeclaratorFrame, StatementFrame}
 use Rattle.dae_parse_grammar.specs.Machine.{initialised, listed, list_followed, initialiser_taken, item_followed, declaration_taken, external_begun, block_followed, sign_stated, word_stated, stated, started, loop_tested, stepped, returned, branched, done_followed, defined, statement_given, called, measured, enumerator_named, enumerator_followed, declaration_begun, specifiers_given, nothing_declared, begins_parameters, parenthesis_declared, bracket_declared, name_declared, declared, qualified, suffixed, sized, parameters_opened, parameter_given, member_given, item_given, declarator_given, at_paren, at_bracket, at_colon, at_semicolon, at_open, sign_sought, sought, named_member, operated_at, argument_given, tested, expression_given, specifiers_end, word_taken, specified, body, body_opened, tag_taken, tag_followed, members_followed, entry_followed, comma_followed, step, operation, operate, goes_on}
@@ -254,7 +254,7 @@ falls_member_line d b lines ws before s names (part comma ∷ ts) = omega arith
 falls_member_line d b lines ws before s names (sign signs.Semicolon p ∷ ts) = omega arith
 falls_member_line d b lines ws before s names (_ ∷ ts) = tt
 
-falls_item : (outer : Bool) (d : Declarator) (ws : Specifiers) (before : List BlockItem) (s : List Frame) (names : Names) (ts : List TokenMark) → Falls (12 * length ts + 2 * suc (length s) + 0) (item_given outer d ws before s names ts)
+falls_item : (outer : Bool) (d : Declarator) (ws : Specifiers) (before : List InitDeclarator) (s : List Frame) (names : Names) (ts : List TokenMark) → Falls (12 * length ts + 2 * suc (length s) + 0) (item_given outer d ws before s names ts)
 falls_item true d ws [] s names [] = omega arith
 falls_item true d ws [] s names (sign signs.Assign p ∷ ts) = omega arith
 falls_item true d ws [] s names (sign signs.LeftBrace p ∷ ts) = omega arith
@@ -299,7 +299,7 @@ falls_initialiser x (awaits_initialiser (in_list p before) ∷ s) names ts = fal
 falls_initialiser x (awaits_initialiser (of_value ws before d p) ∷ s) names ts = omega arith
 falls_initialiser x (_ ∷ s) names ts = tt
 
-falls_itemed : (ws : Specifiers) (i : BlockItem) (before : List BlockItem) (s : List Frame) (names : Names) (ts : List TokenMark) → Falls (12 * length ts + 2 * length s + 1) (item_followed ws i before s names ts)
+falls_itemed : (ws : Specifiers) (i : InitDeclarator) (before : List InitDeclarator) (s : List Frame) (names : Names) (ts : List TokenMark) → Falls (12 * length ts + 2 * length s + 1) (item_followed ws i before s names ts)
 falls_itemed ws i before s names [] = tt
 falls_itemed ws i before s names (part comma ∷ ts) = omega arith
 falls_itemed ws i before s names (sign signs.Semicolon p ∷ ts) = omega arith

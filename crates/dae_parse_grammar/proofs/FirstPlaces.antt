@@ -2,7 +2,7 @@
 use Rattle.std.proofs.Common.{◌≡◌, ℕ, zero, suc, ◌+◌, ◌≤◌, ◌<◌, ltb, true, false, List, [], ◌∷◌, Option, Some, None, refl, ap, ◌∙◌, arith}
 use Rattle.dae_base.specs.declared.Place.{Place}
 use Rattle.dae_tree.specs.Depth.{TreeNode, node, place_of, place_before, place_of_specifiers, nodes, nodes_all, nodes_specifiers, nodes_specifier, nodes_members, nodes_enumerators, nodes_declarators, nodes_declarator, nodes_parameters, nodes_initialiser, nodes_initialisers, nodes_value, nodes_items, nodes_declaration, nodes_declarations, nodes_optional, nodes_statement, nodes_statements, nodes_external, nodes_file, first_deeper}
-use Rattle.dae_tree.specs.Trees.{Expression, Expressions, Specifiers, Specifier, Members, Enumerators, Declarators, Declarator, Parameters, Initialiser, Initialisers, BlockItem, Declaration, Statement, Statements, External, Identifier, Number, Literal, Parenthesised, Index, Call, Member, Postfix, Prefix, SizeofExpression, SizeofType, Cast, Binary, Conditional, Assignment, Comma, no_expressions, expression_then, no_specifiers, specifier_then, Word, TypeName, Structure, StructureBody, Enumeration, EnumerationBody, no_members, member_then, no_enumerators, plain_then, valued_then, no_declarators, declarator_then, Absent, Named, Pointer, Grouped, Unsized, Sized, Empty, Void, Function, no_parameters, parameter_then, Value, Listed, no_initialisers, initialiser_then, Block, Nothing, Evaluate, If, IfElse, While, Do, For, Break, Continue, Return, Switch, Case, Default, no_statements, statement_then, Declared, Defined}
+use Rattle.dae_tree.specs.Trees.{Expression, Expressions, Specifiers, Specifier, Members, Enumerators, Declarators, Declarator, Parameters, Initialiser, Initialisers, InitDeclarator, Declaration, Statement, Statements, External, Identifier, Number, Literal, Parenthesised, Index, Call, Member, Postfix, Prefix, SizeofExpression, SizeofType, Cast, Binary, Conditional, Assignment, Comma, no_expressions, expression_then, no_specifiers, specifier_then, Word, TypeName, Structure, StructureBody, Enumeration, EnumerationBody, no_members, member_then, no_enumerators, plain_then, valued_then, no_declarators, declarator_then, Absent, Named, Pointer, Grouped, Unsized, Sized, Empty, Void, Function, no_parameters, parameter_then, Value, Listed, no_initialisers, initialiser_then, Block, Nothing, Evaluate, If, IfElse, While, Do, For, Break, Continue, Return, Switch, Case, Default, no_statements, statement_then, Declared, Defined}
 use Rattle.dae_parse_grammar.specs.FirstPlaces.{Places, or_else, nowhere, both, over, firsts, firsts_all, firsts_specifiers, firsts_specifier, firsts_members, firsts_enumerators, firsts_declarators, firsts_declarator, firsts_parameters, firsts_initialiser, firsts_initialisers, firsts_value, firsts_items, firsts_declaration, firsts_declarations, firsts_optional, firsts_statement, firsts_statements, firsts_external, firsts_file}
 
 -- nodes before others, and the first of them at each depth
@@ -112,7 +112,7 @@ pub says_value : (x : Option (Place × Initialiser)) → Says (nodes_value x) (f
 says_value None = says_none
 says_value (Some x) = says_initialiser x.1
 
-pub says_items : (x : List BlockItem) → Says (nodes_items x) (firsts_items x)
+pub says_items : (x : List InitDeclarator) → Says (nodes_items x) (firsts_items x)
 says_items [] = says_none
 says_items (i ∷ items) = says_both (says_declarator i.declarator) (says_both (says_value i.initialiser) (says_items items))
 

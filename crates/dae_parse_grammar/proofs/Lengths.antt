@@ -5,7 +5,7 @@ use Rattle.dae_tree.specs.Marks.{TokenMark, close_brace, close_bracket, close_pa
 use Rattle.dae_tree.specs.Operators.{assignment_sign, binary_sign, member_sign, postfix_sign, prefix_sign}
 use Rattle.dae_tree.specs.Spelling.{spell, spell_all, spell_comma, spell_declarator, spell_declarators, spell_enumerators, spell_members, spell_more, spell_more_declarators, spell_more_enumerators, spell_more_parameters, spell_parameters, spell_qualifiers, spell_specifier, spell_specifiers, spell_tag}
 use Rattle.dae_tree.specs.Statements.{spell_declaration, spell_declarations, spell_external, spell_file, spell_initialiser, spell_initialisers, spell_item, spell_items, spell_more_initialisers, spell_more_items, spell_optional, spell_statement, spell_statements, spell_test, spell_value}
-use Rattle.dae_tree.specs.Trees.{Absent, Assignment, Binary, Block, Break, Call, Case, Cast, Comma, Conditional, Continue, Declaration, Declarator, Declarators, Declared, Default, Defined, Do, Empty, Enumeration, EnumerationBody, Enumerators, Evaluate, Expression, Expressions, External, For, Function, Grouped, Identifier, If, IfElse, Index, Initialiser, Initialisers, BlockItem, Listed, Literal, Member, Members, Named, Nothing, Number, Parameters, Parenthesised, Pointer, Postfix, Prefix, Return, Sized, SizeofExpression, SizeofType, Specifier, Specifiers, Statement, Statements, Structure, StructureBody, Switch, TypeName, Unsized, Value, Void, While, Word, declarator_then, expression_then, initialiser_then, member_then, no_declarators, no_enumerators, no_expressions, no_initialisers, no_members, no_parameters, no_specifiers, no_statements, parameter_then, plain_then, specifier_then, statement_then, valued_then}
+use Rattle.dae_tree.specs.Trees.{Absent, Assignment, Binary, Block, Break, Call, Case, Cast, Comma, Conditional, Continue, Declaration, Declarator, Declarators, Declared, Default, Defined, Do, Empty, Enumeration, EnumerationBody, Enumerators, Evaluate, Expression, Expressions, External, For, Function, Grouped, Identifier, If, IfElse, Index, Initialiser, Initialisers, InitDeclarator, Listed, Literal, Member, Members, Named, Nothing, Number, Parameters, Parenthesised, Pointer, Postfix, Prefix, Return, Sized, SizeofExpression, SizeofType, Specifier, Specifiers, Statement, Statements, Structure, StructureBody, Switch, TypeName, Unsized, Value, Void, While, Word, declarator_then, expression_then, initialiser_then, member_then, no_declarators, no_enumerators, no_expressions, no_initialisers, no_members, no_parameters, no_specifiers, no_statements, parameter_then, plain_then, specifier_then, statement_then, valued_then}
 use Rattle.dae_tree.specs.declared.expressions.Name.{Name}
 use Rattle.dae_tree.specs.declared.signs.Sign.TheVariants as signs
 use Rattle.dae_tree.specs.declared.words.Keyword.TheVariants as keywords
@@ -131,14 +131,14 @@ pub adds_value : (x : Option (Place × Initialiser)) → Adds (spell_value x)
 adds_value None = adds_none
 adds_value (Some x) = adds_mark (sign signs.Assign x.0) (adds_initialiser x.1)
 
-pub adds_item : (x : BlockItem) → Adds (spell_item x)
+pub adds_item : (x : InitDeclarator) → Adds (spell_item x)
 adds_item i = adds_both (adds_declarator i.declarator) (adds_value i.initialiser)
 
-pub adds_more_items : (x : List BlockItem) → Adds (spell_more_items x)
+pub adds_more_items : (x : List InitDeclarator) → Adds (spell_more_items x)
 adds_more_items [] = adds_none
 adds_more_items (i ∷ items) = adds_mark (part comma) (adds_both (adds_item i) (adds_more_items items))
 
-pub adds_items : (x : List BlockItem) → Adds (spell_items x)
+pub adds_items : (x : List InitDeclarator) → Adds (spell_items x)
 adds_items [] = adds_none
 adds_items (i ∷ items) = adds_both (adds_item i) (adds_more_items items)
 

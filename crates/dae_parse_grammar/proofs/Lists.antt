@@ -6,7 +6,7 @@ use Rattle.dae_tree.specs.Words.{nothing_seen}
 use Rattle.dae_tree.specs.Names.{Names, after_all, after_specifiers, after_members, after_enumerators, after_declarators, after_initialisers, after_items, after_declarations}
 use Rattle.dae_tree.specs.Grammar.{AreArguments, IsSpecifiers, AreMembers, AreEnumerators, AreDeclarators, AreParameters, HasMember, HasEnumerator, HasDeclarator, HasParameter}
 use Rattle.dae_tree.specs.Statements.{AreInitialisers, HasInitialiser, AreItems, AreDeclarations, AreStatements, AreExternals}
-use Rattle.dae_tree.specs.Trees.{Expression, Expressions, Specifiers, Specifier, Members, Enumerators, Declarators, Declarator, Parameters, Initialiser, Initialisers, BlockItem, Declaration, Statement, Statements, External, expression_then, specifier_then, member_then, declarator_then, parameter_then, initialiser_then, statement_then}
+use Rattle.dae_tree.specs.Trees.{Expression, Expressions, Specifiers, Specifier, Members, Enumerators, Declarators, Declarator, Parameters, Initialiser, Initialisers, InitDeclarator, Declaration, Statement, Statements, External, expression_then, specifier_then, member_then, declarator_then, parameter_then, initialiser_then, statement_then}
 use Rattle.dae_tree.specs.Lists.{MemberLine, EnumEntry, Parameter}
 use Rattle.dae_parse_grammar.specs.Machine.{arguments_onto, specifiers_onto, members_onto, enumerators_onto, enumerator_before, declarators_onto, parameters_onto, initialisers_onto, statements_onto, onto}
 use Rattle.dae_parse_grammar.specs.Standing.{now_arguments, now_specifiers, now_lines, now_entries, after_entry, now_declarators, now_parameters, now_initialisers, now_items, now_declarations, now_statements, now_externals, ArgumentsHold, seen_now, SpecifiersHold, LinesHold, EntryValueHolds, EntriesHold, DeclaratorsHold, ParametersHold, InitialisersHold, ItemsHold, DeclarationsHold, StatementsHold, ExternalsHold}
@@ -104,11 +104,11 @@ pub initialisers_some : (before : List Initialiser) (xs : Initialisers) → HasI
 initialisers_some [] xs h = h
 initialisers_some (x ∷ before) xs h = initialisers_some before (initialiser_then x xs) tt
 
-pub items_hold : (is : Bool) (n : Names) (before items : List BlockItem) → ItemsHold is n before → AreItems is (now_items is before n) items → AreItems is n (onto before items)
+pub items_hold : (is : Bool) (n : Names) (before items : List InitDeclarator) → ItemsHold is n before → AreItems is (now_items is before n) items → AreItems is n (onto before items)
 items_hold is n [] items h i = i
 items_hold is n (x ∷ before) items h i = items_hold is n before (x ∷ items) h.0 (h.1, i)
 
-pub items_now : (is : Bool) (n : Names) (before items : List BlockItem) → after_items is items (now_items is before n) ≡ after_items is (onto before items) n
+pub items_now : (is : Bool) (n : Names) (before items : List InitDeclarator) → after_items is items (now_items is before n) ≡ after_items is (onto before items) n
 items_now is n [] items = refl
 items_now is n (x ∷ before) items = items_now is n before (x ∷ items)
 

@@ -12,7 +12,7 @@ use Rattle.dae_tree.specs.declared.seen.Seen.{Seen}
 use Rattle.dae_tree.specs.Words.{nothing_seen, has_type, admits, with_word, with_whole}
 use Rattle.dae_tree.specs.Names.{Names, is_type, has_typedef, with_declarator, after_specifiers, after_declarator}
 use Rattle.dae_tree.specs.Grammar.{Manner, by_name, without_name, either_way, IsSpecifiers, IsDeclarator, IsPresent, IsNoType, leading_name, void_alone, AreParameters, HasParameter}
-use Rattle.dae_tree.specs.Trees.{Specifiers, Specifier, Declarator, Parameters, BlockItem, no_specifiers, no_members, member_then, no_enumerators, no_declarators, declarator_then, Absent, Named, Pointer, Grouped, Unsized, Empty, Void, Function, no_parameters, parameter_then}
+use Rattle.dae_tree.specs.Trees.{Specifiers, Specifier, Declarator, Parameters, InitDeclarator, no_specifiers, no_members, member_then, no_enumerators, no_declarators, declarator_then, Absent, Named, Pointer, Grouped, Unsized, Empty, Void, Function, no_parameters, parameter_then}
 use Rattle.dae_tree.specs.Lists.{MemberLine, EnumEntry, Parameter}
 use Rattle.dae_parse_grammar.specs.Frames.{TypeBody, OpenParameters, Frame, in_group, for_cast, for_sizeof, for_parameter, for_member, for_declaration, behind_star, of_cast, of_sizeof, of_parameter, of_member, of_item, specifying, declaring, suffixing, gave_declarator, state, awaits_specifiers, awaits_declarator, SpecifiersFrame, DeclaratorFrame}
 use Rattle.dae_parse_grammar.specs.Machine.{specifiers_end, word_taken, specified, body, body_opened, tag_taken, tag_alone, tag_followed, members_followed, enumerator_named, enumerator_followed, enumeration_closed, entry_followed, comma_followed, declaration_begun, specifiers_given, begins_parameters, parenthesis_declared, nothing_declared, bracket_declared, name_declared, declared, qualified, suffixed, sized, parameters_opened, closed_by, parameter_given, member_given, item_given, declarator_given, plain_item, parameters_onto}
@@ -273,12 +273,12 @@ hold_member_line d b lines ws before s (sign signs.Semicolon p ∷ ts) i st =
     )
 hold_member_line d b lines ws before s (_ ∷ ts) i st = tt
 
-hold_plain : (outer : Bool) (d : Declarator) (ws : Specifiers) (before : List BlockItem) (s : List Frame) (ts : List TokenMark)
+hold_plain : (outer : Bool) (d : Declarator) (ws : Specifiers) (before : List InitDeclarator) (s : List Frame) (ts : List TokenMark)
     → IsDeclarator by_name (stack_names (awaits_declarator (of_item outer ws before) ∷ s)) d → IsStack (awaits_declarator (of_item outer ws before) ∷ s)
     → Then (plain_item d ws before s (with_declarator (has_typedef ws) d (after_declarator d (stack_names (awaits_declarator (of_item outer ws before) ∷ s)))) ts)
 hold_plain outer d ws before s ts i st = (refl, (st.0.0, (st.0.1, (i, tt))), st.1)
 
-hold_item : (outer : Bool) (d : Declarator) (ws : Specifiers) (before : List BlockItem) (s : List Frame) (ts : List TokenMark)
+hold_item : (outer : Bool) (d : Declarator) (ws : Specifiers) (before : List InitDeclarator) (s : List Frame) (ts : List TokenMark)
     → IsDeclarator by_name (stack_names (awaits_declarator (of_item outer ws before) ∷ s)) d → IsStack (awaits_declarator (of_item outer ws before) ∷ s)
     → Then (item_given outer d ws before s (with_declarator (has_typedef ws) d (after_declarator d (stack_names (awaits_declarator (of_item outer ws before) ∷ s)))) ts)
 hold_item true d ws [] s [] i st = hold_plain true d ws [] s [] i st

@@ -10,7 +10,7 @@ use Rattle.dae_tree.specs.Marks.{TokenMark, word, sign, part, close_paren, close
 use Rattle.dae_tree.specs.Words.{begins_specifiers}
 use Rattle.dae_tree.specs.Names.{Names, has_typedef, after, after_specifiers, after_initialiser, after_item, after_declaration, after_optional, after_statement}
 use Rattle.dae_tree.specs.Statements.{IsInitialiser, IsDeclaration, IsStatement, takes_else}
-use Rattle.dae_tree.specs.Trees.{Expression, Specifiers, Declarator, Initialiser, BlockItem, Declaration, Statement, External, no_initialisers, initialiser_then, Block, no_statements}
+use Rattle.dae_tree.specs.Trees.{Expression, Specifiers, Declarator, Initialiser, InitDeclarator, Declaration, Statement, External, no_initialisers, initialiser_then, Block, no_statements}
 use Rattle.dae_parse_grammar.specs.Frames.{Loop, Inside, Frame, in_list, of_value, in_file, in_block, then_branch, else_branch, while_body, switch_body, do_body, for_body, case_body, default_body, in_statements, in_definition, Doing, seek, operated, gave, calling, measuring, specifying, tagging, tagged, membering, enumerating, enumerated, entered, entering, gave_specifiers, declaring, qualifying, suffixing, sizing, parametering, gave_declarator, initialising, listing, gave_initialiser, itemed, gave_declaration, externals, declarations, statements, stating, opening, finishing, looping, starting, testing, stepping, returning, breaking, continuing, defaulting, gave_statement, state, awaits_expression, awaits_specifiers, awaits_declarator, awaits_initialiser, awaits_declaration, awaits_statement, StatementFrame}
 use Rattle.dae_parse_grammar.specs.Machine.{step, initialised, listed, list_followed, list_closed, initialiser_taken, item_followed, declaration_taken, external_begun, block_begun, block_followed, evaluation_begun, sign_stated, word_stated, stated, started, loop_tested, stepped, returned, branched, done_followed, defined, statement_given}
 use Rattle.dae_parse_grammar.specs.Standing.{stack_names, doing_names, now_initialisers, now_items, now_declarations, now_statements, now_externals, InitialisersHold, StatementsHold, ExternalsHold, IsInside, IsLoop, IsStack, IsDoing, Holds}
@@ -52,7 +52,7 @@ hold_initialiser x (awaits_initialiser (in_list p before) ∷ s) ts i st = hold_
 hold_initialiser x (awaits_initialiser (of_value ws before d p) ∷ s) ts i st = (refl, (st.0.0, (st.0.1, (st.0.2, i))), st.1)
 hold_initialiser x (_ ∷ s) ts i st = tt
 
-hold_itemed : (ws : Specifiers) (i : BlockItem) (before : List BlockItem) (s : List Frame) (ts : List TokenMark) → IsDoing (itemed ws i before) s (stack_names s) ts → IsStack s
+hold_itemed : (ws : Specifiers) (i : InitDeclarator) (before : List InitDeclarator) (s : List Frame) (ts : List TokenMark) → IsDoing (itemed ws i before) s (stack_names s) ts → IsStack s
     → Then (item_followed ws i before s (after_item (has_typedef ws) i (now_items (has_typedef ws) before (after_specifiers ws (stack_names s)))) ts)
 hold_itemed ws i before s [] h st = tt
 hold_itemed ws i before s (part comma ∷ ts) h st = (refl, (refl, tt, tt), ((h.0, h.1), st))

@@ -8,7 +8,7 @@ use Rattle.dae_tree.specs.Names.{Names, has_typedef, with_declarator, after, aft
 use Rattle.dae_tree.specs.Spelling.{spell, spell_specifiers, spell_declarator, spell_comma}
 use Rattle.dae_tree.specs.Grammar.{by_name, IsExpression, IsSpecifiers, IsPresent}
 use Rattle.dae_tree.specs.Statements.{spell_initialiser, spell_more_initialisers, spell_value, spell_item, spell_items, spell_more_items, spell_declaration, IsInitialiser, AreInitialisers, IsValue, AreItems, IsDeclaration}
-use Rattle.dae_tree.specs.Trees.{Expression, Specifiers, Declarator, Initialiser, Initialisers, BlockItem, Declaration, Absent, Named, Pointer, Grouped, Unsized, Sized, Empty, Void, Function, Value, Listed, no_initialisers, initialiser_then}
+use Rattle.dae_tree.specs.Trees.{Expression, Specifiers, Declarator, Initialiser, Initialisers, InitDeclarator, Declaration, Absent, Named, Pointer, Grouped, Unsized, Sized, Empty, Void, Function, Value, Listed, no_initialisers, initialiser_then}
 use Rattle.dae_parse_grammar.specs.Frames.{Frame, in_value, for_declaration, of_item, in_list, of_value, seek, gave, specifying, gave_specifiers, declaring, gave_declarator, initialising, gave_initialiser, itemed, gave_declaration, ParserState, state, awaits_expression, awaits_specifiers, awaits_declarator, awaits_initialiser}
 use Rattle.dae_parse_grammar.specs.Machine.{onto, initialisers_onto, initialised, list_followed, item_given, declaration_begun}
 use Rattle.dae_parse_grammar.specs.Runs.{IsBackward}
@@ -79,16 +79,16 @@ mutual
 
 -- ---- items
 
-front_items : (items : List BlockItem) (p : Place) (rest : List TokenMark) → 15 < front (spell_more_items items (sign signs.Semicolon p ∷ rest))
+front_items : (items : List InitDeclarator) (p : Place) (rest : List TokenMark) → 15 < front (spell_more_items items (sign signs.Semicolon p ∷ rest))
 front_items [] p rest = omega arith
 front_items (i ∷ items) p rest = omega arith
 
-pub follows_item : (v : Option (Place × Initialiser)) (items : List BlockItem) (p : Place) (rest : List TokenMark) → FollowsDeclarator (spell_value v (spell_more_items items (sign signs.Semicolon p ∷ rest)))
+pub follows_item : (v : Option (Place × Initialiser)) (items : List InitDeclarator) (p : Place) (rest : List TokenMark) → FollowsDeclarator (spell_value v (spell_more_items items (sign signs.Semicolon p ∷ rest)))
 follows_item (Some x) items p rest = tt
 follows_item None [] p rest = tt
 follows_item None (i ∷ items) p rest = tt
 
-pub plain_end : (outer : Bool) (d : Declarator) (ws : Specifiers) (before items : List BlockItem) (s : List Frame) (names : Names) (p : Place) (rest : List TokenMark)
+pub plain_end : (outer : Bool) (d : Declarator) (ws : Specifiers) (before items : List InitDeclarator) (s : List Frame) (names : Names) (p : Place) (rest : List TokenMark)
     → let ts = spell_more_items items (sign signs.Semicolon p ∷ rest) in
     item_given outer d ws before s names ts ≡ Some (state (itemed ws (record { declarator = d; initialiser = None }) before) s names ts)
 plain_end true d ws [] [] s names p rest = refl
@@ -98,7 +98,7 @@ plain_end true d ws (b ∷ before) (i ∷ items) s names p rest = refl
 plain_end false d ws before [] s names p rest = refl
 plain_end false d ws before (i ∷ items) s names p rest = refl
 
-valued_begin : (outer : Bool) (d : Declarator) (ws : Specifiers) (before : List BlockItem) (s : List Frame) (names : Names) (p : Place) (ts : List TokenMark)
+valued_begin : (outer : Bool) (d : Declarator) (ws : Specifiers) (before : List InitDeclarator) (s : List Frame) (names : Names) (p : Place) (ts : List TokenMark)
     → item_given outer d ws before s names (sign signs.Assign p ∷ ts) ≡ Some (state initialising (awaits_initialiser (of_value ws before d p) ∷ s) names ts)
 valued_begin true d ws [] s names p ts = refl
 valued_begin true d ws (b ∷ before) s names p ts = refl
@@ -106,7 +106,7 @@ valued_begin false d ws before s names p ts = refl
 
 -- behind the declarator of an item
 pub read_value : {P : ParserState → Type 0} → IsBackward P → (v : Option (Place × Initialiser)) (d : Declarator) (ws : Specifiers) (names : Names) → IsValue (with_declarator (has_typedef ws) d names) v
-    → (outer : Bool) (before items : List BlockItem) (p : Place) (s : List Frame) (rest : List TokenMark)
+    → (outer : Bool) (before items : List InitDeclarator) (p : Place) (s : List Frame) (rest : List TokenMark)
     → P (state (itemed ws (record { declarator = d; initialiser = v }) before) s (after_value v (with_declarator (has_typedef ws) d names)) (spell_more_items items (sign signs.Semicolon p ∷ rest)))
     → P (state (gave_declarator d) (awaits_declarator (of_item outer ws before) ∷ s) names (spell_value v (spell_more_items items (sign signs.Semicolon p ∷ rest))))
 read_value back None d ws names i outer before items p s rest k =
@@ -115,8 +115,8 @@ read_value back (Some x) d ws names i outer before items p s rest k =
     to back _ _ (valued_begin outer d ws before s (with_declarator (has_typedef ws) d names) x.0 (spell_initialiser x.1 (spell_more_items items (sign signs.Semicolon p ∷ rest))))
     (read_initialiser back x.1 (with_declarator (has_typedef ws) d names) i (awaits_initialiser (of_value ws before d x.0) ∷ s) (spell_more_items items (sign signs.Semicolon p ∷ rest)) (front_items items p rest) (back _ k))
 
-pub read_items : {P : ParserState → Type 0} → IsBackward P → (items : List BlockItem) (i : BlockItem) (ws : Specifiers) (names : Names) → AreItems (has_typedef ws) names (i ∷ items)
-    → (outer : Bool) (before : List BlockItem) (p : Place) (s : List Frame) (rest : List TokenMark)
+pub read_items : {P : ParserState → Type 0} → IsBackward P → (items : List InitDeclarator) (i : InitDeclarator) (ws : Specifiers) (names : Names) → AreItems (has_typedef ws) names (i ∷ items)
+    → (outer : Bool) (before : List InitDeclarator) (p : Place) (s : List Frame) (rest : List TokenMark)
     → P (state (gave_declaration (record { specifiers = ws; items = onto before (i ∷ items); end = p })) s (after_items (has_typedef ws) (i ∷ items) names) rest)
     → P (state (declaring by_name false) (awaits_declarator (of_item outer ws before) ∷ s) names (spell_item i (spell_more_items items (sign signs.Semicolon p ∷ rest))))
 read_items back [] i ws names h outer before p s rest k =
@@ -157,7 +157,7 @@ begun_end outer ws s names [] h = refl
 begun_end outer ws s names (sign signs.Semicolon p ∷ ts) h = absurd h
 begun_end outer ws s names (_ ∷ ts) h = refl
 
-pub read_declared : {P : ParserState → Type 0} → IsBackward P → (ws : Specifiers) (items : List BlockItem) (p : Place) (names : Names) → IsSpecifiers nothing_seen names ws → AreItems (has_typedef ws) (after_specifiers ws names) items
+pub read_declared : {P : ParserState → Type 0} → IsBackward P → (ws : Specifiers) (items : List InitDeclarator) (p : Place) (names : Names) → IsSpecifiers nothing_seen names ws → AreItems (has_typedef ws) (after_specifiers ws names) items
     → (outer : Bool) (s : List Frame) (rest : List TokenMark)
     → P (state (gave_declaration (record { specifiers = ws; items = items; end = p })) s (after_items (has_typedef ws) items (after_specifiers ws names)) rest)
     → P (state (specifying nothing_seen []) (awaits_specifiers (for_declaration outer) ∷ s) names (spell_specifiers ws (spell_items items (sign signs.Semicolon p ∷ rest))))

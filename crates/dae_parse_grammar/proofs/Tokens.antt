@@ -16,7 +16,7 @@ use Rattle.dae_tree.specs.Names.{Names, is_type, has_typedef, with_declarator}
 use Rattle.dae_tree.specs.Spelling.{spell, spell_all, spell_more, spell_specifiers, spell_specifier, spell_members, spell_enumerators, spell_more_enumerators, spell_declarators, spell_more_declarators, spell_declarator, spell_parameters, spell_more_parameters, spell_qualifiers, spell_tag}
 use Rattle.dae_tree.specs.Statements.{spell_initialiser, spell_initialisers, spell_more_initialisers, spell_declaration, spell_optional, spell_test, spell_statement, spell_item, spell_items, spell_more_items, spell_declarations, spell_statements, spell_file}
 use Rattle.dae_tree.specs.Grammar.{Manner, by_name, without_name, either_way}
-use Rattle.dae_tree.specs.Trees.{Expression, Expressions, Specifiers, Specifier, Members, Enumerators, Declarators, Declarator, Parameters, Initialiser, Initialisers, BlockItem, Declaration, Statement, Statements, External, no_expressions, expression_then, no_specifiers, specifier_then, Word, no_members, member_then, no_enumerators, no_declarators, declarator_then, Absent, no_parameters, parameter_then, no_initialisers, initialiser_then, no_statements, statement_then, Block}
+use Rattle.dae_tree.specs.Trees.{Expression, Expressions, Specifiers, Specifier, Members, Enumerators, Declarators, Declarator, Parameters, Initialiser, Initialisers, InitDeclarator, Declaration, Statement, Statements, External, no_expressions, expression_then, no_specifiers, specifier_then, Word, no_members, member_then, no_enumerators, no_declarators, declarator_then, Absent, no_parameters, parameter_then, no_initialisers, initialiser_then, no_statements, statement_then, Block}
 use Rattle.dae_tree.specs.Lists.{MemberLine, EnumEntry, Parameter}
 use Rattle.dae_parse_grammar.specs.Frames.{TypeBody, OpenParameters, StatementHead, Loop, Inside, if_head, while_head, switch_head, do_head, Frame, in_parentheses, in_index, in_arguments, behind_prefix, behind_sizeof, behind_cast, behind_binary, behind_question, behind_colon, behind_assignment, behind_comma, in_size, in_enumerator, in_value, in_evaluation, in_test, in_start, in_loop_test, in_step, in_return, in_case, for_cast, for_sizeof, for_parameter, for_member, for_declaration, behind_star, in_group, of_cast, of_sizeof, of_parameter, of_member, of_item, in_list, of_value, in_file, in_block, then_branch, else_branch, while_body, switch_body, do_body, for_body, case_body, default_body, in_statements, in_definition, Doing, seek, operated, gave, calling, measuring, specifying, tagging, tagged, membering, enumerating, enumerated, entered, entering, gave_specifiers, declaring, qualifying, suffixing, sizing, parametering, gave_declarator, initialising, listing, gave_initialiser, itemed, gave_declaration, externals, declarations, statements, stating, opening, finishing, looping, starting, testing, stepping, returning, breaking, continuing, defaulting, gave_statement, ParserState, state, awaits_expression, awaits_specifiers, awaits_declarator, awaits_initialiser, awaits_declaration, awaits_statement, ExpressionFrame, SpecifiersFrame, DeclaratorFrame, StatementFrame}
 use Rattle.dae_parse_grammar.specs.Machine.{closed, initialised, listed, list_followed, initialiser_taken, item_followed, declaration_taken, external_begun, block_followed, sign_stated, word_stated, stated, started, loop_tested, stepped, returned, branched, done_followed, defined, statement_given, called, measured, enumerator_named, enumerator_followed, declaration_begun, specifiers_given, nothing_declared, begins_parameters, parenthesis_declared, bracket_declared, name_declared, declared, qualified, suffixed, sized, parameters_opened, parameter_given, member_given, item_given, declarator_given, at_paren, at_bracket, at_colon, at_semicolon, at_open, sign_sought, sought, named_member, operated_at, argument_given, tested, expression_given, specifiers_end, word_taken, specified, body, body_opened, tag_taken, tag_alone, tag_followed, members_followed, entry_followed, comma_followed, step, arguments_onto, specifiers_onto, members_onto, enumerators_onto, enumerator_before, declarators_onto, parameters_onto, initialisers_onto, statements_onto, onto, operation, operate, goes_on}
@@ -78,7 +78,7 @@ initialisers_spelled : (before : List Initialiser) (x : Initialiser) (xs : Initi
 initialisers_spelled [] x xs ts = refl
 initialisers_spelled (y ∷ before) x xs ts = initialisers_spelled before y (initialiser_then x xs) ts
 
-items_spelled : (before : List BlockItem) (i : BlockItem) (items : List BlockItem) (ts : List TokenMark)
+items_spelled : (before : List InitDeclarator) (i : InitDeclarator) (items : List InitDeclarator) (ts : List TokenMark)
     → spell_items (onto before (i ∷ items)) ts ≡ items_before before (spell_item i (spell_more_items items ts))
 items_spelled [] i items ts = refl
 items_spelled (j ∷ before) i items ts = items_spelled before j (i ∷ items) ts
@@ -350,7 +350,7 @@ keeps_member_line d b lines ws before s names (part comma ∷ ts) = refl
 keeps_member_line d b lines ws before s names (sign signs.Semicolon p ∷ ts) = ap (λ (us : List TokenMark). stack_taken s (body_begun true b (lines_before lines (spell_specifiers ws us)))) (declarators_spelled before d no_declarators (sign signs.Semicolon p ∷ ts))
 keeps_member_line d b lines ws before s names (_ ∷ ts) = tt
 
-keeps_item : (outer : Bool) (d : Declarator) (ws : Specifiers) (before : List BlockItem) (s : List Frame) (names : Names) (ts : List TokenMark)
+keeps_item : (outer : Bool) (d : Declarator) (ws : Specifiers) (before : List InitDeclarator) (s : List Frame) (names : Names) (ts : List TokenMark)
     → Keeps (stack_taken s (spell_specifiers ws (items_before before (spell_declarator d ts)))) (item_given outer d ws before s names ts)
 keeps_item true d ws [] s names [] = refl
 keeps_item true d ws [] s names (sign signs.Assign p ∷ ts) = refl
@@ -398,7 +398,7 @@ keeps_initialiser x (awaits_initialiser (in_list p before) ∷ s) names ts = kee
 keeps_initialiser x (awaits_initialiser (of_value ws before d p) ∷ s) names ts = refl
 keeps_initialiser x (_ ∷ s) names ts = tt
 
-keeps_itemed : (ws : Specifiers) (i : BlockItem) (before : List BlockItem) (s : List Frame) (names : Names) (ts : List TokenMark)
+keeps_itemed : (ws : Specifiers) (i : InitDeclarator) (before : List InitDeclarator) (s : List Frame) (names : Names) (ts : List TokenMark)
     → Keeps (stack_taken s (spell_specifiers ws (items_before before (spell_item i ts)))) (item_followed ws i before s names ts)
 keeps_itemed ws i before s names [] = tt
 keeps_itemed ws i before s names (part comma ∷ ts) = refl

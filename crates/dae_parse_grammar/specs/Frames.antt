@@ -11,7 +11,7 @@ use Rattle.dae_tree.specs.Names.{Names}
 use Rattle.dae_tree.specs.declared.seen.Seen.{Seen}
 use Rattle.dae_tree.specs.Grammar.{Manner}
 use Rattle.dae_tree.specs.Lists.{MemberLine, EnumEntry, Parameter}
-use Rattle.dae_tree.specs.Trees.{Expression, Specifiers, Specifier, Declarator, Initialiser, BlockItem, Declaration, Statement, External}
+use Rattle.dae_tree.specs.Trees.{Expression, Specifiers, Specifier, Declarator, Initialiser, InitDeclarator, Declaration, Statement, External}
 
 -- the body of a structure or enumeration: its first word, tag and brace, and the specifiers before it, the last first
 pub record TypeBody : Type 0 where
@@ -93,12 +93,12 @@ pub data DeclaratorFrame : Type 0 where
   of_sizeof : Place → Place → Specifiers → ℕ → DeclaratorFrame
   of_parameter : OpenParameters → List Parameter → Specifiers → DeclaratorFrame
   of_member : TypeBody → List MemberLine → Specifiers → List Declarator → DeclaratorFrame
-  of_item : Bool → Specifiers → List BlockItem → DeclaratorFrame
+  of_item : Bool → Specifiers → List InitDeclarator → DeclaratorFrame
 
 -- what awaits an initialiser
 pub data InitialiserFrame : Type 0 where
   in_list : Place → List Initialiser → InitialiserFrame
-  of_value : Specifiers → List BlockItem → Declarator → Place → InitialiserFrame
+  of_value : Specifiers → List InitDeclarator → Declarator → Place → InitialiserFrame
 
 -- what awaits a declaration
 pub data DeclarationFrame : Type 0 where
@@ -156,7 +156,7 @@ pub data Doing : Type 0 where
   listing : Place → Initialiser → List Initialiser → Doing
   gave_initialiser : Initialiser → Doing
   -- declarations
-  itemed : Specifiers → BlockItem → List BlockItem → Doing
+  itemed : Specifiers → InitDeclarator → List InitDeclarator → Doing
   gave_declaration : Declaration → Doing
   externals : List External → Doing
   -- statements

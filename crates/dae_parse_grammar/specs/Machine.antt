@@ -18,7 +18,7 @@ use Rattle.dae_tree.specs.declared.seen.Seen.{Seen}
 use Rattle.dae_tree.specs.Words.{nothing_seen, has_type, admits, with_word, with_whole, begins_specifiers}
 use Rattle.dae_tree.specs.Names.{Names, is_type, with_name, with_declarator, has_typedef, with_parameters}
 use Rattle.dae_tree.specs.Grammar.{void_alone, Manner, by_name, without_name, either_way, level}
-use Rattle.dae_tree.specs.Trees.{Expression, Expressions, Specifiers, Specifier, Members, Enumerators, Declarators, Declarator, Parameters, Initialiser, Initialisers, BlockItem, Declaration, Statement, Statements, External, Identifier, Number, Literal, Parenthesised, Index, Call, Member, Postfix, Prefix, SizeofExpression, SizeofType, Cast, Binary, Conditional, Assignment, Comma, no_expressions, expression_then, no_specifiers, specifier_then, Word, TypeName, Structure, StructureBody, Enumeration, EnumerationBody, no_members, member_then, no_enumerators, plain_then, valued_then, no_declarators, declarator_then, Absent, Named, Pointer, Grouped, Unsized, Sized, Empty, Void, Function, no_parameters, parameter_then, Value, Listed, no_initialisers, initialiser_then, Block, Nothing, Evaluate, If, IfElse, While, Do, For, Break, Continue, Return, Switch, Case, Default, no_statements, statement_then, Declared, Defined}
+use Rattle.dae_tree.specs.Trees.{Expression, Expressions, Specifiers, Specifier, Members, Enumerators, Declarators, Declarator, Parameters, Initialiser, Initialisers, InitDeclarator, Declaration, Statement, Statements, External, Identifier, Number, Literal, Parenthesised, Index, Call, Member, Postfix, Prefix, SizeofExpression, SizeofType, Cast, Binary, Conditional, Assignment, Comma, no_expressions, expression_then, no_specifiers, specifier_then, Word, TypeName, Structure, StructureBody, Enumeration, EnumerationBody, no_members, member_then, no_enumerators, plain_then, valued_then, no_declarators, declarator_then, Absent, Named, Pointer, Grouped, Unsized, Sized, Empty, Void, Function, no_parameters, parameter_then, Value, Listed, no_initialisers, initialiser_then, Block, Nothing, Evaluate, If, IfElse, While, Do, For, Break, Continue, Return, Switch, Case, Default, no_statements, statement_then, Declared, Defined}
 use Rattle.dae_tree.specs.Lists.{MemberLine, EnumEntry, Parameter}
 use Rattle.dae_parse_grammar.specs.Frames.{TypeBody, OpenParameters, StatementHead, Loop, Inside, if_head, while_head, switch_head, do_head, Frame, in_parentheses, in_index, in_arguments, behind_prefix, behind_sizeof, behind_cast, behind_binary, behind_question, behind_colon, behind_assignment, behind_comma, in_size, in_enumerator, in_value, in_evaluation, in_test, in_start, in_loop_test, in_step, in_return, in_case, for_cast, for_sizeof, for_parameter, for_member, for_declaration, behind_star, in_group, of_cast, of_sizeof, of_parameter, of_member, of_item, in_list, of_value, in_file, in_block, then_branch, else_branch, while_body, switch_body, do_body, for_body, case_body, default_body, in_statements, in_definition, Doing, seek, operated, gave, calling, measuring, specifying, tagging, tagged, membering, enumerating, enumerated, entered, entering, gave_specifiers, declaring, qualifying, suffixing, sizing, parametering, gave_declarator, initialising, listing, gave_initialiser, itemed, gave_declaration, externals, declarations, statements, stating, opening, finishing, looping, starting, testing, stepping, returning, breaking, continuing, defaulting, gave_statement, ParserState, state, awaits_expression, awaits_specifiers, awaits_declarator, awaits_initialiser, awaits_declaration, awaits_statement, ExpressionFrame, SpecifiersFrame, DeclaratorFrame, StatementFrame}
 
@@ -353,7 +353,7 @@ member_given d b lines ws before s names (sign signs.Semicolon p ∷ ts) =
 member_given d b lines ws before s names _ = None
 
 -- an item without a value
-abbrev pub plain_item : Declarator → Specifiers → List BlockItem → List Frame → Names → List TokenMark → Option ParserState
+abbrev pub plain_item : Declarator → Specifiers → List InitDeclarator → List Frame → Names → List TokenMark → Option ParserState
 plain_item d ws before s names ts = Some (state (itemed ws (record { declarator = d; initialiser = None }) before) s names ts)
 
 abbrev pub definition_begun : Declarator → Specifiers → Place → List Frame → Names → List TokenMark → ParserState
@@ -362,7 +362,7 @@ definition_begun d ws p s names ts =
     state (declarations (record { place = p; declarations = []; outside = inner })) (awaits_statement (in_definition ws d names) ∷ s) inner ts
 
 -- a first declarator at file scope may begin a definition
-abbrev pub item_given : Bool → Declarator → Specifiers → List BlockItem → List Frame → Names → List TokenMark → Option ParserState
+abbrev pub item_given : Bool → Declarator → Specifiers → List InitDeclarator → List Frame → Names → List TokenMark → Option ParserState
 item_given outer d ws before s names (sign signs.Assign p ∷ ts) = Some (state initialising (awaits_initialiser (of_value ws before d p) ∷ s) names ts)
 item_given true d ws [] s names (sign signs.LeftBrace p ∷ ts) = Some (definition_begun d ws p s names ts)
 item_given outer d ws before s names ts = plain_item d ws before s names ts
@@ -404,7 +404,7 @@ initialiser_taken x (awaits_initialiser (of_value ws before d p) ∷ s) names ts
     Some (state (itemed ws (record { declarator = d; initialiser = Some (p, x) }) before) s names ts)
 initialiser_taken x _ names ts = None
 
-abbrev pub item_followed : Specifiers → BlockItem → List BlockItem → List Frame → Names → List TokenMark → Option ParserState
+abbrev pub item_followed : Specifiers → InitDeclarator → List InitDeclarator → List Frame → Names → List TokenMark → Option ParserState
 item_followed ws i before s names (part comma ∷ ts) = Some (state (declaring by_name false) (awaits_declarator (of_item false ws (i ∷ before)) ∷ s) names ts)
 item_followed ws i before s names (sign signs.Semicolon p ∷ ts) =
     Some (state (gave_declaration (record { specifiers = ws; items = onto (i ∷ before) []; end = p })) s names ts)

@@ -10,7 +10,7 @@ use Rattle.dae_tree.specs.Words.{nothing_seen, has_type, seen_after}
 use Rattle.dae_tree.specs.Names.{Names, has_typedef, with_name, with_declarator, after, after_specifiers, after_specifier, after_declarators, after_declarator, after_parameter, after_initialiser, after_item, after_declaration, after_optional, after_statement, after_external, inside_definition}
 use Rattle.dae_tree.specs.Grammar.{level, Manner, by_name, without_name, either_way, IsExpression, IsSpecifiers, IsSpecifier, AreDeclarators, IsDeclarator, IsDirect, IsPresent, IsGroup, HasDeclarator}
 use Rattle.dae_tree.specs.Statements.{IsInitialiser, IsItem, IsDeclaration, IsOptional, IsStatement, IsExternal, takes_else}
-use Rattle.dae_tree.specs.Trees.{Expression, Specifier, Declarator, Initialiser, BlockItem, Declaration, Statement, External, Absent}
+use Rattle.dae_tree.specs.Trees.{Expression, Specifier, Declarator, Initialiser, InitDeclarator, Declaration, Statement, External, Absent}
 use Rattle.dae_tree.specs.Lists.{MemberLine, EnumEntry, Parameter}
 use Rattle.dae_parse_grammar.specs.Frames.{TypeBody, OpenParameters, StatementHead, Loop, Inside, do_head, Frame, in_parentheses, in_index, in_arguments, behind_prefix, behind_sizeof, behind_cast, behind_binary, behind_question, behind_colon, behind_assignment, behind_comma, in_size, in_enumerator, in_value, in_test, in_loop_test, in_step, in_case, for_cast, for_sizeof, for_parameter, for_member, behind_star, in_group, of_cast, of_sizeof, of_parameter, of_member, of_item, in_list, of_value, in_file, in_block, then_branch, else_branch, while_body, switch_body, for_body, case_body, in_statements, in_definition, Doing, seek, operated, gave, calling, measuring, specifying, tagging, tagged, membering, enumerating, enumerated, entered, entering, gave_specifiers, declaring, qualifying, suffixing, sizing, parametering, gave_declarator, listing, gave_initialiser, itemed, gave_declaration, externals, declarations, statements, opening, finishing, testing, stepping, gave_statement, ParserState, state, awaits_expression, awaits_specifiers, awaits_declarator, awaits_initialiser, awaits_declaration, awaits_statement}
 use Rattle.dae_parse_grammar.specs.Machine.{begins_parameters}
@@ -53,7 +53,7 @@ abbrev pub now_initialisers : List Initialiser → Names → Names
 now_initialisers [] n = n
 now_initialisers (x ∷ before) n = after_initialiser x (now_initialisers before n)
 
-abbrev pub now_items : Bool → List BlockItem → Names → Names
+abbrev pub now_items : Bool → List InitDeclarator → Names → Names
 now_items is [] n = n
 now_items is (i ∷ before) n = after_item is i (now_items is before n)
 
@@ -190,7 +190,7 @@ abbrev pub InitialisersHold : Names → List Initialiser → Type 0
 InitialisersHold n [] = Unit {0}
 InitialisersHold n (x ∷ before) = InitialisersHold n before × IsInitialiser (now_initialisers before n) x
 
-abbrev pub ItemsHold : Bool → Names → List BlockItem → Type 0
+abbrev pub ItemsHold : Bool → Names → List InitDeclarator → Type 0
 ItemsHold is n [] = Unit {0}
 ItemsHold is n (i ∷ before) = ItemsHold is n before × IsItem is (now_items is before n) i
 

@@ -8,7 +8,7 @@ use Rattle.dae_tree.specs.Marks.{TokenMark, word, sign, name, part, close_paren,
 use Rattle.dae_tree.specs.Operators.{binary_sign, assignment_sign, prefix_sign}
 use Rattle.dae_tree.specs.Spelling.{spell, spell_specifiers, spell_specifier, spell_declarators, spell_declarator, spell_qualifiers, spell_tag}
 use Rattle.dae_tree.specs.Statements.{spell_initialiser, spell_item, spell_declaration, spell_optional, spell_test, spell_statement, spell_external}
-use Rattle.dae_tree.specs.Trees.{Expression, Specifier, Declarator, Initialiser, BlockItem, Declaration, Statement, External}
+use Rattle.dae_tree.specs.Trees.{Expression, Specifier, Declarator, Initialiser, InitDeclarator, Declaration, Statement, External}
 use Rattle.dae_tree.specs.Lists.{MemberLine, EnumEntry, Parameter}
 use Rattle.dae_parse_grammar.specs.Frames.{TypeBody, OpenParameters, StatementHead, Loop, Inside, if_head, while_head, switch_head, do_head, Frame, in_parentheses, in_index, in_arguments, behind_prefix, behind_sizeof, behind_cast, behind_binary, behind_question, behind_colon, behind_assignment, behind_comma, in_size, in_enumerator, in_value, in_evaluation, in_test, in_start, in_loop_test, in_step, in_return, in_case, for_cast, for_sizeof, for_parameter, for_member, for_declaration, behind_star, in_group, of_cast, of_sizeof, of_parameter, of_member, of_item, in_list, of_value, in_file, in_block, then_branch, else_branch, while_body, switch_body, do_body, for_body, case_body, default_body, in_statements, in_definition, Doing, seek, operated, gave, calling, measuring, specifying, tagging, tagged, membering, enumerating, enumerated, entered, entering, gave_specifiers, declaring, qualifying, suffixing, sizing, parametering, gave_declarator, initialising, listing, gave_initialiser, itemed, gave_declaration, externals, declarations, statements, stating, opening, finishing, looping, starting, testing, stepping, returning, breaking, continuing, defaulting, gave_statement, ParserState, state, awaits_expression, awaits_specifiers, awaits_declarator, awaits_initialiser, awaits_declaration, awaits_statement}
 
@@ -53,7 +53,7 @@ abbrev pub initialisers_before : List Initialiser → List TokenMark → List To
 initialisers_before [] ts = ts
 initialisers_before (x ∷ before) ts = initialisers_before before (spell_initialiser x (part comma ∷ ts))
 
-abbrev pub items_before : List BlockItem → List TokenMark → List TokenMark
+abbrev pub items_before : List InitDeclarator → List TokenMark → List TokenMark
 items_before [] ts = ts
 items_before (i ∷ before) ts = items_before before (spell_item i (part comma ∷ ts))
 

@@ -11,7 +11,7 @@ use Rattle.dae_tree.specs.declared.expressions.Enumerator.TheVariants as enumera
 use Rattle.dae_tree.specs.declared.expressions.Declarator.{Declarator}
 use Rattle.dae_tree.specs.declared.expressions.Parameter.{Parameter}
 use Rattle.dae_tree.specs.declared.statements.Initialiser.{Initialiser}
-use Rattle.dae_tree.specs.declared.statements.BlockItem.{BlockItem}
+use Rattle.dae_tree.specs.declared.statements.InitDeclarator.{InitDeclarator}
 use Rattle.dae_tree.specs.declared.statements.Declaration.{Declaration}
 use Rattle.dae_tree.specs.declared.statements.Statement.{Statement}
 use Rattle.dae_tree.specs.Trees as tree
@@ -251,21 +251,21 @@ shows_statements read before h = subst (λ rows. Shows (λ (list : Vec Statement
   seen = see_statements read.tree (onto before []) h.seen;
 })
 
-seen_items : (xs : List BlockItem) → view_items xs ≡ map view_item xs
+seen_items : (xs : List InitDeclarator) → view_items xs ≡ map view_item xs
 seen_items [] = refl
 seen_items (x ∷ xs) = ap (λ ys. view_item x ∷ ys) (seen_items xs)
 
-first_items : (list : List tree.BlockItem) (i : ℕ) → firsts_list firsts_item list i ≡ firsts_items list i
+first_items : (list : List tree.InitDeclarator) (i : ℕ) → firsts_list firsts_item list i ≡ firsts_items list i
 first_items [] i = refl
 first_items (a ∷ list) i =
     sym (or_else_along (firsts_declarator a.declarator i) (firsts_value a.initialiser i) (firsts_list firsts_item list i))
     ∙ ap (λ x. or_else (firsts_declarator a.declarator i) (or_else (firsts_value a.initialiser i) x)) (first_items list i)
 
-see_items : (o : Option (Vec BlockItem Global)) (list : List tree.BlockItem) → IsSeen (λ list. map view_item list.items) o list → IsSeen (λ list. view_items list.items) o list
+see_items : (o : Option (Vec InitDeclarator Global)) (list : List tree.InitDeclarator) → IsSeen (λ list. map view_item list.items) o list → IsSeen (λ list. view_items list.items) o list
 see_items None list h = tt
 see_items (Some v) list h = seen_items v.items ∙ h
 
-pub shows_items : (read : Read (Vec BlockItem Global)) (before : List tree.BlockItem) → ShowsItems read before → Shows (λ list. view_items list.items) firsts_items read (onto before [])
+pub shows_items : (read : Read (Vec InitDeclarator Global)) (before : List tree.InitDeclarator) → ShowsItems read before → Shows (λ list. view_items list.items) firsts_items read (onto before [])
 shows_items read before h = record {
   holds = holds_same read _ _ (first_items (onto before [])) h.holds;
   seen = see_items read.tree (onto before []) h.seen;

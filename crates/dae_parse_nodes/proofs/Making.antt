@@ -5,10 +5,10 @@ use Rattle.dae_tree.specs.declared.expressions.Name.{Name}
 use Rattle.dae_tree.specs.Trees as tree
 use Rattle.dae_tree.specs.Lists as lists
 
-abbrev pub plain_item : tree.Declarator → tree.BlockItem
+abbrev pub plain_item : tree.Declarator → tree.InitDeclarator
 plain_item d = record { declarator = d; initialiser = None }
 
-abbrev pub valued_item : Place → tree.Declarator → tree.Initialiser → tree.BlockItem
+abbrev pub valued_item : Place → tree.Declarator → tree.Initialiser → tree.InitDeclarator
 valued_item p d x = record { declarator = d; initialiser = Some (p, x) }
 
 abbrev pub valued_entry : Name → Place → tree.Expression → lists.EnumEntry
@@ -20,7 +20,7 @@ line_of p ws ds = record { specifiers = ws; declarators = ds; end = p }
 abbrev pub parameter_of : tree.Specifiers → tree.Declarator → lists.Parameter
 parameter_of ws d = record { specifiers = ws; declarator = d }
 
-abbrev pub declaration_of : Place → tree.Specifiers → List tree.BlockItem → tree.Declaration
+abbrev pub declaration_of : Place → tree.Specifiers → List tree.InitDeclarator → tree.Declaration
 declaration_of p ws items = record { specifiers = ws; items = items; end = p }
 
 pub defined_same : {ws ws' : tree.Specifiers} {d d' : tree.Declarator} {p p' : Place} {ds ds' : List tree.Declaration} {ss ss' : tree.Statements}

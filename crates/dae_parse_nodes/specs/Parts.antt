@@ -13,7 +13,7 @@ use Rattle.dae_tree.specs.declared.expressions.Enumerator.TheVariants as enumera
 use Rattle.dae_tree.specs.declared.expressions.Declarator.{Declarator}
 use Rattle.dae_tree.specs.declared.expressions.Parameter.{Parameter}
 use Rattle.dae_tree.specs.declared.statements.Initialiser.{Initialiser}
-use Rattle.dae_tree.specs.declared.statements.BlockItem.{BlockItem}
+use Rattle.dae_tree.specs.declared.statements.InitDeclarator.{InitDeclarator}
 use Rattle.dae_tree.specs.declared.statements.Declaration.{Declaration}
 use Rattle.dae_tree.specs.declared.statements.Statement.{Statement}
 use Rattle.dae_tree.specs.declared.statements.External.{External}
@@ -156,10 +156,10 @@ ShowsInitialiser = Shows view_initialiser firsts_initialiser
 abbrev pub ShowsInitialisers : Read (Vec Initialiser Global) → List tree.Initialiser → Type 0
 ShowsInitialisers = ShowsList view_initialiser firsts_initialiser
 
-abbrev pub firsts_item : tree.BlockItem → Places
+abbrev pub firsts_item : tree.InitDeclarator → Places
 firsts_item i = both (firsts_declarator i.declarator) (firsts_value i.initialiser)
 
-abbrev pub ShowsItems : Read (Vec BlockItem Global) → List tree.BlockItem → Type 0
+abbrev pub ShowsItems : Read (Vec InitDeclarator Global) → List tree.InitDeclarator → Type 0
 ShowsItems = ShowsList view_item firsts_item
 
 abbrev pub ShowsDeclaration : Read Declaration → tree.Declaration → Type 0

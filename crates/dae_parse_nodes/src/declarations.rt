@@ -14,7 +14,9 @@ ghost use Rattle.dae_parse_nodes.specs.Parts.{ShowsOperand, ShowsSpecified, Show
 use crate::values::{Declared, ReadOperand, Specified};
 use dae_base::Place;
 use dae_parse_parts::{Read, TreeDepths, beside, longer, over};
-use dae_tree::{Block, BlockItem, Declaration, External, Initialiser, Statement, TrailingComma};
+use dae_tree::{
+    Block, Declaration, External, InitDeclarator, Initialiser, Statement, TrailingComma,
+};
 use std::alloc::{AllocError, Global};
 
 /// An expression as an initialiser.
@@ -62,16 +64,16 @@ pub fn initialiser_list(
 
 /// A declarator without a value more.
 pub fn with_plain_item(
-    before: Read<Vec<BlockItem>>,
+    before: Read<Vec<InitDeclarator>>,
     declared: Declared,
-) -> Result<Read<Vec<BlockItem>>, AllocError>
-    ensures { (items : List tree.BlockItem) (d : tree.Declarator) → ShowsItems before items
+) -> Result<Read<Vec<InitDeclarator>>, AllocError>
+    ensures { (items : List tree.InitDeclarator) (d : tree.Declarator) → ShowsItems before items
         → ShowsDeclared declared d
         → IfOk result (λ r. ShowsItems r (record { declarator = d; initialiser = None } ∷ items)) }
 {
     let Read { tree, depths } = declared.read;
     let tree = match tree {
-        Some(declarator) => Some(BlockItem {
+        Some(declarator) => Some(InitDeclarator {
             declarator,
             initialiser: None,
         }),
@@ -82,19 +84,19 @@ pub fn with_plain_item(
 
 /// A declarator with its initialiser more.
 pub fn with_valued_item(
-    before: Read<Vec<BlockItem>>,
+    before: Read<Vec<InitDeclarator>>,
     declared: Declared,
     place: Place,
     value: Read<Initialiser>,
-) -> Result<Read<Vec<BlockItem>>, AllocError>
-    ensures { (items : List tree.BlockItem) (d : tree.Declarator) (x : tree.Initialiser)
+) -> Result<Read<Vec<InitDeclarator>>, AllocError>
+    ensures { (items : List tree.InitDeclarator) (d : tree.Declarator) (x : tree.Initialiser)
         → ShowsItems before items → ShowsDeclared declared d → ShowsInitialiser value x
         → IfOk result
         (λ r. ShowsItems r (record { declarator = d; initialiser = Some (place, x) } ∷ items)) }
 {
     let Read { tree, depths } = beside(declared.read, value)?;
     let tree = match tree {
-        Some((declarator, value)) => Some(BlockItem {
+        Some((declarator, value)) => Some(InitDeclarator {
             declarator,
             initialiser: Some((place, value)),
         }),
@@ -106,10 +108,10 @@ pub fn with_valued_item(
 /// A declaration, at its semicolon (C90 6.5).
 pub fn declaration(
     specified: Specified,
-    items: Read<Vec<BlockItem>>,
+    items: Read<Vec<InitDeclarator>>,
     end: Place,
 ) -> Result<Read<Declaration>, AllocError>
-    ensures { (ws : tree.Specifiers) (is : List tree.BlockItem) → ShowsSpecified specified ws
+    ensures { (ws : tree.Specifiers) (is : List tree.InitDeclarator) → ShowsSpecified specified ws
         → ShowsItems items is
         → IfOk result
         (λ r. ShowsDeclaration r (record { specifiers = ws; items = onto is []; end = end })) }

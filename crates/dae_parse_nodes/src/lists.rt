@@ -8,7 +8,7 @@ ghost use Rattle.dae_parse_nodes.specs.Parts.{is_some_list, ShowsArguments, Show
 
 use dae_parse_parts::{Read, flat};
 use dae_tree::{
-    BlockItem, Declaration, Declarator, Enumerator, Expression, External, Initialiser, Member,
+    Declaration, Declarator, Enumerator, Expression, External, InitDeclarator, Initialiser, Member,
     Statement,
 };
 use std::alloc::Global;
@@ -49,7 +49,7 @@ pub fn no_initialisers(alloc: Global) -> Read<Vec<Initialiser>>
 }
 
 /// No declarators of a declaration.
-pub fn no_items(alloc: Global) -> Read<Vec<BlockItem>>
+pub fn no_items(alloc: Global) -> Read<Vec<InitDeclarator>>
     ensures { ShowsItems result [] }
 {
     flat(alloc, Vec::new(alloc))
@@ -87,8 +87,8 @@ pub fn has_members(list: &Read<Vec<Member>>) -> bool
 }
 
 /// Whether there are declarators of a declaration.
-pub fn has_items(list: &Read<Vec<BlockItem>>) -> bool
-    ensures { (items : List tree.BlockItem) → ShowsItems list.now items
+pub fn has_items(list: &Read<Vec<InitDeclarator>>) -> bool
+    ensures { (items : List tree.InitDeclarator) → ShowsItems list.now items
         → result ≡ is_some_list items }
 {
     match &list.tree {

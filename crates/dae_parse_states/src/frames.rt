@@ -4,8 +4,8 @@ use dae_base::Place;
 use dae_parse_nodes::{Declared, DoParts, Loop, ParameterList, ReadOperand, Specified, TypeBody};
 use dae_parse_parts::Read;
 use dae_tree::{
-    AssignmentOperator, BinaryOperator, BlockItem, Declaration, Declarator, Enumerator, Expression,
-    External, Initialiser, Member, Name, PrefixOperator, Seen, Statement,
+    AssignmentOperator, BinaryOperator, Declaration, Declarator, Enumerator, Expression, External,
+    InitDeclarator, Initialiser, Member, Name, PrefixOperator, Seen, Statement,
 };
 
 /// Whether a declarator has a name, has none, or may have one.
@@ -144,14 +144,14 @@ pub enum DeclaratorFrame {
     },
     OfParameter(OpenParameters, ParameterList, Specified),
     OfMember(Box<TypeBody>, Read<Vec<Member>>, Specified, Read<Vec<Declarator>>),
-    OfItem(FunctionBody, Specified, Read<Vec<BlockItem>>),
+    OfItem(FunctionBody, Specified, Read<Vec<InitDeclarator>>),
 }
 
 /// What awaits an initialiser.
 #[derive(Drop)]
 pub enum InitialiserFrame {
     InList(Place, Read<Vec<Initialiser>>),
-    OfValue(Specified, Read<Vec<BlockItem>>, Declared, Place),
+    OfValue(Specified, Read<Vec<InitDeclarator>>, Declared, Place),
 }
 
 /// What awaits a declaration.
@@ -230,7 +230,7 @@ pub enum Doing {
     Initialising,
     Listing(Place, Read<Vec<Initialiser>>),
     GaveInitialiser(Read<Initialiser>),
-    AfterItem(Specified, Read<Vec<BlockItem>>),
+    AfterItem(Specified, Read<Vec<InitDeclarator>>),
     GaveDeclaration(Read<Declaration>),
     Externals(FileSoFar),
     Declarations(Inside),

@@ -1,5 +1,5 @@
 -- The variables of a list.
-use Rattle.std.specs.Prelude.{◌≡◌, ℕ, ◌<◌, ◌≤◌, Bool, false, not, ◌&&◌, ◌||◌, nat_eq, List, [], ◌∷◌, length, slice_index}
+use Rattle.std.specs.Prelude.{◌≡◌, ℕ, ◌<◌, ◌≤◌, false, not, ◌&&◌, ◌||◌, nat_eq, List, [], ◌∷◌, length, slice_index}
 use Rattle.dae_ir.specs.Classes.{VariableSet}
 
 -- those that stand in it

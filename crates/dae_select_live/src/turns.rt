@@ -190,6 +190,55 @@ fn tell_in_list(
     Ok(set)
 }
 
+/// The loops of a step are told of by a walk through it, with nothing live behind it: that changes nothing that is told.
+fn tell_by_walk(turns: &mut Turns, step: &Step) -> Result<(), AllocError>
+    ensures told { OnOk result ((k : Actions) → TellsTurns (turns_told turns.new) k
+        → TellsTurns (turns_told turns.new) (step_onto step.now k)) }
+    ensures later { OnOk result (AreToldLater (turns_told turns.old) (turns_told turns.new)) }
+{
+    let alloc = turns.alloc;
+    let nowhere = LiveSet::new(alloc);
+    tell_in_step(turns, step, LiveSet::new(alloc), &nowhere, &nowhere)?;
+    Ok(())
+}
+
+#[cycle(loops)]
+fn tell_loops_of_step(turns: &mut Turns, step: &Step) -> Result<(), AllocError>
+    ensures told { OnOk result ((k : Actions) → TellsTurns (turns_told turns.new) k
+        → TellsTurns (turns_told turns.new) (step_onto step.now k)) }
+    ensures later { OnOk result (AreToldLater (turns_told turns.old) (turns_told turns.new)) }
+{
+    match step {
+        Step::Act(_, _) => Ok(()),
+        Step::If(_, _, p, q) => {
+            tell_loops(turns, p)?;
+            tell_loops(turns, q)
+        }
+        Step::Loop(mark, body, again) => {
+            if leaves_at_once(body) {
+                tell_by_walk(turns, step)
+            } else {
+                tell_loops(turns, again)?;
+                tell_loops(turns, body)?;
+                tell_turn(turns, *mark, None)
+            }
+        }
+    }
+}
+
+/// The loops of a list are told of. What is live is looked for only in loops whose turns may leave them at their begin, since
+/// nothing else is told.
+#[cycle(loops)]
+fn tell_loops(turns: &mut Turns, steps: &[Step]) -> Result<(), AllocError>
+    ensures told { OnOk result (TellsTurns (turns_told turns.new) (actions_of steps.now)) }
+    ensures later { OnOk result (AreToldLater (turns_told turns.old) (turns_told turns.new)) }
+{
+    for index in (0..steps.len()).rev() {
+        tell_loops_of_step(turns, &steps[index])?;
+    }
+    Ok(())
+}
+
 /// What is told of the loops of a function with this body.
 pub fn tell_turns(alloc: Global, body: &[Step]) -> Result<Turns, AllocError>
     ensures { IfOk result (λ turns. TellsTurns (turns_told turns) (actions_of body.now)) }
@@ -198,8 +247,7 @@ pub fn tell_turns(alloc: Global, body: &[Step]) -> Result<Turns, AllocError>
         alloc,
         rows: IndexMap::new(alloc),
     };
-    let nowhere = LiveSet::new(alloc);
-    tell_in_list(&mut turns, body, LiveSet::new(alloc), &nowhere, &nowhere)?;
+    tell_loops(&mut turns, body)?;
     Ok(turns)
 }
 

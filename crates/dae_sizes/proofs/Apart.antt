@@ -9,7 +9,7 @@ use Rattle.dae_tree.specs.Operators.{binary_sign, assignment_sign, postfix_sign,
 use Rattle.dae_tree.specs.Spelling.{spell, spell_all, spell_more, spell_specifiers, spell_specifier, spell_members, spell_enumerators, spell_more_enumerators, spell_declarators, spell_more_declarators, spell_declarator, spell_parameters, spell_more_parameters, spell_tag, spell_qualifiers, spell_comma}
 use Rattle.dae_tree.specs.Statements.{spell_initialiser, spell_initialisers, spell_more_initialisers, spell_value, spell_item, spell_items, spell_more_items, spell_declaration, spell_declarations, spell_optional, spell_test, spell_statement, spell_statements, spell_external, spell_file}
 use Rattle.dae_tree.specs.Trees as tree
-use Rattle.dae_tree.specs.Trees.{Expression, Expressions, Specifiers, Specifier, Members, Enumerators, Declarators, Declarator, Parameters, Initialiser, Initialisers, BlockItem, Declaration, Statement, Statements, External}
+use Rattle.dae_tree.specs.Trees.{Expression, Expressions, Specifiers, Specifier, Members, Enumerators, Declarators, Declarator, Parameters, Initialiser, Initialisers, InitDeclarator, Declaration, Statement, Statements, External}
 use Rattle.dae_sizes.specs.Worth.{priced, PartsPay, pay_of_all}
 use Rattle.dae_sizes.proofs.Spelled.{paid}
 
@@ -187,19 +187,19 @@ module _ (price : ℕ → ℕ) where
   value_apart None rest = omega arith
   value_apart (Some x) rest = let h = initialiser_apart x.1 rest in let h0 = initialiser_apart x.1 [] in omega (arith, h, h0)
 
-  item_apart : (i : BlockItem) → Apart (spell_item i)
+  item_apart : (i : InitDeclarator) → Apart (spell_item i)
   item_apart i rest =
       let h = value_apart i.initialiser rest in let h0 = value_apart i.initialiser [] in
       let g = declarator_apart i.declarator (spell_value i.initialiser rest) in let g0 = declarator_apart i.declarator (spell_value i.initialiser []) in omega (arith, h, h0, g, g0)
 
-  more_items_apart : (items : List BlockItem) → Apart (spell_more_items items)
+  more_items_apart : (items : List InitDeclarator) → Apart (spell_more_items items)
   more_items_apart [] rest = omega arith
   more_items_apart (i ∷ items) rest =
       let h = more_items_apart items rest in let h0 = more_items_apart items [] in
       let g = item_apart i (spell_more_items items rest) in let g0 = item_apart i (spell_more_items items []) in omega (arith, h, h0, g, g0)
 
   -- with the semicolon at their end
-  items_apart : (items : List BlockItem) → Apart (spell_items items)
+  items_apart : (items : List InitDeclarator) → Apart (spell_items items)
   items_apart [] rest = omega arith
   items_apart (i ∷ items) rest =
       let h = more_items_apart items rest in let h0 = more_items_apart items [] in

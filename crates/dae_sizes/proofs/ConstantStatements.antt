@@ -4,7 +4,7 @@ use Rattle.std.proofs.Common.{◌≡◌, ℕ, ◌+◌, ◌≤◌, Bool, true, fa
 use Rattle.std.specs.Prelude.{slice_get, is_some}
 use Rattle.dae_base.specs.declared.Place.{Place}
 use Rattle.dae_tree.specs.Trees as tree
-use Rattle.dae_tree.specs.Trees.{Expression, Expressions, Initialiser, BlockItem, Declaration, Statement, Statements}
+use Rattle.dae_tree.specs.Trees.{Expression, Expressions, Initialiser, InitDeclarator, Declaration, Statement, Statements}
 use Rattle.dae_tree.specs.Depth.{place_of, place_of_specifiers}
 use Rattle.dae_tree.specs.Names.{declared_name, has_typedef}
 use Rattle.dae_program.specs.Trees as program
@@ -167,7 +167,7 @@ module _ (ls : List (List ℕ)) where
   local_constant p (Some x) None = maps_reads (unused_initialiser_within 0 low ls x.1) (λ s f e l. omega arith)
   local_constant p (Some x) (Some k) = fewer (omega arith) (chain_within (looks_within {μ = none} {w = 0} (λ s. is_scalar (shape_of s (type_of_local s k))) (λ s e. omega arith)) (λ b l. given_constant p k x.1 b))
 
-  item_constant : (is_typedef : Bool) (p : Place) (b : ℕ) (i : BlockItem) → Constant (declares_in i.declarator + declares_in_value i.initialiser) (plan_item_at is_typedef p b i)
+  item_constant : (is_typedef : Bool) (p : Place) (b : ℕ) (i : InitDeclarator) → Constant (declares_in i.declarator + declares_in_value i.initialiser) (plan_item_at is_typedef p b i)
   item_constant true p b i =
       let h = own_and_inner i.declarator in
       fewer (omega (arith, h)) (maps_reads (typedef_within 0 low ls p true (is_some i.initialiser) (declared_name i.declarator) (declarator_within 0 low ls p false b i.declarator)) (λ s x e l. omega arith))
@@ -176,7 +176,7 @@ module _ (ls : List (List ℕ)) where
       let g = own_is i.declarator in
       fewer (omega (arith, h, g)) (chain_within (local_within 0 low ls p (is_some i.initialiser) (declared_name i.declarator) (declarator_within 0 low ls p false b i.declarator)) (λ k l. local_constant p i.initialiser k))
 
-  items_constant : (q : Place) (is_typedef : Bool) (b : ℕ) (done : program.Statements) (items : List BlockItem) → others_in done ≤ 0 → Constant (declares_in_items items) (plan_items q is_typedef b done items)
+  items_constant : (q : Place) (is_typedef : Bool) (b : ℕ) (done : program.Statements) (items : List InitDeclarator) → others_in done ≤ 0 → Constant (declares_in_items items) (plan_items q is_typedef b done items)
   items_constant q is_typedef b done [] z = pure_within done z
   items_constant q is_typedef b done (i ∷ items) z =
       fewer (omega arith) (chain_within (appended_constant done z (item_constant is_typedef (declared_place i.declarator q) b i)) (λ more l. items_constant q is_typedef b more items l))

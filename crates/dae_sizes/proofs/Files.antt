@@ -7,7 +7,7 @@ use Rattle.dae_base.specs.declared.Place.{Place}
 use Rattle.dae_tree.specs.declared.words.Keyword.{Keyword}
 use Rattle.dae_tree.specs.declared.expressions.Name.{Name}
 use Rattle.dae_tree.specs.Trees as tree
-use Rattle.dae_tree.specs.Trees.{Specifiers, Declarator, Parameters, Initialiser, BlockItem, Declaration, Statements, External}
+use Rattle.dae_tree.specs.Trees.{Specifiers, Declarator, Parameters, Initialiser, InitDeclarator, Declaration, Statements, External}
 use Rattle.dae_tree.specs.Depth.{place_of_specifiers}
 use Rattle.dae_tree.specs.Names.{declared_name, has_typedef, function_part, is_bare}
 use Rattle.dae_program.specs.Trees as program
@@ -162,7 +162,7 @@ module _ (c : ℕ) (low : c ≤ 1) (ls : List (List ℕ)) where
       fewer (omega arith) (chain_within (looks_within {μ = none} {w = 0} (λ s. type_of_object s o) (λ s e. omega arith))
       (λ t l. maps_stays (content_within c low ls p 0 t x.1) (λ s y e l. record { grown = object_type_grown o y.type_id s (slice_get s.objects o); small = omega arith })))
 
-  either_within : (p : Place) (k : Option Keyword) (i : BlockItem) (t : ℕ) (b : Bool) → Within ls bodies (declares_in_value i.initialiser) 0 (plan_either p k i t b)
+  either_within : (p : Place) (k : Option Keyword) (i : InitDeclarator) (t : ℕ) (b : Bool) → Within ls bodies (declares_in_value i.initialiser) 0 (plan_either p k i t b)
   either_within p k i t true = fewer (omega arith) (maps_reads (function_at_within p _ _ (declared_name i.declarator) t) (λ s f e l. let h = ap length (declares_no_function p Reference f) in omega (arith, h)))
   either_within p k i t false =
       fewer (omega arith) (chain_within (object_at_within p k (is_some i.initialiser) (declared_name i.declarator) t) (λ o l. maps_reads (data_within p i.initialiser o) (λ s xs e l.
@@ -171,11 +171,11 @@ module _ (c : ℕ) (low : c ≤ 1) (ls : List (List ℕ)) where
       let j = length-append (bodies_in (declares_object p r o)) (bodies_in xs) in
       let h = declares_no_object p r o in omega (arith, l, g, j, h))))
 
-  typed_within : (p : Place) (k : Option Keyword) (i : BlockItem) (t : Option ℕ) → Within ls bodies (declares_in_value i.initialiser) 0 (plan_typed p k i t)
+  typed_within : (p : Place) (k : Option Keyword) (i : InitDeclarator) (t : Option ℕ) → Within ls bodies (declares_in_value i.initialiser) 0 (plan_typed p k i t)
   typed_within p k i None = data_within p i.initialiser None
   typed_within p k i (Some t) = fewer (omega arith) (chain_within (looks_within {μ = none} {w = 0} (λ s. is_function (shape_of s t)) (λ s e. omega arith)) (λ b l. either_within p k i t b))
 
-  item_within : (is_typedef : Bool) (p : Place) (k : Option Keyword) (b : ℕ) (i : BlockItem) → Within ls bodies (inner i.declarator + declares_in_value i.initialiser) 0 (plan_item_at is_typedef p k b i)
+  item_within : (is_typedef : Bool) (p : Place) (k : Option Keyword) (b : ℕ) (i : InitDeclarator) → Within ls bodies (inner i.declarator + declares_in_value i.initialiser) 0 (plan_item_at is_typedef p k b i)
   item_within true p k b i = fewer (omega arith) (maps_reads (typedef_within c low ls p false (is_some i.initialiser) (declared_name i.declarator) (declarator_within c low ls p false b i.declarator)) (λ s x e l. omega arith))
   item_within false p k b i =
       chain_within (settles_within (declared_name i.declarator) (maps_keeps (unmeasured (declarator_within c low ls p false b i.declarator)) (λ s x. stays 0))) (λ t l. typed_within p k i t)
@@ -187,7 +187,7 @@ module _ (c : ℕ) (low : c ≤ 1) (ls : List (List ℕ)) where
   abbrev Same : List Product → Tables → List Product → Type 0
   Same done s xs = bodies_in xs ≡ bodies_in done
 
-  items_lead : (is_typedef : Bool) (q : Place) (k : Option Keyword) (b : ℕ) (done : List Product) (items : List BlockItem) → Leads ls Any (Same done) (plan_items is_typedef q k b done items)
+  items_lead : (is_typedef : Bool) (q : Place) (k : Option Keyword) (b : ℕ) (done : List Product) (items : List InitDeclarator) → Leads ls Any (Same done) (plan_items is_typedef q k b done items)
   items_lead is_typedef q k b done [] = leads_pure done (λ s h. refl)
   items_lead is_typedef q k b done (i ∷ items) =
       leads_chain {Between = Same done}

@@ -13,7 +13,7 @@ use Rattle.dae_tree.specs.Words.{nothing_seen}
 use Rattle.dae_tree.specs.Grammar.{by_name, IsSpecifiers, IsDeclarator}
 use Rattle.dae_tree.specs.Statements.{IsExternal}
 use Rattle.dae_tree.specs.Trees as tree
-use Rattle.dae_tree.specs.Trees.{Expression, Expressions, Specifiers, Specifier, Members, Enumerators, Declarators, Declarator, Parameters, Initialiser, Initialisers, BlockItem, Declaration, Statement, Statements, External}
+use Rattle.dae_tree.specs.Trees.{Expression, Expressions, Specifiers, Specifier, Members, Enumerators, Declarators, Declarator, Parameters, Initialiser, Initialisers, InitDeclarator, Declaration, Statement, Statements, External}
 use Rattle.dae_sizes.specs.Worth.{worth, worth_of_all, worth_of_more, worth_of_initialiser, worth_of_initialisers, worth_of_value, worth_of_items, worth_of_declarations, worth_of_optional, worth_of_statement, worth_of_statements, worth_of_external, declares, declares_in_all, declares_in_specifiers, declares_in_specifier, declares_in_members, declares_in_enumerators, declares_in_declarators, declares_in, declares_in_parameters, declares_in_initialiser, declares_in_initialisers, declares_in_value, declares_in_items, declares_in_declarations, declares_in_optional, declares_in_statement, declares_in_statements, declares_in_external, priced, TokensPay, IsDefinition, DefinitionsAreLong}
 
 module _ (price : ℕ → ℕ) where
@@ -200,19 +200,19 @@ module _ (price : ℕ → ℕ) where
   value_pays None rest = omega arith
   value_pays (Some x) rest = let h = initialiser_pays x.1 rest in omega (arith, h)
 
-  item_pays : (i : BlockItem) → Pays (spell_item i) (worth_of_value price i.initialiser + 4 * (declares_in i.declarator + declares_in_value i.initialiser))
+  item_pays : (i : InitDeclarator) → Pays (spell_item i) (worth_of_value price i.initialiser + 4 * (declares_in i.declarator + declares_in_value i.initialiser))
   item_pays i rest =
       let h = value_pays i.initialiser rest in
       let g = declarator_pays i.declarator (spell_value i.initialiser rest) in omega (arith, h, g)
 
-  more_items_pay : (items : List BlockItem) → Pays (spell_more_items items) (worth_of_items price items + 4 * declares_in_items items)
+  more_items_pay : (items : List InitDeclarator) → Pays (spell_more_items items) (worth_of_items price items + 4 * declares_in_items items)
   more_items_pay [] rest = omega arith
   more_items_pay (i ∷ items) rest =
       let h = more_items_pay items rest in
       let g = item_pays i (spell_more_items items rest) in omega (arith, h, g)
 
   -- with the semicolon at their end
-  items_pay : (items : List BlockItem) (p : Place) (rest : List TokenMark) → worth_of_items price items + 4 * declares_in_items items + paid rest ≤ paid (spell_items items (sign signs.Semicolon p ∷ rest))
+  items_pay : (items : List InitDeclarator) (p : Place) (rest : List TokenMark) → worth_of_items price items + 4 * declares_in_items items + paid rest ≤ paid (spell_items items (sign signs.Semicolon p ∷ rest))
   items_pay [] p rest = omega arith
   items_pay (i ∷ items) p rest =
       let h = more_items_pay items (sign signs.Semicolon p ∷ rest) in

@@ -5,7 +5,7 @@ use Rattle.std.specs.Prelude.{slice_get, is_some}
 use Rattle.dae_base.specs.declared.Place.{Place}
 use Rattle.dae_tree.specs.declared.expressions.Name.{Name}
 use Rattle.dae_tree.specs.Trees as tree
-use Rattle.dae_tree.specs.Trees.{Expression, Initialiser, BlockItem, Declaration, Statement, Statements}
+use Rattle.dae_tree.specs.Trees.{Expression, Initialiser, InitDeclarator, Declaration, Statement, Statements}
 use Rattle.dae_tree.specs.Depth.{place_of, place_of_specifiers}
 use Rattle.dae_tree.specs.Names.{declared_name, has_typedef}
 use Rattle.dae_program.specs.Trees as program
@@ -147,7 +147,7 @@ module _ (c : ℕ) (low : c ≤ 1) (ls : List (List ℕ)) where
   plan_local_within p (Some x) None = maps_reads (unused_initialiser_within c low ls x.1) (λ s f e l. omega arith)
   plan_local_within p (Some x) (Some k) = weaker (omega arith) (omega arith) (chain_within (looks_within {μ = none} {w = 0} (λ s. is_scalar (shape_of s (type_of_local s k))) (λ s e. omega arith)) (λ b l. given_within p k x.1 b))
 
-  item_within : (is_typedef : Bool) (p : Place) (b : ℕ) (i : BlockItem) → Within ls (weight_in c) (declares_in i.declarator + declares_in_value i.initialiser) (4 + worth_of_value (price c ls) i.initialiser) (plan_item_at is_typedef p b i)
+  item_within : (is_typedef : Bool) (p : Place) (b : ℕ) (i : InitDeclarator) → Within ls (weight_in c) (declares_in i.declarator + declares_in_value i.initialiser) (4 + worth_of_value (price c ls) i.initialiser) (plan_item_at is_typedef p b i)
   item_within true p b i =
       let h = own_and_inner i.declarator in
       fewer (omega (arith, h)) (maps_reads (typedef_within p true (is_some i.initialiser) (declared_name i.declarator) (declarator_within c low ls p false b i.declarator)) (λ s x e l. omega arith))
@@ -156,7 +156,7 @@ module _ (c : ℕ) (low : c ≤ 1) (ls : List (List ℕ)) where
       let g = own_is i.declarator in
       fewer (omega (arith, h, g)) (chain_within (local_within p (is_some i.initialiser) (declared_name i.declarator) (declarator_within c low ls p false b i.declarator)) (λ k l. plan_local_within p i.initialiser k))
 
-  items_within : (q : Place) (is_typedef : Bool) (b : ℕ) (done : program.Statements) (items : List BlockItem) → Within ls (weight_in c) (declares_in_items items) (weight_in c done + worth_of_items (price c ls) items) (plan_items q is_typedef b done items)
+  items_within : (q : Place) (is_typedef : Bool) (b : ℕ) (done : program.Statements) (items : List InitDeclarator) → Within ls (weight_in c) (declares_in_items items) (weight_in c done + worth_of_items (price c ls) items) (plan_items q is_typedef b done items)
   items_within q is_typedef b done [] = pure_within done (omega arith)
   items_within q is_typedef b done (i ∷ items) =
       fewer (omega arith) (chain_within (appended_within done (item_within is_typedef (declared_place i.declarator q) b i)) (λ more l. lighter (omega (arith, l)) (items_within q is_typedef b more items)))

@@ -9,7 +9,7 @@ use Rattle.dae_tree.specs.declared.words.Keyword.{Keyword}
 use Rattle.dae_tree.specs.declared.expressions.Name.{Name}
 use Rattle.dae_tree.specs.FileViews.{view_externals}
 use Rattle.dae_tree.specs.Trees as tree
-use Rattle.dae_tree.specs.Trees.{Specifiers, Declarator, Parameters, Initialiser, BlockItem, Declaration, Statements, External}
+use Rattle.dae_tree.specs.Trees.{Specifiers, Declarator, Parameters, Initialiser, InitDeclarator, Declaration, Statements, External}
 use Rattle.dae_tree.specs.Depth.{place_of_specifiers}
 use Rattle.dae_tree.specs.Names.{declared_name, has_typedef, function_part}
 use Rattle.dae_program.specs.Trees as program
@@ -83,18 +83,18 @@ module _ (ls : List (List ℕ)) where
       fewer (omega arith) (chain_within (looks_within {μ = none} {w = 0} (λ s. type_of_object s o) (λ s e. omega arith))
       (λ t l. maps_stays (content_constant ls p 0 t x.1) (λ s y e l. record { grown = object_type_grown o y.type_id s (slice_get s.objects o); small = omega (arith, l) })))
 
-  either_clean : (p : Place) (k : Option Keyword) (i : BlockItem) (t : ℕ) (b : Bool) → Within ls odd (declares_in_value i.initialiser) 0 (plan_either p k i t b)
+  either_clean : (p : Place) (k : Option Keyword) (i : InitDeclarator) (t : ℕ) (b : Bool) → Within ls odd (declares_in_value i.initialiser) 0 (plan_either p k i t b)
   either_clean p k i t true = fewer (omega arith) (maps_reads (function_at_within 0 low ls p _ _ (declared_name i.declarator) t) (λ s f e l. function_declared p Reference f))
   either_clean p k i t false =
       fewer (omega arith) (chain_within (object_at_within 0 low ls p k (is_some i.initialiser) (declared_name i.declarator) t) (λ o l. maps_reads (data_clean p i.initialiser o) (λ s xs e l.
       let r = role_of (is_some i.initialiser) (not (is_extern k)) in
       behind_clean (declares_object p r o) xs (object_declared p r o) l)))
 
-  typed_clean : (p : Place) (k : Option Keyword) (i : BlockItem) (t : Option ℕ) → Within ls odd (declares_in_value i.initialiser) 0 (plan_typed p k i t)
+  typed_clean : (p : Place) (k : Option Keyword) (i : InitDeclarator) (t : Option ℕ) → Within ls odd (declares_in_value i.initialiser) 0 (plan_typed p k i t)
   typed_clean p k i None = data_clean p i.initialiser None
   typed_clean p k i (Some t) = fewer (omega arith) (chain_within (looks_within {μ = none} {w = 0} (λ s. is_function (shape_of s t)) (λ s e. omega arith)) (λ b l. either_clean p k i t b))
 
-  item_clean : (is_typedef : Bool) (p : Place) (k : Option Keyword) (b : ℕ) (i : BlockItem) → Within ls odd (inner i.declarator + declares_in_value i.initialiser) 0 (plan_item_at is_typedef p k b i)
+  item_clean : (is_typedef : Bool) (p : Place) (k : Option Keyword) (b : ℕ) (i : InitDeclarator) → Within ls odd (inner i.declarator + declares_in_value i.initialiser) 0 (plan_item_at is_typedef p k b i)
   item_clean true p k b i = fewer (omega arith) (maps_reads (typedef_within 0 low ls p false (is_some i.initialiser) (declared_name i.declarator) (declarator_within 0 low ls p false b i.declarator)) (λ s x e l. omega arith))
   item_clean false p k b i =
       chain_within (settles_within (declared_name i.declarator) (maps_keeps (unmeasured (declarator_within 0 low ls p false b i.declarator)) (λ s x. stays 0))) (λ t l. typed_clean p k i t)
@@ -109,7 +109,7 @@ module _ (ls : List (List ℕ)) where
   abbrev Clean : Tables → List Product → Type 0
   Clean s xs = odd xs ≤ 0
 
-  items_clean : (is_typedef : Bool) (q : Place) (k : Option Keyword) (b : ℕ) (done : List Product) (items : List BlockItem) → Leads ls (λ s. odd done ≤ 0) Clean (plan_items is_typedef q k b done items)
+  items_clean : (is_typedef : Bool) (q : Place) (k : Option Keyword) (b : ℕ) (done : List Product) (items : List InitDeclarator) → Leads ls (λ s. odd done ≤ 0) Clean (plan_items is_typedef q k b done items)
   items_clean is_typedef q k b done [] = leads_pure done (λ s h. h)
   items_clean is_typedef q k b done (i ∷ items) =
       leads_chain {Between = Clean}

@@ -5,7 +5,7 @@ use Rattle.std.proofs.lemmas.Result.{IfOk-at_ok}
 use Rattle.std.specs.Prelude.{IfOk, slice_get, is_some, nat_eq}
 use Rattle.dae_base.specs.declared.Place.{Place}
 use Rattle.dae_tree.specs.Trees as tree
-use Rattle.dae_tree.specs.Trees.{Expression, Expressions, Initialiser, BlockItem, Declaration, Statement, Statements}
+use Rattle.dae_tree.specs.Trees.{Expression, Expressions, Initialiser, InitDeclarator, Declaration, Statement, Statements}
 use Rattle.dae_tree.specs.Depth.{place_of, place_of_specifiers}
 use Rattle.dae_tree.specs.Names.{declared_name, has_typedef}
 use Rattle.dae_program.specs.declared.statements.FormatPiece.{FormatPiece}
@@ -271,18 +271,18 @@ module _ (o : Often) (ls : List (List ℕ)) where
   local_few p (Some x) None = maps_reads (unused_initialiser_within 0 low ls x.1) (λ s f e l. omega arith)
   local_few p (Some x) (Some k) = fewer (omega arith) (chain_within (looks_within {μ = none} {w = 0} (λ s. is_scalar (shape_of s (type_of_local s k))) (λ s e. omega arith)) (λ b l. given_few p k x.1 b))
 
-  typedef_few : (p : Place) (b : ℕ) (i : BlockItem) → Few (declares_in i.declarator + declares_in_value i.initialiser) 0 (plan_item_at true p b i)
+  typedef_few : (p : Place) (b : ℕ) (i : InitDeclarator) → Few (declares_in i.declarator + declares_in_value i.initialiser) 0 (plan_item_at true p b i)
   typedef_few p b i =
       let h = own_and_inner i.declarator in
       fewer (omega (arith, h)) (maps_reads (typedef_within 0 low ls p true (is_some i.initialiser) (declared_name i.declarator) (declarator_within 0 low ls p false b i.declarator)) (λ s x e l. omega arith))
 
-  item_few : (p : Place) (b : ℕ) (i : BlockItem) → Few (declares_in i.declarator + declares_in_value i.initialiser) (4 * so_often (o.begun p) (1 + nodes_of_value i.initialiser)) (plan_item_at false p b i)
+  item_few : (p : Place) (b : ℕ) (i : InitDeclarator) → Few (declares_in i.declarator + declares_in_value i.initialiser) (4 * so_often (o.begun p) (1 + nodes_of_value i.initialiser)) (plan_item_at false p b i)
   item_few p b i =
       let h = own_and_inner i.declarator in
       let g = own_is i.declarator in
       fewer (omega (arith, h, g)) (chain_within (local_within 0 low ls p (is_some i.initialiser) (declared_name i.declarator) (declarator_within 0 low ls p false b i.declarator)) (λ k l. local_few p i.initialiser k))
 
-  items_few : (q : Place) (is_typedef : Bool) (b : ℕ) (done : program.Statements) (items : List BlockItem) → Few (declares_in_items items) (units o done + 4 * written_items o is_typedef q items) (plan_items q is_typedef b done items)
+  items_few : (q : Place) (is_typedef : Bool) (b : ℕ) (done : program.Statements) (items : List InitDeclarator) → Few (declares_in_items items) (units o done + 4 * written_items o is_typedef q items) (plan_items q is_typedef b done items)
   items_few q is_typedef b done [] = pure_within done (omega arith)
   items_few q true b done (i ∷ items) =
       fewer (omega arith) (chain_within (appended_few done (typedef_few (declared_place i.declarator q) b i)) (λ more l. lighter (omega (arith, l)) (items_few q true b more items)))

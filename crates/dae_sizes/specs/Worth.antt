@@ -5,7 +5,7 @@ use Rattle.dae_base.specs.declared.Place.{Place}
 use Rattle.dae_tree.specs.Marks.{literal_numbers}
 use Rattle.dae_tree.specs.Names.{Names}
 use Rattle.dae_tree.specs.Statements.{spell_external, spell_file, IsExternal}
-use Rattle.dae_tree.specs.Trees.{Expression, Expressions, Specifiers, Specifier, Members, Enumerators, Declarators, Declarator, Parameters, Initialiser, Initialisers, BlockItem, Declaration, Statement, Statements, External, Identifier, Number, Literal, Parenthesised, Index, Call, Member, Postfix, Prefix, SizeofExpression, SizeofType, Cast, Binary, Conditional, Assignment, Comma, no_expressions, expression_then, no_specifiers, specifier_then, Word, TypeName, Structure, StructureBody, Enumeration, EnumerationBody, no_members, member_then, no_enumerators, plain_then, valued_then, no_declarators, declarator_then, Absent, Named, Pointer, Grouped, Unsized, Sized, Empty, Void, Function, no_parameters, parameter_then, Value, Listed, no_initialisers, initialiser_then, Block, Nothing, Evaluate, If, IfElse, While, Do, For, Break, Continue, Return, Switch, Case, Default, no_statements, statement_then, Declared, Defined}
+use Rattle.dae_tree.specs.Trees.{Expression, Expressions, Specifiers, Specifier, Members, Enumerators, Declarators, Declarator, Parameters, Initialiser, Initialisers, InitDeclarator, Declaration, Statement, Statements, External, Identifier, Number, Literal, Parenthesised, Index, Call, Member, Postfix, Prefix, SizeofExpression, SizeofType, Cast, Binary, Conditional, Assignment, Comma, no_expressions, expression_then, no_specifiers, specifier_then, Word, TypeName, Structure, StructureBody, Enumeration, EnumerationBody, no_members, member_then, no_enumerators, plain_then, valued_then, no_declarators, declarator_then, Absent, Named, Pointer, Grouped, Unsized, Sized, Empty, Void, Function, no_parameters, parameter_then, Value, Listed, no_initialisers, initialiser_then, Block, Nothing, Evaluate, If, IfElse, While, Do, For, Break, Continue, Return, Switch, Case, Default, no_statements, statement_then, Declared, Defined}
 
 -- ---- what each token of an expression pays
 
@@ -53,7 +53,7 @@ abbrev pub worth_of_value : (price : ℕ → ℕ) → Option (Place × Initialis
 worth_of_value price None = 0
 worth_of_value price (Some x) = 4 + worth_of_initialiser price x.1
 
-abbrev pub worth_of_items : (price : ℕ → ℕ) → List BlockItem → ℕ
+abbrev pub worth_of_items : (price : ℕ → ℕ) → List InitDeclarator → ℕ
 worth_of_items price [] = 0
 worth_of_items price (i ∷ items) = 4 + (worth_of_value price i.initialiser + worth_of_items price items)
 
@@ -165,7 +165,7 @@ abbrev pub declares_in_value : Option (Place × Initialiser) → ℕ
 declares_in_value None = 0
 declares_in_value (Some x) = declares_in_initialiser x.1
 
-abbrev pub declares_in_items : List BlockItem → ℕ
+abbrev pub declares_in_items : List InitDeclarator → ℕ
 declares_in_items [] = 0
 declares_in_items (i ∷ items) = declares_in i.declarator + (declares_in_value i.initialiser + declares_in_items items)
 

@@ -51,7 +51,7 @@ nodes_of_value None = 0
 nodes_of_value (Some x) = nodes_of_initialiser x.1
 
 -- a typedef sets nothing
-abbrev pub written_items : Often → Bool → Place → List tree.BlockItem → ℕ
+abbrev pub written_items : Often → Bool → Place → List tree.InitDeclarator → ℕ
 written_items o is_typedef q [] = 0
 written_items o true q (i ∷ items) = written_items o true q items
 written_items o false q (i ∷ items) =

@@ -3,7 +3,7 @@ use Rattle.std.specs.Prelude.{List, [], ◌∷◌, Option, Some, None}
 use Rattle.dae_base.specs.declared.Place.{Place}
 use Rattle.dae_tree.specs.declared.statements.Initialiser.{Initialiser, Row_of-Initialiser, end_of-Initialiser, more_of-Initialiser}
 use Rattle.dae_tree.specs.declared.statements.Initialiser.TheVariants as initialiser
-use Rattle.dae_tree.specs.declared.statements.BlockItem.{BlockItem}
+use Rattle.dae_tree.specs.declared.statements.InitDeclarator.{InitDeclarator}
 use Rattle.dae_tree.specs.declared.statements.Declaration.{Declaration}
 use Rattle.dae_tree.specs.declared.statements.Statement.{Statement, Row_of-Statement, end_of-Statement, more_of-Statement}
 use Rattle.dae_tree.specs.declared.statements.Statement.TheVariants as statement
@@ -29,10 +29,10 @@ abbrev pub view_value : Option (Place × Initialiser) → Option (Place × tree.
 view_value None = None
 view_value (Some v) = Some (v.0, view_initialiser v.1)
 
-abbrev pub view_item : BlockItem → tree.BlockItem
+abbrev pub view_item : InitDeclarator → tree.InitDeclarator
 view_item i = record { declarator = view_declarator i.declarator.value; initialiser = view_value i.initialiser }
 
-abbrev pub view_items : List BlockItem → List tree.BlockItem
+abbrev pub view_items : List InitDeclarator → List tree.InitDeclarator
 view_items [] = []
 view_items (i ∷ items) = view_item i ∷ view_items items
 

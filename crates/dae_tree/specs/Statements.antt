@@ -8,7 +8,7 @@ use Rattle.dae_tree.specs.Words.{nothing_seen}
 use Rattle.dae_tree.specs.Names.{Names, has_typedef, after, after_specifiers, after_declarator, with_declarator, after_initialiser, after_item, after_declaration, after_declarations, after_optional, after_statement, after_external, inside_definition}
 use Rattle.dae_tree.specs.Spelling.{spell, spell_specifiers, spell_declarator, spell_comma}
 use Rattle.dae_tree.specs.Grammar.{level, by_name, IsExpression, IsSpecifiers, IsDeclarator}
-use Rattle.dae_tree.specs.Trees.{Expression, Initialiser, Initialisers, BlockItem, Declaration, Statement, Statements, External, Value, Listed, no_initialisers, initialiser_then, Block, Nothing, Evaluate, If, IfElse, While, Do, For, Break, Continue, Return, Switch, Case, Default, no_statements, statement_then, Declared, Defined}
+use Rattle.dae_tree.specs.Trees.{Expression, Initialiser, Initialisers, InitDeclarator, Declaration, Statement, Statements, External, Value, Listed, no_initialisers, initialiser_then, Block, Nothing, Evaluate, If, IfElse, While, Do, For, Break, Continue, Return, Switch, Case, Default, no_statements, statement_then, Declared, Defined}
 
 -- ---- the tokens that a tree spells
 
@@ -29,14 +29,14 @@ abbrev pub spell_value : Option (Place × Initialiser) → List TokenMark → Li
 spell_value None rest = rest
 spell_value (Some x) rest = sign signs.Assign x.0 ∷ spell_initialiser x.1 rest
 
-abbrev pub spell_item : BlockItem → List TokenMark → List TokenMark
+abbrev pub spell_item : InitDeclarator → List TokenMark → List TokenMark
 spell_item i rest = spell_declarator i.declarator (spell_value i.initialiser rest)
 
-abbrev pub spell_more_items : List BlockItem → List TokenMark → List TokenMark
+abbrev pub spell_more_items : List InitDeclarator → List TokenMark → List TokenMark
 spell_more_items [] rest = rest
 spell_more_items (i ∷ items) rest = part comma ∷ spell_item i (spell_more_items items rest)
 
-abbrev pub spell_items : List BlockItem → List TokenMark → List TokenMark
+abbrev pub spell_items : List InitDeclarator → List TokenMark → List TokenMark
 spell_items [] rest = rest
 spell_items (i ∷ items) rest = spell_item i (spell_more_items items rest)
 
@@ -106,12 +106,12 @@ IsValue names None = Unit {0}
 IsValue names (Some x) = IsInitialiser names x.1
 
 -- an item of a declaration with or without typedef; its name is in scope in its initialiser
-abbrev pub IsItem : Bool → Names → BlockItem → Type 0
+abbrev pub IsItem : Bool → Names → InitDeclarator → Type 0
 IsItem is names i =
     IsDeclarator by_name names i.declarator
     × IsValue (with_declarator is i.declarator (after_declarator i.declarator names)) i.initialiser
 
-abbrev pub AreItems : Bool → Names → List BlockItem → Type 0
+abbrev pub AreItems : Bool → Names → List InitDeclarator → Type 0
 AreItems is names [] = Unit {0}
 AreItems is names (i ∷ items) = IsItem is names i × AreItems is (after_item is i names) items
 

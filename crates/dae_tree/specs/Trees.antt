@@ -84,13 +84,13 @@ mutual
     no_initialisers : Initialisers
     initialiser_then : Initialiser → Initialisers → Initialisers
 
-pub record BlockItem : Type 0 where
+pub record InitDeclarator : Type 0 where
   pub declarator : Declarator
   pub initialiser : Option (Place × Initialiser)
 
 pub record Declaration : Type 0 where
   pub specifiers : Specifiers
-  pub items : List BlockItem
+  pub items : List InitDeclarator
   pub end : Place
 
 mutual

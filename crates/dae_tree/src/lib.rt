@@ -25,7 +25,7 @@ pub use pieces::{Lexeme, PieceKind, TextSpot};
 pub use seen::{Arithmetic, Seen};
 pub use signs::{SIGNS, Sign};
 pub use statements::{
-    Block, BlockItem, Declaration, External, Heading, Initialiser, Statement, StatementTest,
+    Block, Declaration, External, Heading, InitDeclarator, Initialiser, Statement, StatementTest,
 };
 pub use tokens::{Includes, Room, Token, TokenKind, Tokens};
 pub use words::{KEYWORDS, Keyword, REFUSED_WORDS};

@@ -11,9 +11,9 @@ pub enum Initialiser {
     List(Place, Vec<Initialiser>, TrailingComma),
 }
 
-/// A declarator of a declaration, with the place of `=` and the initialiser or without.
+/// An init-declarator of a declaration: a declarator, with the place of `=` and its initialiser or without (C90 6.5).
 #[derive(Drop)]
-pub struct BlockItem {
+pub struct InitDeclarator {
     pub declarator: Box<Declarator>,
     pub initialiser: Option<(Place, Initialiser)>,
 }
@@ -22,7 +22,7 @@ pub struct BlockItem {
 #[derive(Drop)]
 pub struct Declaration {
     pub specifiers: Vec<Specifier>,
-    pub items: Vec<BlockItem>,
+    pub items: Vec<InitDeclarator>,
     pub end: Place,
 }
 

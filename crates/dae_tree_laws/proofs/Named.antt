@@ -6,7 +6,7 @@ use Rattle.dae_tree.specs.Grammar.{by_name, IsDeclarator}
 use Rattle.dae_tree.specs.Names.{Names, after_specifiers, has_typedef, after_item, after_external}
 use Rattle.dae_tree.specs.Statements.{AreItems, AreExternals}
 use Rattle.dae_tree.specs.Trees as tree
-use Rattle.dae_tree.specs.Trees.{Declarator, BlockItem, External}
+use Rattle.dae_tree.specs.Trees.{Declarator, InitDeclarator, External}
 use Rattle.dae_tree_laws.specs.Named.{IsNamed, IsNamedItem, HasNames, FilesHaveNames}
 
 named : (names : Names) (d : Declarator) → IsDeclarator by_name names d → IsNamed d
@@ -20,7 +20,7 @@ named names (tree.Empty d p) h = named names d h.1
 named names (tree.Void d p q) h = named names d h.1
 named names (tree.Function d p ps) h = named names d h.1
 
-named_items : (is : Bool) (names : Names) (items : List BlockItem) → AreItems is names items → AllByRecursion IsNamedItem items
+named_items : (is : Bool) (names : Names) (items : List InitDeclarator) → AreItems is names items → AllByRecursion IsNamedItem items
 named_items is names [] h = tt
 named_items is names (i ∷ items) h = (named names i.declarator h.0.0, named_items is (after_item is i names) items h.1)
 

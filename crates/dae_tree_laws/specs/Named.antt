@@ -6,12 +6,12 @@ use Rattle.dae_tree.specs.declared.expressions.Name.{Name}
 use Rattle.dae_tree.specs.Files.{FileContents, IsFile}
 use Rattle.dae_tree.specs.FileViews.{view_externals}
 use Rattle.dae_tree.specs.Names.{declared_name}
-use Rattle.dae_tree.specs.Trees.{Declarator, BlockItem, External, Declared, Defined}
+use Rattle.dae_tree.specs.Trees.{Declarator, InitDeclarator, External, Declared, Defined}
 
 abbrev pub IsNamed : Declarator → Type 0
 IsNamed d = (n : Name) × (declared_name d ≡ Some n)
 
-abbrev pub IsNamedItem : BlockItem → Type 0
+abbrev pub IsNamedItem : InitDeclarator → Type 0
 IsNamedItem i = IsNamed i.declarator
 
 abbrev pub HasNames : External → Type 0

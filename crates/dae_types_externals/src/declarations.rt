@@ -12,7 +12,7 @@ ghost use Rattle.dae_types_products.specs.Products.{GivesProducts, as_products};
 ghost use Rattle.dae_types_externals.specs.Parts.{plan_file_base, plan_object_data, plan_type_of};
 
 use dae_base::Place;
-use dae_tree::{BlockItem, Declaration, Declarator, Initialiser, Keyword, Seen, Specifier};
+use dae_tree::{Declaration, Declarator, InitDeclarator, Initialiser, Keyword, Seen, Specifier};
 use dae_types_file_plans::Role;
 use dae_types_kinds::{CheckError, Context};
 use dae_types_linkage::{
@@ -99,7 +99,7 @@ fn function_item(
     checker: &mut Checker,
     place: Place,
     word: Option<Keyword>,
-    item: &BlockItem,
+    item: &InitDeclarator,
     type_id: usize,
 ) -> Result<Vec<Product>, CheckError>
     ensures { GivesProducts checker.new result
@@ -119,7 +119,7 @@ fn object_item(
     checker: &mut Checker,
     place: Place,
     word: Option<Keyword>,
-    item: &BlockItem,
+    item: &InitDeclarator,
     type_id: usize,
 ) -> Result<Vec<Product>, CheckError>
     ensures { GivesProducts checker.new result
@@ -142,7 +142,7 @@ fn typed_item(
     checker: &mut Checker,
     place: Place,
     word: Option<Keyword>,
-    item: &BlockItem,
+    item: &InitDeclarator,
     type_id: usize,
 ) -> Result<Vec<Product>, CheckError>
     ensures { GivesProducts checker.new result
@@ -176,7 +176,7 @@ fn name_type(
     place: Place,
     word: Option<Keyword>,
     base: usize,
-    item: &BlockItem,
+    item: &InitDeclarator,
 ) -> Result<Vec<Product>, CheckError>
     ensures { GivesProducts checker.new result
         (plan_item_at true place word base (view_item item.now)) checker.old }
@@ -197,7 +197,7 @@ fn item(
     list: &[Specifier],
     place: Place,
     base: usize,
-    item: &BlockItem,
+    item: &InitDeclarator,
 ) -> Result<Vec<Product>, CheckError>
     ensures { GivesProducts checker.new result
         (plan_item_at (has_typedef (views_specifiers list.now)) place
@@ -218,7 +218,7 @@ fn add_items(
     place: Place,
     base: usize,
     mut done: Vec<Product>,
-    items: &[BlockItem],
+    items: &[InitDeclarator],
 ) -> Result<Vec<Product>, CheckError>
     ensures { GivesProducts checker.new result
         (plan_items (has_typedef (views_specifiers list.now)) place

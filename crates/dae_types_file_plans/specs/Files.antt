@@ -5,7 +5,7 @@ use Rattle.dae_base.specs.declared.Place.{Place}
 use Rattle.dae_tree.specs.declared.words.Keyword.{Keyword}
 use Rattle.dae_tree.specs.declared.expressions.Name.{Name}
 use Rattle.dae_tree.specs.Trees as tree
-use Rattle.dae_tree.specs.Trees.{Specifiers, Declarator, Parameters, Initialiser, BlockItem, Declaration, Statements, External}
+use Rattle.dae_tree.specs.Trees.{Specifiers, Declarator, Parameters, Initialiser, InitDeclarator, Declaration, Statements, External}
 use Rattle.dae_tree.specs.Words.{nothing_seen, seen_behind}
 use Rattle.dae_tree.specs.Depth.{place_of_specifiers}
 use Rattle.dae_tree.specs.Names.{declared_name, has_typedef, function_part}
@@ -133,31 +133,31 @@ plan_data p (Some x) (Some o) = chain int_id (looks (λ s. type_of_object s o)) 
 
 -- ---- declarations
 
-abbrev pub plan_function : Place → Option Keyword → BlockItem → ℕ → CheckPlan (List Product)
+abbrev pub plan_function : Place → Option Keyword → InitDeclarator → ℕ → CheckPlan (List Product)
 plan_function p k i t = does (λ s f. (s, declares_function p Reference f)) (function_at p (is_static k) (is_some i.initialiser) (declared_name i.declarator) (pure t))
 
-abbrev pub plan_object : Place → Option Keyword → BlockItem → ℕ → CheckPlan (List Product)
+abbrev pub plan_object : Place → Option Keyword → InitDeclarator → ℕ → CheckPlan (List Product)
 plan_object p k i t =
     let given = is_some i.initialiser in
     chain None (object_at p k given (declared_name i.declarator) (pure t)) (λ o. produced (declares_object p (role_of given (not (is_extern k))) o) (plan_data p i.initialiser o))
 
-abbrev pub plan_either : Place → Option Keyword → BlockItem → ℕ → Bool → CheckPlan (List Product)
+abbrev pub plan_either : Place → Option Keyword → InitDeclarator → ℕ → Bool → CheckPlan (List Product)
 plan_either p k i t true = plan_function p k i t
 plan_either p k i t false = plan_object p k i t
 
 -- a type that is faulty makes no declaration: its name is noted, and its initialiser only looked at
-abbrev pub plan_typed : Place → Option Keyword → BlockItem → Option ℕ → CheckPlan (List Product)
+abbrev pub plan_typed : Place → Option Keyword → InitDeclarator → Option ℕ → CheckPlan (List Product)
 plan_typed p k i None = plan_data p i.initialiser None
 plan_typed p k i (Some t) = chain false (looks (λ s. is_function (shape_of s t))) (plan_either p k i t)
 
 abbrev pub some_type : CheckPlan NamedType → CheckPlan (Option ℕ)
 some_type m = does (λ s x. (s, Some x.type_id)) m
 
-abbrev pub plan_item_at : Bool → Place → Option Keyword → ℕ → BlockItem → CheckPlan (List Product)
+abbrev pub plan_item_at : Bool → Place → Option Keyword → ℕ → InitDeclarator → CheckPlan (List Product)
 plan_item_at true p k b i = does (λ s x. (s, [])) (typedef_at p false (is_some i.initialiser) (declared_name i.declarator) (plan_declarator p false b i.declarator))
 plan_item_at false p k b i = chain None (settles_name (declared_name i.declarator) (some_type (plan_declarator p false b i.declarator))) (plan_typed p k i)
 
-abbrev pub plan_items : Bool → Place → Option Keyword → ℕ → List Product → List BlockItem → CheckPlan (List Product)
+abbrev pub plan_items : Bool → Place → Option Keyword → ℕ → List Product → List InitDeclarator → CheckPlan (List Product)
 plan_items is_typedef q k b done [] = pure done
 plan_items is_typedef q k b done (i ∷ is) = chain done (produced done (plan_item_at is_typedef (declared_place i.declarator q) k b i)) (λ done. plan_items is_typedef q k b done is)
 

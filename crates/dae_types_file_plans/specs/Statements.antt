@@ -3,7 +3,7 @@ use Rattle.std.specs.Prelude.{ℕ, suc, List, [], ◌∷◌, ◌++◌, length, O
 use Rattle.dae_base.specs.declared.Place.{Place}
 use Rattle.dae_tree.specs.declared.expressions.Name.{Name}
 use Rattle.dae_tree.specs.Trees as tree
-use Rattle.dae_tree.specs.Trees.{Expression, Expressions, Specifiers, Declarator, Initialiser, BlockItem, Declaration, Statement, Statements}
+use Rattle.dae_tree.specs.Trees.{Expression, Expressions, Specifiers, Declarator, Initialiser, InitDeclarator, Declaration, Statement, Statements}
 use Rattle.dae_tree.specs.Depth.{place_of, place_of_specifiers, place_of_statement}
 use Rattle.dae_tree.specs.Names.{declared_name, has_typedef}
 use Rattle.dae_program.specs.declared.statements.FormatPiece.{FormatPiece}
@@ -145,15 +145,15 @@ plan_local p None (Some k) = begin_local p k
 plan_local p (Some x) None = does (λ s f. (s, program.Done)) (plan_unused_initialiser x.1)
 plan_local p (Some x) (Some k) = chain true (looks (λ s. is_scalar (shape_of s (type_of_local s k)))) (plan_given p k x.1)
 
-abbrev pub plan_item_at : Bool → Place → ℕ → BlockItem → CheckPlan program.Statements
+abbrev pub plan_item_at : Bool → Place → ℕ → InitDeclarator → CheckPlan program.Statements
 plan_item_at true p b i = does (λ s x. (s, program.Done)) (typedef_at p true (is_some i.initialiser) (declared_name i.declarator) (plan_declarator p false b i.declarator))
 plan_item_at false p b i = chain None (local_at p (is_some i.initialiser) (declared_name i.declarator) (plan_declarator p false b i.declarator)) (plan_local p i.initialiser)
 
-abbrev pub plan_items : Place → Bool → ℕ → program.Statements → List BlockItem → CheckPlan program.Statements
+abbrev pub plan_items : Place → Bool → ℕ → program.Statements → List InitDeclarator → CheckPlan program.Statements
 plan_items q is_typedef b done [] = pure done
 plan_items q is_typedef b done (i ∷ is) = chain done (appended done (plan_item_at is_typedef (declared_place i.declarator q) b i)) (λ done. plan_items q is_typedef b done is)
 
-abbrev pub is_alone : List BlockItem → Bool
+abbrev pub is_alone : List InitDeclarator → Bool
 is_alone [] = true
 is_alone _ = false
 

@@ -12,7 +12,7 @@ pub use tables::{
     Component, Context, Designation, Entity, EntityUse, Innermost, LibraryFunction, Local,
     NamedType, Routine, StaticObject, Storage, Tag, Tagged,
 };
-pub use types::{Layout, Shape, Structure};
+pub use types::{Layout, Shape, Structure, layout_with};
 pub use values::{Addressing, Category, Known, is_indirect};
 pub use words::{word_behind, word_for};
 

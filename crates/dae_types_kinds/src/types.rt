@@ -1,5 +1,8 @@
 // Types, as places in a list of shapes.
 
+ghost use Rattle.std.specs.Prelude.{◌≡◌};
+ghost use Rattle.dae_types_kinds.specs.Types.{layout};
+
 /// The shape of a type (C90 6.1.2.5). A number is the place of another type, or of a structure. The types of parameters are
 /// a list of shapes, each behind those before it. An array without a size has no count.
 #[derive(Clone, Copy)]
@@ -25,6 +28,13 @@ pub enum Shape {
 pub struct Layout {
     pub size: u32,
     pub align: u32,
+}
+
+/// The layout of so many bytes with this alignment.
+pub fn layout_with(size: u32, align: u32) -> Layout
+    ensures { result ≡ layout size align }
+{
+    Layout { size, align }
 }
 
 /// A structure: its tag, whether its members have begun, and its layout once it is complete (C90 6.5.2.1).

@@ -14,7 +14,7 @@ ghost use Rattle.dae_types_locals.specs.Plans.{plan_declared};
 use crate::locals::begin;
 use dae_base::Place;
 use dae_program::Statement;
-use dae_tree::{BlockItem, Declaration, Keyword, Seen, Specifier};
+use dae_tree::{Declaration, InitDeclarator, Keyword, Seen, Specifier};
 use dae_types_bodies::append;
 use dae_types_kinds::{CheckError, Context};
 use dae_types_linkage::{Introduction, declare_local, declare_type};
@@ -64,7 +64,7 @@ fn name_type(
     checker: &mut Checker,
     place: Place,
     base: usize,
-    item: &BlockItem,
+    item: &InitDeclarator,
 ) -> Result<Vec<Statement>, CheckError>
     ensures { GivesStatements checker.new result
         (plan_item_at true place base (view_item item.now)) checker.old }
@@ -84,7 +84,7 @@ fn declare(
     checker: &mut Checker,
     place: Place,
     base: usize,
-    item: &BlockItem,
+    item: &InitDeclarator,
 ) -> Result<Vec<Statement>, CheckError>
     ensures { GivesStatements checker.new result
         (plan_item_at false place base (view_item item.now)) checker.old }
@@ -105,7 +105,7 @@ fn declare_item(
     list: &[Specifier],
     place: Place,
     base: usize,
-    item: &BlockItem,
+    item: &InitDeclarator,
 ) -> Result<Vec<Statement>, CheckError>
     ensures { GivesStatements checker.new result
         (plan_item_at (has_typedef (views_specifiers list.now)) place base (view_item item.now))
@@ -125,7 +125,7 @@ fn declare_items(
     list: &[Specifier],
     base: usize,
     mut done: Vec<Statement>,
-    items: &[BlockItem],
+    items: &[InitDeclarator],
 ) -> Result<Vec<Statement>, CheckError>
     ensures { GivesStatements checker.new result
         (plan_items place (has_typedef (views_specifiers list.now)) base (as_statements done)
@@ -142,7 +142,7 @@ fn declare_items(
 /// Where the tag of a structure without members is looked for in a declaration of these names: in the innermost scope,
 /// if there is none.
 #[tactic(auto, using(crate::proofs::Lists::alone_where_empty))]
-pub fn tag_scope(items: &[BlockItem]) -> TagScope
+pub fn tag_scope(items: &[InitDeclarator]) -> TagScope
     ensures { is_innermost result ≡ is_alone (view_items items.now) }
 {
     if items.is_empty() {

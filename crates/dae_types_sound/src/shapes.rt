@@ -6,8 +6,7 @@ ghost use Rattle.dae_types_kinds.specs.Types.{finished, layout, placed, rounded}
 ghost use Rattle.dae_types_typed.specs.Sound.{has_complete_type, laid_out, members_of, tables_of};
 ghost use Rattle.dae_types_sound.specs.Shapes.{are_laid_out, are_sound_shapes, is_laid_out, is_sound_shape, same_layout, by_members};
 
-use crate::tables::layout;
-use dae_types_kinds::{Layout, Shape};
+use dae_types_kinds::{Layout, Shape, layout_with};
 use dae_types_typed::FileParts;
 
 fn is_sound_shape(parts: &FileParts, number: usize, shape: Shape) -> bool
@@ -57,20 +56,20 @@ fn placed(l: Layout, member: Layout) -> Layout
     ensures { result ≡ placed l member }
 {
     let size = rounded(l.size, member.align).saturating_add(member.size);
-    layout(size, l.align.max(member.align))
+    layout_with(size, l.align.max(member.align))
 }
 
 fn finished(l: Layout) -> Layout
     ensures { result ≡ finished l }
 {
-    layout(rounded(l.size, l.align), l.align)
+    layout_with(rounded(l.size, l.align), l.align)
 }
 
 /// The layout that the members of a structure say. It looks at all members of the file.
 fn laid_out(parts: &FileParts, structure: usize) -> Layout
     ensures { result ≡ by_members (tables_of parts.now) structure }
 {
-    let mut l = layout(0, 1);
+    let mut l = layout_with(0, 1);
     for component in parts.components.as_slice() {
         if component.structure == structure {
             l = placed(l, parts.layout_at(component.type_id));

@@ -1,7 +1,6 @@
 // Look-ups in the tables of a file.
 
 ghost use Rattle.std.specs.Prelude.{◌≡◌, IfOk, [], length, slice_get};
-ghost use Rattle.dae_types_kinds.specs.Types.{layout};
 ghost use Rattle.dae_types_plans.specs.Steps.{parameter_types, parameters_from};
 ghost use Rattle.dae_types_kinds.specs.declared.tables.Entity.TheVariants as entities;
 ghost use Rattle.dae_types_typed.specs.Sound.{tables_of};
@@ -16,12 +15,6 @@ use dae_types_ready::Doubt;
 use dae_types_typed::FileParts;
 use indexmap::IndexSet;
 use std::alloc::Global;
-
-pub fn layout(size: u32, align: u32) -> Layout
-    ensures { result ≡ layout size align }
-{
-    Layout { size, align }
-}
 
 /// The list of the types of a function's parameters.
 fn parameter_list(parts: &FileParts, routine: usize) -> Shape

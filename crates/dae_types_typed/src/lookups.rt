@@ -6,20 +6,14 @@ ghost use Rattle.dae_types_typed.specs.Linkage.{is_function, is_object, type_in}
 ghost use Rattle.dae_types_typed.specs.Sound.{same_entity, tables_of};
 
 use crate::files::FileParts;
-use dae_types_kinds::{Entity, INT_ID, Layout, Shape, VOID_ID};
-
-fn layout(size: u32, align: u32) -> Layout
-    ensures { result ≡ layout size align }
-{
-    Layout { size, align }
-}
+use dae_types_kinds::{Entity, INT_ID, Layout, Shape, VOID_ID, layout_with};
 
 fn repeated(count: Option<u32>, element: Layout) -> Layout
     ensures { result ≡ repeated count element }
 {
     match count {
-        Some(count) => layout(element.size.saturating_mul(count), element.align),
-        None => layout(0, element.align),
+        Some(count) => layout_with(element.size.saturating_mul(count), element.align),
+        None => layout_with(0, element.align),
     }
 }
 
@@ -81,18 +75,18 @@ impl FileParts {
         ensures { result ≡ layout_within depth (tables_of self.now) type_id }
     {
         if depth == 0 {
-            return layout(0, 1);
+            return layout_with(0, 1);
         }
         match self.shape_of(type_id) {
-            Shape::Void => layout(0, 1),
-            Shape::Char | Shape::SignedChar | Shape::UnsignedChar => layout(1, 1),
-            Shape::Short | Shape::UnsignedShort => layout(2, 2),
+            Shape::Void => layout_with(0, 1),
+            Shape::Char | Shape::SignedChar | Shape::UnsignedChar => layout_with(1, 1),
+            Shape::Short | Shape::UnsignedShort => layout_with(2, 2),
             Shape::Array(element, count) => repeated(count, self.layout_within(depth - 1, element)),
             Shape::Struct(structure) => match self.layout_of(structure) {
                 Some(layout) => layout,
-                None => layout(0, 1),
+                None => layout_with(0, 1),
             },
-            _ => layout(4, 4),
+            _ => layout_with(4, 4),
         }
     }
 

@@ -7,7 +7,7 @@ ghost use Rattle.dae_unit.specs.declared.rows.FileRow.{FileRow};
 ghost use Rattle.dae_unit.specs.Placing.{gives_room, is_first, placed_rows, layout_of_row, object_layouts, literal_layout, literal_layouts, all_literals, rooms_of, rounded_up, place_behind, places_from, end_from, first_place};
 
 use dae_base::Items;
-use dae_types_kinds::Layout;
+use dae_types_kinds::{Layout, layout_with};
 use dae_types_typed::{TypedFile, is_object};
 use dae_unit::{FileRow, Identity, add_identity, refers};
 use indexmap::IndexSet;
@@ -80,12 +80,6 @@ pub fn placed_rows(
     Ok(placed)
 }
 
-fn layout(size: u32, align: u32) -> Layout
-    ensures { result ≡ record { size = size; align = align } }
-{
-    Layout { size, align }
-}
-
 #[tactic(auto, unfolding(dae_unit::specs::Placing::layout_of_row))]
 fn layout_of_row(files: &[TypedFile], row: FileRow) -> Layout
     ensures { result ≡ layout_of_row files.now row }
@@ -95,7 +89,7 @@ fn layout_of_row(files: &[TypedFile], row: FileRow) -> Layout
             let parts = file.parts();
             parts.layout_at(parts.type_in(row.declaration.entity))
         }
-        None => layout(0, 1),
+        None => layout_with(0, 1),
     }
 }
 
@@ -119,8 +113,8 @@ fn literal_layout(bytes: &[u8]) -> Layout
 {
     let size = bytes.len().saturating_add(1);
     match u32::try_from(size) {
-        Ok(size) => layout(size, 1),
-        Err(_) => layout(u32::MAX, 1),
+        Ok(size) => layout_with(size, 1),
+        Err(_) => layout_with(u32::MAX, 1),
     }
 }
 

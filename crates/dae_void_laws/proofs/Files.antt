@@ -8,7 +8,7 @@ use Rattle.dae_base.proofs.Laws.{all_join}
 use Rattle.dae_tree.specs.declared.words.Keyword.{Keyword}
 use Rattle.dae_tree.specs.declared.expressions.Name.{Name}
 use Rattle.dae_tree.specs.Trees as tree
-use Rattle.dae_tree.specs.Trees.{Specifiers, Declarator, Parameters, Initialiser, BlockItem, Declaration, Statements, External}
+use Rattle.dae_tree.specs.Trees.{Specifiers, Declarator, Parameters, Initialiser, InitDeclarator, Declaration, Statements, External}
 use Rattle.dae_tree.specs.Depth.{place_of_specifiers}
 use Rattle.dae_tree.specs.Names.{declared_name, has_typedef, function_part}
 use Rattle.dae_program.specs.Trees as program
@@ -133,22 +133,22 @@ data_leads p (Some x) (Some o) =
     leads_chain {Between = Anything} (leads_looks (λ s. type_of_object s o) (λ s k b. tt))
     (λ t. leads_maps (content_leads p 0 t x.1) (λ s y k l. come_wider (object_type_wider o y.type_id s (slice_get s.objects o)) k (tt, tt)))
 
-either_leads : (p : Place) (w : Option Keyword) (i : BlockItem) (t : ℕ) (b : Bool) → Leads Any Good (plan_either p w i t b)
+either_leads : (p : Place) (w : Option Keyword) (i : InitDeclarator) (t : ℕ) (b : Bool) → Leads Any Good (plan_either p w i t b)
 either_leads p w i t true = leads_reads (function_at_leads p (is_static w) (is_some i.initialiser) (declared_name i.declarator) t) (λ s f k l. function_good p Reference f)
 either_leads p w i t false =
     leads_chain {Between = Anything} (object_at_leads p w (is_some i.initialiser) (declared_name i.declarator) t)
     (λ o. produced_leads (declares_object p (role_of (is_some i.initialiser) (not (is_extern w))) o) (object_good p (role_of (is_some i.initialiser) (not (is_extern w))) o) (data_leads p i.initialiser o))
 
-typed_leads : (p : Place) (w : Option Keyword) (i : BlockItem) (t : Option ℕ) → Leads Any Good (plan_typed p w i t)
+typed_leads : (p : Place) (w : Option Keyword) (i : InitDeclarator) (t : Option ℕ) → Leads Any Good (plan_typed p w i t)
 typed_leads p w i None = data_leads p i.initialiser None
 typed_leads p w i (Some t) = leads_chain {Between = Anything} (leads_looks (λ s. is_function (shape_of s t)) (λ s k b. tt)) (λ b. either_leads p w i t b)
 
-item_leads : (is_typedef : Bool) (p : Place) (w : Option Keyword) (b : ℕ) (i : BlockItem) → Leads (λ xs. There xs b) Good (plan_item_at is_typedef p w b i)
+item_leads : (is_typedef : Bool) (p : Place) (w : Option Keyword) (b : ℕ) (i : InitDeclarator) → Leads (λ xs. There xs b) Good (plan_item_at is_typedef p w b i)
 item_leads true p w b i = leads_reads (typedef_leads p false (is_some i.initialiser) (declared_name i.declarator) (declarator_leads p false b i.declarator)) (λ s x k l. tt)
 item_leads false p w b i =
     leads_chain {Between = Anything} (leads_named (declared_name i.declarator) (leads_reads (declarator_leads p false b i.declarator) (λ s x k l. tt))) (λ t. typed_leads p w i t)
 
-items_lead : (is_typedef : Bool) (q : Place) (w : Option Keyword) (b : ℕ) (done : List Product) (items : List BlockItem) → AllByRecursion BodyTestsValues done → Leads (λ xs. There xs b) Good (plan_items is_typedef q w b done items)
+items_lead : (is_typedef : Bool) (q : Place) (w : Option Keyword) (b : ℕ) (done : List Product) (items : List InitDeclarator) → AllByRecursion BodyTestsValues done → Leads (λ xs. There xs b) Good (plan_items is_typedef q w b done items)
 items_lead is_typedef q w b done [] d = leads_pure done (λ xs l h. d)
 items_lead is_typedef q w b done (i ∷ items) d =
     leads_chain {Between = λ xs more. There xs b × Good xs more} (leads_carry (λ xs ys. there_lasts xs ys b) (produced_leads done d (item_leads is_typedef (declared_place i.declarator q) w b i)))

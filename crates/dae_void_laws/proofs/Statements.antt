@@ -4,7 +4,7 @@ use Rattle.std.specs.Prelude.{slice_get, is_some}
 use Rattle.dae_base.specs.declared.Place.{Place}
 use Rattle.dae_tree.specs.declared.expressions.Name.{Name}
 use Rattle.dae_tree.specs.Trees as tree
-use Rattle.dae_tree.specs.Trees.{Expression, Expressions, Initialiser, Initialisers, BlockItem, Declaration, Statement, Statements}
+use Rattle.dae_tree.specs.Trees.{Expression, Expressions, Initialiser, Initialisers, InitDeclarator, Declaration, Statement, Statements}
 use Rattle.dae_tree.specs.Depth.{place_of, place_of_specifiers}
 use Rattle.dae_tree.specs.Names.{declared_name, has_typedef}
 use Rattle.dae_program.specs.Expressions.{bit}
@@ -222,12 +222,12 @@ typedef_leads p block given name h = leads_named name (leads_node h (λ s x k l 
 local_at_leads : {Before : List Shape → Type 0} {m : CheckPlan NamedType} (p : Place) (given : Bool) (name : Option Name) → Leads Before NamedThere m → Leads Before Anything (local_at p given name m)
 local_at_leads p given name h = leads_named name (leads_node h (λ s x k l u. come_wider (local_wider name x.type_id s) k tt))
 
-item_at_leads : (is_typedef : Bool) (p : Place) (b : ℕ) (i : BlockItem) → Leads (λ xs. There xs b) Free (plan_item_at is_typedef p b i)
+item_at_leads : (is_typedef : Bool) (p : Place) (b : ℕ) (i : InitDeclarator) → Leads (λ xs. There xs b) Free (plan_item_at is_typedef p b i)
 item_at_leads true p b i = leads_reads (typedef_leads p true (is_some i.initialiser) (declared_name i.declarator) (declarator_leads p false b i.declarator)) (λ s x k l. omega arith)
 item_at_leads false p b i =
     leads_chain {Between = Anything} (local_at_leads p (is_some i.initialiser) (declared_name i.declarator) (declarator_leads p false b i.declarator)) (λ k. local_leads p i.initialiser k)
 
-items_lead : (q : Place) (is_typedef : Bool) (b : ℕ) (done : program.Statements) (items : List BlockItem) → void_statements done ≤ 0 → Leads (λ xs. There xs b) Free (plan_items q is_typedef b done items)
+items_lead : (q : Place) (is_typedef : Bool) (b : ℕ) (done : program.Statements) (items : List InitDeclarator) → void_statements done ≤ 0 → Leads (λ xs. There xs b) Free (plan_items q is_typedef b done items)
 items_lead q is_typedef b done [] d = leads_pure done (λ xs l h. d)
 items_lead q is_typedef b done (i ∷ items) d =
     leads_chain {Between = λ xs more. There xs b × Free xs more} (leads_carry (λ xs ys. there_lasts xs ys b) (appended_leads done d (item_at_leads is_typedef (declared_place i.declarator q) b i)))

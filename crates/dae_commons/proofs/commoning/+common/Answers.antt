@@ -12,8 +12,8 @@ use Rattle.dae_commons.proofs.commoning.+common.Goals as goal
 
 pub common_list-loop-statement-init : goal.common_list-loop-statement-init
 common_list-loop-statement-init t c =
-    commoned_start (classes_in c.args.row.now) c.args.statements.now c.args.known.now (Some c.from_vec.result) c.in_ok-out.out.items
-    (ap (λ (q : List Equation). Some q) (c.from_vec.ensures ∙ c.in_ok-start.ensures.items)) c.in_ok-out.ensures.items
+    commoned_start (classes_in c.args.row.now) c.args.statements.now c.args.known.now (Some c.in_ok-start.start) c.in_ok-out.out.items
+    (ap (λ (q : List Equation). Some q) c.in_ok-start.ensures) c.in_ok-out.ensures.items
 
 pub common_list-loop-statement-preserved : goal.common_list-loop-statement-preserved
 common_list-loop-statement-preserved t c =
@@ -49,8 +49,8 @@ common_statement-returns-in_ok-behind-in-If t c =
     let test = c.propagate_test-test.result in
     let all = c.equations_in-equations.ensures in
     let is : test ≡ propagated_test s (equations_in old) w.test = c.propagate_test-test.ensures ∙ ap (λ (q : List Equation). propagated_test s q w.test) (c.as_slice.ensures ∙ all) in
-    let first : IsCommonedList s w.yes.items (equations_in old) p.statements.items p.known = listed s _ _ _ _ _ _ _ c.in_ok-first-in-If.ensures c.deref.ensures.value c.as_slice-in-If.ensures all in
-    let second : IsCommonedList s w.no.items (equations_in old) q.statements.items q.known = listed s _ _ _ _ _ _ _ c.in_ok-second-in-If.ensures c.deref-in-If.ensures.value c.as_slice-in-If-2.ensures all in
+    let first : IsCommonedList s w.yes.items (equations_in old) p.statements.items p.known = listed s _ _ _ _ _ _ _ c.in_ok-first-in-If.ensures c.deref.ensures.value refl all in
+    let second : IsCommonedList s w.no.items (equations_in old) q.statements.items q.known = listed s _ _ _ _ _ _ _ c.in_ok-second-in-If.ensures c.deref-in-If.ensures.value refl all in
     subst (λ (x : Statement). IsCommonedTo s x old new (statement.If w.place test p.statements q.statements)) (sym w.is)
     (if_commoned s w.place w.yes w.no p.statements q.statements old p.known q.known new w.test test is first second c.in_ok-behind-in-If.ensures)
 
@@ -64,7 +64,7 @@ common_statement-returns-in_ok-second-in-Loop t c =
     let q = c.in_ok-second-in-Loop.second in
     let r : List Equation = c.in_ok-inside-in-Loop.inside in
     let is : r ≡ known_in_loop (equations_in old) (form_of w.body.items) (form_of w.step.items) = in_loop _ (equations_in old) _ w.body.items _ w.step.items r c.in_ok-inside-in-Loop.ensures c.equations_in-equations.ensures c.deref-in-Loop.ensures.value c.deref-in-Loop-2.ensures.value in
-    let first : IsCommonedList s w.body.items r p.statements.items p.known = listed s _ _ _ _ _ _ _ c.in_ok-first-in-Loop.ensures c.deref-in-Loop-3.ensures.value c.as_slice-in-Loop.ensures refl in
-    let second : IsCommonedList s w.step.items r q.statements.items q.known = listed s _ _ _ _ _ _ _ c.in_ok-second-in-Loop.ensures c.deref-in-Loop-4.ensures.value c.as_slice-in-Loop-2.ensures refl in
+    let first : IsCommonedList s w.body.items r p.statements.items p.known = listed s _ _ _ _ _ _ _ c.in_ok-first-in-Loop.ensures c.deref-in-Loop-3.ensures.value refl refl in
+    let second : IsCommonedList s w.step.items r q.statements.items q.known = listed s _ _ _ _ _ _ _ c.in_ok-second-in-Loop.ensures c.deref-in-Loop-4.ensures.value refl refl in
     subst (λ (x : Statement). IsCommonedTo s x old (Some r) (statement.Loop w.place p.statements q.statements)) (sym w.is)
     (loop_commoned s w.place w.body w.step p.statements q.statements old p.known q.known (Some r) r is first second refl)

@@ -1,5 +1,5 @@
 use Rattle.std.proofs.Common.{◌≡◌, List, ◌∷◌, refl, subst}
-use Rattle.dae_tree.specs.Trees.{Expression, Specifiers, Declarator, BlockItem}
+use Rattle.dae_tree.specs.Trees.{Expression, Specifiers, Declarator, InitDeclarator}
 use Rattle.dae_parse_grammar.specs.Frames as plain
 use Rattle.dae_parse_nodes.specs.Parts.{ShowsOperand, ShowsSpecified, ShowsDeclared, ShowsItems}
 use Rattle.dae_parse_states.specs.declared.frames.Doing.{Doing}
@@ -14,7 +14,7 @@ returns-in-GaveDeclarator c = λ d s shows.
 
 pub returns-in-AfterItem : goal.returns-in-AfterItem
 returns-in-AfterItem c = λ d s shows.
-    let i = does_after_item c.in-AfterItem.specified c.in-AfterItem.items (λ (u : plain.Doing). (ws : Specifiers) × (a : BlockItem) × (is : List BlockItem) × (u ≡ plain.itemed ws a is) × ShowsSpecified c.in-AfterItem.specified ws × ShowsItems c.in-AfterItem.items (a ∷ is)) d (subst (λ (g : Doing). ShowsDoing g d) c.in-AfterItem.is shows) (λ ws a is x0 x1. (ws, a, is, refl, x0, x1)) in
+    let i = does_after_item c.in-AfterItem.specified c.in-AfterItem.items (λ (u : plain.Doing). (ws : Specifiers) × (a : InitDeclarator) × (is : List InitDeclarator) × (u ≡ plain.itemed ws a is) × ShowsSpecified c.in-AfterItem.specified ws × ShowsItems c.in-AfterItem.items (a ∷ is)) d (subst (λ (g : Doing). ShowsDoing g d) c.in-AfterItem.is shows) (λ ws a is x0 x1. (ws, a, is, refl, x0, x1)) in
     rw i.3 (λ stands holds bottom count. c.read_behind_item.ensures i.0 i.1 i.2 i.4 i.5 s stands)
 
 pub returns-in-Operated : goal.returns-in-Operated

@@ -10,7 +10,7 @@ use Rattle.dae_parse_nodes.proofs.declarations.with_plain_item.Goals.{in-Some, i
 
 pub returns : goal.returns
 returns c = λ items d h k.
-    let target : tree.BlockItem = record { declarator = d; initialiser = None } in
+    let target : tree.InitDeclarator = record { declarator = d; initialiser = None } in
     shows_longer view_item firsts_item c.args.before (record { tree = c.match-tree.tree; depths = c.args.declared.read.depths }) items target c.longer.result h
     (elim c.match-tree.branch [
       | in-Some w ↦ shows_made _ _ view_item firsts_item c.args.declared.read c.match-tree.tree d target _ _ (shows_alone _ _ _ _ k.read) refl w.in-Some.is w.tree-is (λ e. ap plain_item e)

@@ -11,7 +11,7 @@ use Rattle.dae_parse_nodes.proofs.declarations.with_valued_item.Goals.{in-Some, 
 
 pub returns : goal.returns
 returns c = λ items d x h k l.
-    let target : tree.BlockItem = record { declarator = d; initialiser = Some (c.args.place, x) } in
+    let target : tree.InitDeclarator = record { declarator = d; initialiser = Some (c.args.place, x) } in
     let pair = shows_pair _ _ _ _ c.args.declared.read c.args.value c.in_ok-tree.field-0 d x k.read l c.in_ok-tree.ensures in
     shows_longer view_item firsts_item c.args.before (record { tree = c.match-tree.tree; depths = c.in_ok-tree.field-0.depths }) items target c.longer.result h
     (elim c.match-tree.branch [

@@ -1,4 +1,3 @@
-use Rattle.std.proofs.Common.{◌∙◌, subst}
 use Rattle.dae_select_live.proofs.Rising.{searched}
 use Rattle.dae_select_live.proofs.set.LiveSet.search.Goals as goal
 
