@@ -1,5 +1,5 @@
 -- Laws for the crates above: of statements and steps that hold others, of what is set first, and of what forms do.
-pub use Rattle.dae_ir.proofs.Rows.{before_if, before_loop, each_before, onto_if, onto_loop}
+pub use Rattle.dae_ir.proofs.Rows.{before_if, before_loop, items_of_if, items_of_loop, each_before, onto_if, onto_loop}
 pub use Rattle.dae_ir.proofs.Walks.{rest, rest_one, rest_end, all_before, before_end, form_before, onto_push, read_end, take_one}
 pub use Rattle.dae_ir.proofs.More.{meet, and_more, set_more, has_more, test_more, value_more, check_more, operands_more, assured_more, first_more}
 pub use Rattle.dae_ir.proofs.Replaced.{KeepsArguments, same_room}

@@ -1,11 +1,12 @@
 -- Statements and steps that hold others in a vector.
-use Rattle.std.proofs.Common.{◌≡◌, ◌↔◌, List, refl, ap, ◌∙◌}
+use Rattle.std.proofs.Common.{◌≡◌, ◌↔◌, Bool, ◌&&◌, List, refl, ap, ◌∙◌}
 use Rattle.std.specs.Prelude.{Vec}
 use Rattle.std.specs.declared.alloc.Global.{Global}
 use mathlib.Core.Former.{Count}
 use Rattle.dae_base.specs.declared.Place.{Place}
+use Rattle.dae_base.proofs.Laws.{and_along}
 use Rattle.dae_ir.specs.Code.{Each, Done, If, Loop}
-use Rattle.dae_ir.specs.Form.{Form, before, row, form_of}
+use Rattle.dae_ir.specs.Form.{Form, before, row, form_of, all_items}
 use Rattle.dae_ir.specs.Streams.{Actions, onto, step_onto, steps_row}
 use Rattle.dae_ir.specs.declared.form.Test.{Test}
 use Rattle.dae_ir.specs.declared.form.Item.{Item}
@@ -59,6 +60,19 @@ before_loop m p q k =
     let y = second (statement.Loop m p q) in
     ap (λ (u : Form). Loop m u (row y.1 Done) k) (rows x.0 x.1 ∙ ap form_of (items_hidden-the_row-Statement-0 p))
     ∙ ap (λ (u : Form). Loop m (form_of p.items) u k) (rows y.0 y.1 ∙ ap form_of (items_hidden-the_row-Statement-0 q))
+
+-- each item of a statement passes a test, and each of what is behind it
+pub items_of_if : (f : Item → Bool) (m : Place) (t : Test) (p q : Vec Statement Global) (s : Statement) (k : Form) → s ≡ statement.If m t p q
+    → all_items f (before s k) ≡ ((all_items f (form_of p.items) && all_items f (form_of q.items)) && all_items f k)
+items_of_if f m t p q s k e =
+    ap (λ (x : Statement). all_items f (before x k)) e ∙ ap (λ (x : Form). all_items f x) (before_if m t p q k)
+    ∙ and_along (all_items f (form_of p.items)) (all_items f (form_of q.items)) (all_items f k)
+
+pub items_of_loop : (f : Item → Bool) (m : Place) (p q : Vec Statement Global) (s : Statement) (k : Form) → s ≡ statement.Loop m p q
+    → all_items f (before s k) ≡ ((all_items f (form_of p.items) && all_items f (form_of q.items)) && all_items f k)
+items_of_loop f m p q s k e =
+    ap (λ (x : Statement). all_items f (before x k)) e ∙ ap (λ (x : Form). all_items f x) (before_loop m p q k)
+    ∙ and_along (all_items f (form_of p.items)) (all_items f (form_of q.items)) (all_items f k)
 
 -- each item and test of a statement, and of what is behind it
 pub each_before : (I : Item → Type 0) (J : Test → Type 0) (s : Statement) (k : Form) → Each I J (before s k) ↔ (Each I J (before s Done) × Each I J k)

@@ -7,7 +7,7 @@ use Rattle.dae_base.specs.declared.Width.TheVariants.{B1}
 use Rattle.dae_meaning.specs.Worlds.{World, ticked, fetched, back}
 use Rattle.dae_meaning.specs.Variables.{Env, put, entered}
 use Rattle.dae_meaning.specs.Results.{Result, At, Over, Next, Leaves, Skips, Returns, Halted, Astray, Run, within, checked}
-use Rattle.dae_ir.specs.Code.{Code, Done, Do, If, Loop, CodeMeaning, exec}
+use Rattle.dae_ir.specs.Code.{Code, Done, Do, If, Loop, CodeMeaning, exec, every}
 use Rattle.dae_meaning.specs.Operations.{combined, compared, spelled, misplaced, passed}
 use Rattle.dae_ir.specs.declared.form.Operand.{Operand}
 use Rattle.dae_ir.specs.declared.form.Operand.TheVariants.{Variable, Number}
@@ -39,6 +39,10 @@ abbrev mutual
 abbrev pub form_of : List Statement → Form
 form_of [] = Done
 form_of (s ∷ ss) = before s (form_of ss)
+
+-- each item passes the test
+abbrev pub all_items : (Item → Bool) → Form → Bool
+all_items f code = every f (λ t. true) code
 
 -- a program: each function's code and the size of its frame, and the most calls inside one another
 pub record Program : Type 0 where
