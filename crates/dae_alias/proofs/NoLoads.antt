@@ -1,36 +1,12 @@
 -- Code without loads repeats none.
-use Rattle.std.proofs.Common.{◌≡◌, ℕ, ◌+◌, true, false, ◌&&◌, [], List, refl, ap, ◌∙◌}
+use Rattle.std.proofs.Common.{◌≡◌, ℕ, ◌+◌, true, false, ◌&&◌, [], List, refl}
 use Rattle.std.proofs.lemmas.Bool.{and_parts}
-use Rattle.std.specs.Prelude.{Vec}
-use Rattle.std.specs.declared.alloc.Global.{Global}
-use Rattle.dae_base.specs.declared.Place.{Place}
-use Rattle.dae_base.proofs.Laws.{and_along}
 use Rattle.dae_ir.specs.Code.{Done, Do, If, Loop}
-use Rattle.dae_ir.specs.Form.{Form, before, form_of}
+use Rattle.dae_ir.specs.Form.{Form}
 use Rattle.dae_ir.specs.declared.form.Item.TheVariants.{Assign, Load, Store, Print, Expect, Break, Continue, Call, Return, Halt}
-use Rattle.dae_ir.specs.declared.form.Statement.{Statement}
-use Rattle.dae_ir.specs.declared.form.Statement.TheVariants as statement
-use Rattle.dae_ir.specs.declared.form.Test.{Test}
-use Rattle.dae_ir.proofs.Laws.{before_if, before_loop}
 use Rattle.dae_alias.specs.declared.held.Held.{Held}
 use Rattle.dae_alias.specs.Stretches.{KnownInStretch, nothing, symbol, after}
 use Rattle.dae_alias.specs.Reuse.{still_held, loads_in, has_no_load, is_repeated}
-
--- ---- statements that hold others
-
-pub no_load_in_if : (m : Place) (t : Test) (p q : Vec Statement Global) (s : Statement) (k : Form) → s ≡ statement.If m t p q
-    → has_no_load (before s k) ≡ ((has_no_load (form_of p.items) && has_no_load (form_of q.items)) && has_no_load k)
-no_load_in_if m t p q s k e =
-    ap (λ (x : Statement). has_no_load (before x k)) e ∙ ap has_no_load (before_if m t p q k)
-    ∙ and_along (has_no_load (form_of p.items)) (has_no_load (form_of q.items)) (has_no_load k)
-
-pub no_load_in_loop : (m : Place) (p q : Vec Statement Global) (s : Statement) (k : Form) → s ≡ statement.Loop m p q
-    → has_no_load (before s k) ≡ ((has_no_load (form_of p.items) && has_no_load (form_of q.items)) && has_no_load k)
-no_load_in_loop m p q s k e =
-    ap (λ (x : Statement). has_no_load (before x k)) e ∙ ap has_no_load (before_loop m p q k)
-    ∙ and_along (has_no_load (form_of p.items)) (has_no_load (form_of q.items)) (has_no_load k)
-
--- ---- nothing is repeated
 
 pub none_repeated : (i : ℕ) (code : Form) (s : KnownInStretch) (held : List Held) (l : ℕ) → has_no_load code ≡ true → is_repeated i s held l code ≡ false
 none_repeated i Done s held l h = refl

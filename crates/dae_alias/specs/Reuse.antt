@@ -5,8 +5,8 @@ use Rattle.dae_base.specs.Words.{width_of}
 use Rattle.dae_base.specs.declared.LoadKind.{LoadKind}
 use Rattle.dae_base.specs.declared.Place.{Place}
 use Rattle.dae_base.specs.declared.Width.{Width}
-use Rattle.dae_ir.specs.Code.{Done, Do, If, Loop, every}
-use Rattle.dae_ir.specs.Form.{Form}
+use Rattle.dae_ir.specs.Code.{Done, Do, If, Loop}
+use Rattle.dae_ir.specs.Form.{Form, all_items}
 use Rattle.dae_ir.specs.Sizes.{tally}
 use Rattle.dae_ir.specs.declared.form.Operand.{Operand}
 use Rattle.dae_ir.specs.declared.form.Operand.TheVariants as operand
@@ -46,7 +46,7 @@ abbrev pub loads_in : Form → ℕ
 loads_in code = tally (λ item. bit (is_load item)) (λ t. 0) code
 
 abbrev pub has_no_load : Form → Bool
-has_no_load code = every (λ item. not (is_load item)) (λ t. true) code
+has_no_load code = all_items (λ item. not (is_load item)) code
 
 abbrev pub copy : ℕ → ℕ → Item
 copy v u = Assign v (val.Same (operand.Variable u))

@@ -4,6 +4,7 @@
 // computed again from the sum that it holds, so that an access behind it can add the number of the sum.
 #![tactic(auto)]
 
+pub use self_sets::form_has_no_self_set;
 pub use theorems::{commoning_keeps_counts, forms_are_commoned};
 pub use whole::eliminate_commons;
 
@@ -13,6 +14,7 @@ mod equations;
 mod highest;
 mod known;
 mod needs;
+mod self_sets;
 mod setting;
 mod sums;
 mod theorems;

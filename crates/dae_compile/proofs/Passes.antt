@@ -291,8 +291,8 @@ behind_itself ir scoped =
     }
 
 pub summed_behind : FormsAreCommoned → (ir new : Ir) → IsScoped ir → HasSumsAtAccesses ir new → IsBehind ir new
-summed_behind law ir new scoped (inl again) = commoned_again law ir new scoped again
-summed_behind law ir new scoped (inr same) = subst (λ (z : Ir). IsBehind ir z) (sym same) (behind_itself ir scoped)
+summed_behind law ir new scoped (inl again) = commoned_again law ir new scoped again.1
+summed_behind law ir new scoped (inr same) = subst (λ (z : Ir). IsBehind ir z) (sym same.1) (behind_itself ir scoped)
 
 -- ---- with conditions threaded
 

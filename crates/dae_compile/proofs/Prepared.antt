@@ -283,8 +283,8 @@ threaded_prepared sizes (f ∷ fs) (g ∷ gs) (h ∷ hs) made is =
 -- ---- with sums computed where accesses add them up
 
 summed_prepared : CommoningKeepsCounts → (fs : List Function) (bare near : Ir) → ArePrepared fs bare.functions → HasSumsAtAccesses bare near → ArePrepared fs near.functions
-summed_prepared commons fs bare near made (inl again) = commoned_prepared commons again.tables fs bare.functions near.functions made again.commoning.functions
-summed_prepared commons fs bare near made (inr same) = subst (λ (z : Ir). ArePrepared fs z.functions) (sym same) made
+summed_prepared commons fs bare near made (inl again) = commoned_prepared commons again.1.tables fs bare.functions near.functions made again.1.commoning.functions
+summed_prepared commons fs bare near made (inr same) = subst (λ (z : Ir). ArePrepared fs z.functions) (sym same.1) made
 
 -- ---- all passes before loads are reused
 

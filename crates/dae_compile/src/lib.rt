@@ -12,6 +12,5 @@ pub use programs::compile_program;
 
 mod compiling;
 mod generating;
-mod occasions;
 mod passing;
 mod programs;

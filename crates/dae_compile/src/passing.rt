@@ -7,10 +7,9 @@ ghost use Rattle.dae_elide.specs.Forms.{IsElisionOf};
 ghost use Rattle.dae_ir.specs.Scope.{IsScoped};
 ghost use Rattle.dae_compile.specs.Passes.{HasSumsAtAccesses, IsCommonedAgain, IsWithoutCommons};
 
-use crate::occasions::{Occasion, gives_occasion};
 use dae_alias::{ReuseError, reuse};
-use dae_commons::eliminate_commons;
-use dae_elide::elide_checks;
+use dae_commons::{eliminate_commons, form_has_no_self_set};
+use dae_elide::{elide_checks, form_checks_no_place};
 use dae_hoist::hoist_invariants;
 use dae_ir::Ir;
 use dae_slice::classes;
@@ -34,12 +33,11 @@ pub fn without_known_checks(alloc: Global, ir: Ir) -> Result<Ir, AllocError>
     requires { IsScoped ir }
     ensures { IfOk result (IsElisionOf ir) }
 {
-    if gives_occasion(Occasion::PlaceCheck, &ir) {
-        let tables = classes(alloc, &ir)?;
-        elide_checks(alloc, ir, tables.as_slice())
-    } else {
-        elide_checks(alloc, ir, &[])
+    if form_checks_no_place(&ir) {
+        return elide_checks(alloc, ir, &[]);
     }
+    let tables = classes(alloc, &ir)?;
+    elide_checks(alloc, ir, tables.as_slice())
 }
 
 /// The form without its common subexpressions once more, by its least classes. An error is want of memory.
@@ -58,11 +56,10 @@ pub fn with_sums_at_accesses(alloc: Global, ir: Ir) -> Result<Ir, AllocError>
     requires { IsScoped ir }
     ensures { IfOk result (HasSumsAtAccesses ir) }
 {
-    if gives_occasion(Occasion::SelfSet, &ir) {
-        common_again(alloc, ir)
-    } else {
-        Ok(ir)
+    if form_has_no_self_set(&ir) {
+        return Ok(ir);
     }
+    common_again(alloc, ir)
 }
 
 /// The form with its loads reused, where words number its variables and one more for each load. An error is want of memory.

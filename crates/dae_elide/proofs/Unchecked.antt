@@ -1,42 +1,18 @@
 -- Code without checks of places stays as it is.
 use Rattle.std.proofs.Common.{◌≡◌, ℕ, true, false, not, ◌&&◌, refl, ap, sym, ◌∙◌}
 use Rattle.std.proofs.lemmas.Bool.{and_parts}
-use Rattle.std.specs.Prelude.{Vec}
-use Rattle.std.specs.declared.alloc.Global.{Global}
-use Rattle.dae_base.specs.declared.Place.{Place as Position}
-use Rattle.dae_base.proofs.Laws.{and_along}
 use Rattle.dae_ir.specs.Code.{Done, Do, If, Loop}
 use Rattle.dae_ir.specs.Classes.{VariableSet}
-use Rattle.dae_ir.specs.Form.{Form, before, form_of}
+use Rattle.dae_ir.specs.Form.{Form, form_of}
 use Rattle.dae_ir.specs.declared.form.Check.TheVariants.{Place, InBounds, Zero, Room, Frame, Abort}
 use Rattle.dae_ir.specs.declared.form.Function.{Function}
 use Rattle.dae_ir.specs.declared.form.Item.{Item}
 use Rattle.dae_ir.specs.declared.form.Item.TheVariants.{Assign, Load, Store, Print, Expect, Break, Continue, Call, Return, Halt}
-use Rattle.dae_ir.specs.declared.form.Statement.{Statement}
-use Rattle.dae_ir.specs.declared.form.Statement.TheVariants as statement
-use Rattle.dae_ir.specs.declared.form.Test.{Test}
 use Rattle.dae_ir.specs.declared.stream.Branch.TheVariants.{Silent}
-use Rattle.dae_ir.proofs.Laws.{before_if, before_loop}
 use Rattle.dae_select_walks.specs.Facts.{Facts, unknown, facts_behind, facts_in_first, facts_in_second, facts_past_if, facts_at_turn, facts_at_step, facts_past_loop}
 use Rattle.dae_elide.specs.Checking.{checks_place, checks_no_place}
 use Rattle.dae_elide.specs.Elided.{as_action, as_actions, elided_item, elided}
 use Rattle.dae_elide.specs.Forms.{IsElidedFunction}
-
--- ---- statements that hold others
-
-pub none_in_if : (m : Position) (t : Test) (p q : Vec Statement Global) (s : Statement) (k : Form) → s ≡ statement.If m t p q
-    → checks_no_place (before s k) ≡ ((checks_no_place (form_of p.items) && checks_no_place (form_of q.items)) && checks_no_place k)
-none_in_if m t p q s k e =
-    ap (λ (x : Statement). checks_no_place (before x k)) e ∙ ap checks_no_place (before_if m t p q k)
-    ∙ and_along (checks_no_place (form_of p.items)) (checks_no_place (form_of q.items)) (checks_no_place k)
-
-pub none_in_loop : (m : Position) (p q : Vec Statement Global) (s : Statement) (k : Form) → s ≡ statement.Loop m p q
-    → checks_no_place (before s k) ≡ ((checks_no_place (form_of p.items) && checks_no_place (form_of q.items)) && checks_no_place k)
-none_in_loop m p q s k e =
-    ap (λ (x : Statement). checks_no_place (before x k)) e ∙ ap checks_no_place (before_loop m p q k)
-    ∙ and_along (checks_no_place (form_of p.items)) (checks_no_place (form_of q.items)) (checks_no_place k)
-
--- ---- nothing leaves
 
 module _ (memory : ℕ) (chosen : VariableSet) where
   item_same : (facts : Facts) (item : Item) → not (checks_place item) ≡ true → elided_item memory chosen facts item ≡ item

@@ -1,10 +1,15 @@
 // Whether statements hold a check of a place.
 
 ghost use Rattle.std.specs.Prelude.{◌≡◌, ◌&&◌};
+ghost use Rattle.std.specs.List.{list_all};
 ghost use Rattle.dae_ir.specs.Form.{Form, before, form_of};
-ghost use Rattle.dae_elide.specs.Checking.{checks_no_place, checks_place};
+ghost use Rattle.dae_elide.specs.Checking.{
+  checks_no_place,
+  checks_place,
+  function_checks_no_place,
+};
 
-use dae_ir::{Check, Item, Statement};
+use dae_ir::{Check, Ir, Item, Statement};
 
 fn checks_place(item: &Item) -> bool
     ensures { result ≡ checks_place item.now }
@@ -38,4 +43,14 @@ pub fn checks_no_place(statements: &[Statement]) -> bool
         }
     }
     true
+}
+
+/// Whether no function of the form checks a place.
+pub fn form_checks_no_place(ir: &Ir) -> bool
+    ensures { result ≡ list_all function_checks_no_place ir.now.functions }
+{
+    let functions = ir.functions.as_slice();
+    functions
+        .iter()
+        .all(|function| checks_no_place(function.body.as_slice()))
 }

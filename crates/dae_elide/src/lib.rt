@@ -3,6 +3,7 @@
 // message is heard in one instruction.
 #![tactic(auto)]
 
+pub use checking::form_checks_no_place;
 pub use theorems::{checks_are_elided, elision_keeps_sizes};
 pub use whole::elide_checks;
 
