@@ -11,6 +11,6 @@ invariant_of-result c =
     let old : List Equation = c.known.inside.equations.items in
     let less : List Equation = c.without_involved-equations.result.items in
     let is : c.push_equation.new.equations.items ≡ with_equation v x old =
-    c.in_ok-push_equation.ensures ∙ ap (λ (es : List Equation). take 16 (es ++ less)) c.equation_of.ensures
-    ∙ ap (λ (es : List Equation). take 16 (equation_of v x ++ es)) c.without_involved-equations.ensures in
+    c.in_ok-push_equation.ensures ∙ ap (λ (es : List Equation). take 32 (es ++ less)) c.equation_of.ensures
+    ∙ ap (λ (es : List Equation). take 32 (equation_of v x ++ es)) c.without_involved-equations.ensures in
     rw (c.highest_with.ensures, is) (with_above c.known.inside.highest v x old c.known.invariant)
