@@ -1,5 +1,5 @@
 -- Code that sets no variable to itself.
-use Rattle.std.specs.Prelude.{Bool, true, false, not}
+use Rattle.std.specs.Prelude.{Bool, false, not}
 use Rattle.dae_ir.specs.Form.{Form, all_items, form_of}
 use Rattle.dae_ir.specs.declared.form.Function.{Function}
 use Rattle.dae_ir.specs.declared.form.Item.{Item}
