@@ -1,8 +1,8 @@
 """shapes.py PROGRAM [TOKENS [ROUNDS [SHAPE..]]]
 
 Makes C sources of many shapes, each with about TOKENS tokens (60,000 if not told), and times PROGRAM, the built compiler, beside
-`gcc -O0 -c` on each, in one run on one machine. A line of the table has the processor time of each, the best of ROUNDS runs (3),
-and their ratio, where below 1 PROGRAM is the faster one. The status is 1 where a ratio is above 1 or a source isn't compiled.
+`gcc -O0 -c` on each, in one run on one machine. A line of the table has the processor time of each, the best of ROUNDS runs (3)
+by turns, and their ratio, where below 1 PROGRAM is the faster one. The status is 1 where a ratio is above 1 or a source isn't compiled.
 A SHAPE picks the shapes whose name has that text.
 """
 
@@ -180,18 +180,23 @@ SHAPES = {
 }
 
 
-def seconds(words, rounds):
-    """The processor seconds of the best of so many runs, or None where a run fails."""
-    best = float("inf")
-    for _ in range(rounds):
-        before = resource.getrusage(resource.RUSAGE_CHILDREN)
-        done = subprocess.run(words, stdout=subprocess.DEVNULL, stderr=subprocess.PIPE, check=False)
-        after = resource.getrusage(resource.RUSAGE_CHILDREN)
-        if done.returncode != 0:
-            print(done.stderr.decode(errors="replace").strip()[:200], file=sys.stderr)
-            return None
-        best = min(best, after.ru_utime + after.ru_stime - before.ru_utime - before.ru_stime)
-    return best
+def seconds(words):
+    """The processor seconds of a run, or None where it fails."""
+    before = resource.getrusage(resource.RUSAGE_CHILDREN)
+    done = subprocess.run(words, stdout=subprocess.DEVNULL, stderr=subprocess.PIPE, check=False)
+    after = resource.getrusage(resource.RUSAGE_CHILDREN)
+    if done.returncode != 0:
+        print(done.stderr.decode(errors="replace").strip()[:200], file=sys.stderr)
+        return None
+    return after.ru_utime + after.ru_stime - before.ru_utime - before.ru_stime
+
+
+def best_by_turns(commands, rounds):
+    """The least seconds of each of some commands, run by turns so many times, or None where a run fails."""
+    runs = [[seconds(words) for words in commands] for _ in range(rounds)]
+    if any(None in row for row in runs):
+        return None
+    return [min(column) for column in zip(*runs)]
 
 
 def main():
@@ -211,12 +216,13 @@ def main():
             made = make(tokens)
             with open(text, "w") as file:
                 file.write(made)
-            ours = seconds([program, "compile", f"--to={image}", text], rounds)
-            theirs = seconds(["gcc", "-O0", "-c", "-w", "-o", code, text], rounds)
-            if ours is None or theirs is None:
+            taken = best_by_turns([[program, "compile", f"--to={image}", text],
+                                   ["gcc", "-O0", "-c", "-w", "-o", code, text]], rounds)
+            if taken is None:
                 print(f"| {name} | {count(made)} | - | - | - |")
                 good = False
             else:
+                ours, theirs = taken
                 print(f"| {name} | {count(made)} | {ours:.2f} | {theirs:.2f} | {ours / theirs:.2f} |", flush=True)
                 good = good and ours <= theirs
     sys.exit(0 if good else 1)
